@@ -1,8 +1,7 @@
 #!/usr/bin/env python3
 """Compares etcs.h with the exports of crates/etcs_c/src: names, types in order; with the structs and the constants of
 crates/etcs_c/src; the names in the map of symbols, in Ada and in Python with the exports; and the tables of variables
-for C, Python and Ada, and the packets to begin with, with the specs; what numbers mean, for Python, with the sources of
-`explain`; and the versions of the doors with the program's.
+for C, Python and Ada, and the packets to begin with, with the specs; and the versions of the doors with the program's.
 
     doors/header.py            the status is 0 where they agree; nothing else compares them
     doors/header.py --write    writes the tables anew, and the version of etcs.h
@@ -17,18 +16,14 @@ sys.dont_write_bytecode = True
 sys.path.insert(0, os.path.join(TOP, "tools"))
 from format_tables import skeletons
 from schema import HEADERS, ROOM
-from sources import names as names_of, number_texts, units, variable
+from sources import variable
 
 VARS_H, VARS_PY, VARS_ADS = "doors/c/etcs_vars.h", "doors/python/src/etcs/_variables.py", "doors/ada/etcs-variables.ads"
-BLANKS_PY, MEANINGS_PY = "doors/python/src/etcs/_blanks.py", "doors/python/src/etcs/_meanings.py"
+BLANKS_PY = "doors/python/src/etcs/_blanks.py"
 HEADER_H = "doors/c/etcs.h"
-NAMED = [
-    ("PACKET_NAMES_TRAIN", "TO_TRAIN", "what the standard calls packets to the train"),
-    ("PACKET_NAMES_TRACK", "TO_TRACK", "what it calls those to the track"),
-    ("MESSAGE_NAMES", "MESSAGES", "what it calls messages"),
-]
 # Where else a version is said.
 VERSIONS = {
+    "crates/etcs_c/src/lib.rt": r'^const VERSION: &\[u8\] = b"(.*)\\0";$',
     "doors/python/pyproject.toml": r'^version = "(.*)"$',
     "doors/python/src/etcs/__init__.py": r'^__version__ = "(.*)"$',
 }
@@ -41,6 +36,8 @@ C_TYPES = {
     "u32": ["uint32_t"], "u64": ["uint64_t"], "usize": ["size_t"], "Global": [],
     "&[u8]": ["const uint8_t *", "size_t"], "&mut [u8]": ["uint8_t *", "size_t"],
     "&mut EtcsAnswer": ["etcs_answer *"], "&mut [EtcsField]": ["etcs_field *", "size_t"], "&[EtcsField]": ["const etcs_field *", "size_t"], "[u8; 32]": ["char", "[32]"],
+    "&[EtcsTelegram]": ["const etcs_telegram *", "size_t"], "&mut EtcsGroup": ["etcs_group *"],
+    "[u8; 104]": ["uint8_t", "[104]"], "[u8; 8]": ["uint8_t", "[8]"],
 }
 
 
@@ -149,36 +146,6 @@ def blanks_of(way):
     return "".join(f"        {json.loads(it)['nid']}: '{it}',\n" for it in lines)
 
 
-def meanings_py():
-    """_meanings.py."""
-    printed = {var: name for var, (name, _) in names().items()}
-    rows = "".join(f'    "{name}": "{unit}",\n' for name, unit in {printed[var]: unit for var, unit in units().items()}.items())
-    texts = "".join(f'    "{printed[var]}": {dict_of(found)},\n' for var, found in number_texts().items())
-    tables = "".join(f"#: {what}\n{name}: Dict[int, str] = {{\n{named(table)}}}\n\n" for name, table, what in NAMED)
-    return f"""# Written by doors/header.py from the sources of `explain`.
-from typing import Dict
-
-#: what a variable's number measures: a text is the unit itself
-UNITS: Dict[str, str] = {{
-{rows}}}
-
-#: the texts of numbers that have one
-TEXTS: Dict[str, Dict[int, str]] = {{
-{texts}}}
-
-{tables}""".rstrip("\n") + "\n"
-
-
-def dict_of(texts):
-    """A dictionary of texts by numbers, on a line."""
-    return "{" + ", ".join(f'{number}: "{text}"' for number, text in texts.items()) + "}"
-
-
-def named(table):
-    """The names of a table's numbers, a line each."""
-    return "".join(f'    {number}: "{name}",\n' for number, name in names_of(table).items())
-
-
 def vars_ads(table):
     """etcs-variables.ads."""
     rows = "".join(f"   {var} : constant Unsigned_32 := {number};\n" for var, number in table.items())
@@ -207,7 +174,9 @@ def main():
         found = re.findall(pattern, source(path), re.M)
         if sorted(found) != sorted(ours):
             wrong.append(f"{path} has {', '.join(sorted(found))}")
+    groups = source("crates/etcs_c/src/groups.rt")
     structs = [("etcs_answer", "EtcsAnswer", answer), ("etcs_field", "EtcsField", source("crates/etcs_c/src/fields.rt"))]
+    structs += [("etcs_telegram", "EtcsTelegram", groups), ("etcs_group", "EtcsGroup", groups)]
     count = 0
     for c_name, name, text in structs:
         body = re.search(r"pub struct %s \{(.*?)\n\}" % name, text, re.S).group(1)
@@ -225,7 +194,7 @@ def main():
     with open(os.path.join(TOP, HEADER_H), encoding="utf-8") as file:
         header_text = with_version(file.read(), version)
     table = dict(re.findall(r"^var_number Var\.(\w+) = (\d+)", source("crates/etcs_c/specs/Fields.antt"), re.M))
-    for path, text in ((VARS_H, vars_h(table)), (VARS_PY, vars_py(table)), (VARS_ADS, vars_ads(table)), (BLANKS_PY, blanks_py()), (MEANINGS_PY, meanings_py()), (HEADER_H, header_text)):
+    for path, text in ((VARS_H, vars_h(table)), (VARS_PY, vars_py(table)), (VARS_ADS, vars_ads(table)), (BLANKS_PY, blanks_py()), (HEADER_H, header_text)):
         if "--write" in sys.argv:
             with open(os.path.join(TOP, path), "w", encoding="utf-8") as file:
                 file.write(text)

@@ -22,6 +22,16 @@ package Etcs is
    Unknown_Kind : constant Status := 5;
    Bad_Json     : constant Status := 6;
    Bad_Fields   : constant Status := 7;
+   Empty_Line   : constant Status := 8;
+   No_Digits    : constant Status := 9;
+   Odd_Digits   : constant Status := 10;
+
+   Clash_Position  : constant Status := 11;
+   Clash_Duplicate : constant Status := 12;
+   Clash_Group     : constant Status := 13;
+   Clash_Total     : constant Status := 14;
+   Clash_Counter   : constant Status := 15;
+   Clash_Differs   : constant Status := 16;
 
    type Answer is record
       Taken   : size_t := 0;
@@ -39,6 +49,20 @@ package Etcs is
      with Convention => C;
 
    type Field_Array is array (size_t range <>) of aliased Field with Convention => C;
+
+   type Telegram is record
+      K     : Kind := Long_Telegram;
+      Bytes : Byte_Array (0 .. 103) := (others => 0);
+   end record
+     with Convention => C;
+
+   type Telegram_Array is array (size_t range <>) of aliased Telegram with Convention => C;
+
+   type Group is record
+      Missing     : Byte_Array (0 .. 7) := (others => 0);
+      Is_Complete : Unsigned_32 := 0;
+   end record
+     with Convention => C;
 
    function Check
      (K : Kind; Bytes : access constant Unsigned_8; Len : size_t; A : in out Answer) return Status
@@ -68,6 +92,28 @@ package Etcs is
      (K : Kind; Sent : access constant Field; Len : size_t;
       Output : access Unsigned_8; Room : size_t; A : in out Answer) return Status
      with Import, Convention => C, External_Name => "etcs_from_fields";
+
+   --  What numbers mean, the digits of lines, and balise groups.
+
+   function Meaning
+     (K : Kind; Var : Unsigned_32; Number : Unsigned_64; Scale : Unsigned_32;
+      Output : access Unsigned_8; Room : size_t; A : in out Answer) return Status
+     with Import, Convention => C, External_Name => "etcs_meaning";
+
+   function Line_Bytes
+     (Line : access constant Unsigned_8; Len : size_t;
+      Output : access Unsigned_8; Room : size_t; A : in out Answer) return Status
+     with Import, Convention => C, External_Name => "etcs_line_bytes";
+
+   function Line_Front (Line : access constant Unsigned_8; Len : size_t) return size_t
+     with Import, Convention => C, External_Name => "etcs_line_front";
+
+   function Assemble
+     (Telegrams : access constant Telegram; Count : size_t; G : in out Group; A : in out Answer) return Status
+     with Import, Convention => C, External_Name => "etcs_assemble";
+
+   function Version (Output : access Unsigned_8; Room : size_t; A : in out Answer) return Status
+     with Import, Convention => C, External_Name => "etcs_version";
 
    --  Why input is no item: written where the status is Refused (or Bad_Json).
 

@@ -9,22 +9,22 @@
  *     case ETCS_MORE:    these bytes begin a telegram and hold none
  *     }
  *
- * Each function here is proved to answer as its comment says, but for the words of a reason. etcs_help.h has what is
- * written in C over them: names of variables and statuses, look-up of a variable, a reader of pieces.
+ * Each function here is proved to answer as its comment says, but for the words of a reason or a meaning. etcs_help.h has
+ * what is written in C over them: names of variables and statuses, look-up of a variable, a reader of pieces.
  *
  * Memory: all buffers are the caller's, and nothing of them is kept. Calls take memory by malloc and give all of it
  * back before they return; there is nothing to free, open or close.
  * Threads: each call is a function of its arguments, so any thread may call at any time with buffers of its own.
  *
  * What a caller owes, and nothing checks:
- *   - a pointer points to as many bytes, or fields, as its length says, fewer than 2^63 bytes; where its length is 0 it may
- *     be null; answer is never null;
- *   - out and answer overlap neither each other nor the bytes that are read;
+ *   - a pointer points to as many bytes, fields or telegrams as its length says, fewer than 2^63 bytes; where its length is
+ *     0 it may be null; answer and group are never null;
+ *   - out, group and answer overlap neither each other nor what is read;
  *   - no call from a signal handler, nor in the forked child of a process with threads;
  *   - stack: 64 KiB; etcs_from_json and etcs_explain_json 256 KiB, since lists and objects may be in one another, up to
  *     127 deep; etcs_explain 512 KiB, since it works out which lengths a packet may have.
  *
- * What stays in each version of libetcs.so.1: these calls, both structs with their members, sizes and order, and the
+ * What stays in each version of libetcs.so.1: these calls, the structs with their members, sizes and order, and the
  * numbers of kinds, statuses and variables. Further calls, statuses and variables may come after them.
  */
 #ifndef ETCS_H
@@ -59,7 +59,17 @@ enum {
     ETCS_NO_MEMORY = 4,    /* memory was refused; out is as before */
     ETCS_UNKNOWN_KIND = 5, /* the kind is none of the above; out is as before */
     ETCS_BAD_JSON = 6,     /* no item of the kind has this JSON */
-    ETCS_BAD_FIELDS = 7    /* the numbers haven't their widths, or the item that their bits begin with has other fields */
+    ETCS_BAD_FIELDS = 7,   /* the numbers haven't their widths, or the item that their bits begin with has other fields */
+    ETCS_EMPTY_LINE = 8,   /* the line is blank, or a comment */
+    ETCS_NO_DIGITS = 9,    /* the line has no digits */
+    ETCS_ODD_DIGITS = 10,  /* the number of the line's digits is odd: answer.taken of them */
+    /* a telegram isn't of the group of those before it */
+    ETCS_CLASH_POSITION = 11,  /* its N_PIG is above N_TOTAL */
+    ETCS_CLASH_DUPLICATE = 12, /* it is the first with M_DUP 2, or the last with M_DUP 1 */
+    ETCS_CLASH_GROUP = 13,     /* its NID_C or NID_BG is another */
+    ETCS_CLASH_TOTAL = 14,     /* its N_TOTAL is another */
+    ETCS_CLASH_COUNTER = 15,   /* its M_MCOUNT doesn't agree: 254 agrees with none, 255 with each other */
+    ETCS_CLASH_DIFFERS = 16    /* another telegram is at its position */
 };
 
 /* Room that is enough for each item: of its bytes, and of its fields, each of which has a bit. */
@@ -72,10 +82,10 @@ typedef uint32_t etcs_status;
 /* What a call answers beside its status: the members that the call's comment names with it, and nothing in the others.
  * Begin with etcs_answer a = {0}. */
 typedef struct etcs_answer {
-    size_t taken;   /* how many of the bytes the item takes */
+    size_t taken;   /* how many of the bytes the item takes, or what the call's comment says */
     size_t written; /* how many bytes, or fields, were written, or with ETCS_NO_ROOM would be */
     size_t bit;     /* the first bit that is refused, from 0, the top bit of the first byte */
-    char var[32];   /* the name of the variable that holds it, a string */
+    char var[32];   /* the name of the variable that holds it, or that was asked for, a string */
 } etcs_answer;
 
 /* A variable of an item. Bits that are kept as they are (FILL, OTHER_DATA, PADDING) and PAD are up to 64 in a field, of
@@ -85,6 +95,18 @@ typedef struct etcs_field {
     uint32_t var;   /* which variable: ETCS_VAR_... of etcs_vars.h */
     uint32_t width; /* how many bits its number takes: a field begins at the sum of the widths before it */
 } etcs_field;
+
+/* A telegram of either size. */
+typedef struct etcs_telegram {
+    uint32_t kind;      /* ETCS_LONG or ETCS_SHORT */
+    uint8_t bytes[104]; /* its bytes; those after the 27 of a short one count for nothing */
+} etcs_telegram;
+
+/* What telegrams of a balise group make together. */
+typedef struct etcs_group {
+    uint8_t missing[8];   /* of each of the positions 0 to 7: 1 where it is missing, else 0 */
+    uint32_t is_complete; /* 1 where there is a telegram and no position is missing, else 0 */
+} etcs_group;
 
 /* Whether the bytes begin with an item. Bytes after it count for nothing.
  *     ETCS_OK       they do: taken
@@ -124,6 +146,45 @@ etcs_status etcs_from_json(etcs_kind kind, const uint8_t *line, size_t len, uint
  *     ETCS_REFUSED           the fields fit, and no item continues with one of these bits, of however many: bit, var */
 etcs_status etcs_from_fields(etcs_kind kind, const etcs_field *fields, size_t len, uint8_t *out, size_t room,
                              etcs_answer *answer);
+
+/* ---- What numbers mean, the digits of lines, and balise groups. */
+
+/* What a number of a variable means, in the words of `etcs explain`, in ASCII and without a zero after it, and the
+ * variable's name. Of NID_PACKET and NID_MESSAGE it is what the standard calls the packet, of this kind, or the message. A
+ * distance is in metres by scale, the Q_SCALE of its packet or message, and means nothing where that is none of 0, 1 and 2;
+ * nor do numbers of many other variables, of which written is 0. Of bits that are kept as they are there is no meaning. The
+ * words may be others in the next version.
+ *     ETCS_OK, ETCS_NO_ROOM  var; written
+ *     ETCS_BAD_FIELDS        no variable has the number var; out is as before */
+etcs_status etcs_meaning(etcs_kind kind, uint32_t var, uint64_t number, uint32_t scale, uint8_t *out, size_t room,
+                         etcs_answer *answer);
+
+/* The bytes that the digits of a line say, by the rule of `etcs log`: those at its end, in groups or not, with or without
+ * `0x`, after whatever is in front of them, as a time. The line has no LF.
+ *     ETCS_OK, ETCS_NO_ROOM  written, which is 1 or more
+ *     ETCS_EMPTY_LINE        it is blank, or its first character that is no blank is #; out is as before
+ *     ETCS_NO_DIGITS         it has no digits at its end, nor 20 of them anywhere; out is as before
+ *     ETCS_ODD_DIGITS        taken, which is how many digits it has, an odd number; out is as before */
+etcs_status etcs_line_bytes(const uint8_t *line, size_t len, uint8_t *out, size_t room, etcs_answer *answer);
+
+/* How many characters are in front of the digits of a line, without blanks after them; of a line without digits all of it.
+ * They begin at the line's first character, or after a byte order mark, EF BB BF, where it begins with one. */
+size_t etcs_line_front(const uint8_t *line, size_t len);
+
+/* What telegrams of one balise group make together (SUBSET-026, 3.16.2.4), in whatever order they came. Each is held beside
+ * those before it; one that is equal to the one at its position counts for nothing. To put a group together keep its telegrams
+ * in an array, ask of all of them each time that one comes, and take out the last one where it isn't held.
+ *     ETCS_OK  each is held: group
+ *   Else telegram number taken, from 0, is the first that isn't held, and group is as before:
+ *     ETCS_REFUSED       no telegram of its kind continues with a bit: bit, var
+ *     ETCS_UNKNOWN_KIND  its kind is none of the two
+ *     ETCS_NO_MEMORY     memory was refused for it
+ *     ETCS_CLASH_..      why it isn't of the group of those before it; where there are more reasons, the first of them */
+etcs_status etcs_assemble(const etcs_telegram *telegrams, size_t count, etcs_group *group, etcs_answer *answer);
+
+/* The version of the library, which may be another than that of the header, as a string with its zero.
+ *     ETCS_OK, ETCS_NO_ROOM  written, which counts the zero */
+etcs_status etcs_version(uint8_t *out, size_t room, etcs_answer *answer);
 
 /* ---- Why input is no item. These three write where it is refused; else out is as before. */
 

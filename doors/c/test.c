@@ -15,6 +15,8 @@
 #include <string.h>
 
 _Static_assert(sizeof(etcs_answer) == 56 && offsetof(etcs_answer, var) == 24, "etcs_answer");
+_Static_assert(sizeof(etcs_telegram) == 108 && offsetof(etcs_telegram, bytes) == 4, "etcs_telegram");
+_Static_assert(sizeof(etcs_group) == 12 && offsetof(etcs_group, is_complete) == 8, "etcs_group");
 _Static_assert(sizeof(etcs_field) == 16 && offsetof(etcs_field, var) == 8 && offsetof(etcs_field, width) == 12, "etcs_field");
 
 static __thread long left = LONG_MAX;
@@ -282,6 +284,141 @@ static void statuses(void)
     EXPECT(ANSWERS(ETCS_UNKNOWN_KIND, etcs_explain_json(9, JSON(line), out, 256, &a)) && out[0] == 7);
 }
 
+/* The same of the calls over lines of hexadecimal and over numbers, with the words of `explain` and the rule of logs. */
+static void lines_and_meanings(void)
+{
+    static const struct { etcs_kind kind; uint32_t var; uint64_t number; uint32_t scale; const char *name, *text; } means[] = {
+        {ETCS_SHORT, ETCS_VAR_D_LINK, 1180, 2, "D_LINK", "11800 m"},
+        {ETCS_SHORT, ETCS_VAR_D_LINK, 1180, 0, "D_LINK", "118.0 m"},
+        {ETCS_SHORT, ETCS_VAR_D_LINK, 1180, 3, "D_LINK", ""},
+        {ETCS_SHORT, ETCS_VAR_V_STATIC, 28, 3, "V_STATIC", "140 km/h"},
+        {ETCS_SHORT, ETCS_VAR_V_STATIC, 127, 3, "V_STATIC", "end of profile"},
+        {ETCS_SHORT, ETCS_VAR_T_LOA, 1023, 3, "T_LOA", "unlimited"},
+        {ETCS_LONG, ETCS_VAR_Q_LINK, 1, 3, "Q_LINK", "linked"},
+        {ETCS_LONG, ETCS_VAR_M_VERSION_HEADER, 33, 3, "M_VERSION", "version 2.1"},
+        {ETCS_LONG, ETCS_VAR_NID_PACKET, 5, 3, "NID_PACKET", "Linking"},
+        {ETCS_RADIO, ETCS_VAR_NID_PACKET, 0, 3, "NID_PACKET", "Virtual Balise Cover marker"},
+        {ETCS_TRAIN, ETCS_VAR_NID_PACKET, 0, 3, "NID_PACKET", "Position Report"},
+        {ETCS_RADIO, ETCS_VAR_NID_MESSAGE, 24, 3, "NID_MESSAGE", "General message"},
+        {ETCS_RADIO, ETCS_VAR_NID_MESSAGE, 7, 3, "NID_MESSAGE", ""},
+        {ETCS_SHORT, ETCS_VAR_FILL, UINT64_MAX, 3, "FILL", ""},
+        {ETCS_SHORT, ETCS_VAR_D_SECTIONTIMERSTOPLOC, UINT64_MAX, 2, "D_SECTIONTIMERSTOPLOC", "18446744073709551615 m"},
+    };
+    static const struct { const char *line; etcs_status status; size_t count; const char *bytes; size_t front; } lines[] = {
+        {"A113", ETCS_OK, 2, "\xA1\x13", 0},
+        {"12:00:03 0xA1, 0x13", ETCS_OK, 2, "\xA1\x13", 8},
+        {"\xEF\xBB\xBFnoon A113\r", ETCS_OK, 2, "\xA1\x13", 4},
+        {"noon 18028000000000000000 of 3 bytes", ETCS_OK, 10, "\x18\x02\x80\0\0\0\0\0\0\0", 4},
+        {"18028000000000000000 # A113", ETCS_OK, 10, "\x18\x02\x80\0\0\0\0\0\0\0", 0},
+        {"", ETCS_EMPTY_LINE, 0, "", 0},
+        {" \t\r", ETCS_EMPTY_LINE, 0, "", 0},
+        {" # A113", ETCS_EMPTY_LINE, 0, "", 2},
+        {"A113 noon ", ETCS_NO_DIGITS, 0, "", 9},
+        {"noon A1B", ETCS_ODD_DIGITS, 3, "", 4},
+    };
+    uint8_t out[256];
+    etcs_answer a;
+    int starved;
+    for (size_t i = 0; i < sizeof means / sizeof *means; i++) {
+        size_t size = strlen(means[i].text);
+#define MEANS(room) etcs_meaning(means[i].kind, means[i].var, means[i].number, means[i].scale, out, room, &a)
+        EXPECT(ANSWERS(ETCS_OK, MEANS(size)) && a.written == size && !strcmp(a.var, means[i].name) && !memcmp(out, means[i].text, size));
+        EXPECT(!strcmp(etcs_var_name(means[i].var), means[i].name) && out[size] == 7);
+        if (size == 0) continue;
+        EXPECT(ANSWERS(ETCS_NO_ROOM, MEANS(size - 1)) && a.written == size && !strcmp(a.var, means[i].name) && out[0] == 7);
+        EXPECT(STARVES(MEANS(size)) && out[0] == 7);
+        EXPECT(ANSWERS(ETCS_UNKNOWN_KIND, etcs_meaning(9, means[i].var, 0, 3, out, 256, &a)) && out[0] == 7);
+    }
+    for (uint32_t var = 0; var < ETCS_VAR_COUNT; var++)
+        EXPECT(ANSWERS(ETCS_OK, etcs_meaning(ETCS_RADIO, var, 0, 3, out, 256, &a)) && !strcmp(a.var, etcs_var_name(var)));
+    EXPECT(ANSWERS(ETCS_BAD_FIELDS, etcs_meaning(ETCS_RADIO, ETCS_VAR_COUNT, 0, 3, out, 256, &a)) && out[0] == 7);
+    EXPECT(ANSWERS(ETCS_BAD_FIELDS, etcs_meaning(ETCS_RADIO, UINT32_MAX, 0, 3, out, 256, &a)) && out[0] == 7);
+    for (size_t i = 0; i < sizeof lines / sizeof *lines; i++) {
+        const uint8_t *line = (const uint8_t *)lines[i].line;
+        size_t len = strlen(lines[i].line), count = lines[i].count;
+        EXPECT(ANSWERS(lines[i].status, etcs_line_bytes(line, len, out, lines[i].status == ETCS_OK ? count : 256, &a)));
+        EXPECT(etcs_line_front(line, len) == lines[i].front);
+        EXPECT(lines[i].status != ETCS_ODD_DIGITS || a.taken == count);
+        EXPECT(lines[i].status == ETCS_OK ? a.written == count && !memcmp(out, lines[i].bytes, count) && out[count] == 7 : out[0] == 7);
+        EXPECT(STARVES(etcs_line_bytes(line, len, out, 256, &a)) && out[0] == 7);
+        if (lines[i].status == ETCS_OK)
+            EXPECT(ANSWERS(ETCS_NO_ROOM, etcs_line_bytes(line, len, out, count - 1, &a)) && a.written == count && out[0] == 7);
+    }
+    EXPECT(ANSWERS(ETCS_OK, etcs_version(out, sizeof ETCS_VERSION, &a)) && a.written == sizeof ETCS_VERSION && !strcmp((char *)out, ETCS_VERSION));
+    EXPECT(ANSWERS(ETCS_NO_ROOM, etcs_version(out, sizeof ETCS_VERSION - 1, &a)) && a.written == sizeof ETCS_VERSION && out[0] == 7);
+}
+
+/* A short telegram, or a long one of one packet, with these numbers of its header. */
+static etcs_telegram balise(etcs_kind kind, uint64_t n_pig, uint64_t n_total, uint64_t m_dup, uint64_t m_mcount, uint64_t nid_bg)
+{
+    const struct { uint32_t var; uint64_t number; } header[] = {
+        {ETCS_VAR_Q_UPDOWN, 1}, {ETCS_VAR_M_VERSION_HEADER, 33}, {ETCS_VAR_Q_MEDIA, 0}, {ETCS_VAR_N_PIG, n_pig},
+        {ETCS_VAR_N_TOTAL, n_total}, {ETCS_VAR_M_DUP, m_dup}, {ETCS_VAR_M_MCOUNT, m_mcount}, {ETCS_VAR_NID_C, 98},
+        {ETCS_VAR_NID_BG, nid_bg}, {ETCS_VAR_Q_LINK, 1}, {ETCS_VAR_NID_PACKET, 255},
+    };
+    static const uint32_t widths[] = {1, 7, 1, 3, 3, 2, 8, 10, 14, 1, 8};
+    size_t left = (kind == ETCS_SHORT ? 210 : 830) - 58, count = 11;
+    etcs_field sent[32];
+    etcs_answer a = {0};
+    etcs_telegram made = {kind, {0}};
+    for (size_t i = 0; i < 11; i++) sent[i] = (etcs_field){header[i].number, header[i].var, widths[i]};
+    for (uint32_t n; left > 0; left -= n) n = left < 64 ? (uint32_t)left : 64, sent[count++] = (etcs_field){UINT64_MAX >> (64 - n), ETCS_VAR_FILL, n};
+    sent[count++] = kind == ETCS_SHORT ? (etcs_field){0, ETCS_VAR_PAD, 6} : (etcs_field){0, ETCS_VAR_PAD, 2};
+    EXPECT(etcs_from_fields(kind, sent, count, made.bytes, sizeof made.bytes, &a) == ETCS_OK);
+    return made;
+}
+
+/* Balise groups: which telegrams are held beside those before them, and what is missing. */
+static void groups(void)
+{
+    etcs_telegram t[8];
+    etcs_group group, seven;
+    etcs_answer a;
+    uint8_t out[256];
+    int starved;
+    memset(&seven, 7, sizeof seven);
+#define GROUPS(count) (group = seven, etcs_assemble(t, count, &group, &a))
+#define MISSES(...) (!memcmp(group.missing, (uint8_t[8]){__VA_ARGS__}, 8))
+#define FAILS(status, place, count) (ANSWERS(status, GROUPS(count)) && a.taken == (place) && !memcmp(&group, &seven, sizeof group))
+    EXPECT(ANSWERS(ETCS_OK, GROUPS(0)) && MISSES(0) && !group.is_complete);
+    EXPECT(etcs_assemble(NULL, 0, &group, &a) == ETCS_OK);
+    t[0] = balise(ETCS_SHORT, 1, 2, 0, 40, 511);
+    EXPECT(ANSWERS(ETCS_OK, GROUPS(1)) && MISSES(1, 0, 1) && !group.is_complete);
+    t[1] = balise(ETCS_LONG, 2, 2, 0, 40, 511);
+    EXPECT(ANSWERS(ETCS_OK, GROUPS(2)) && MISSES(1) && !group.is_complete);
+    t[2] = t[0];
+    EXPECT(ANSWERS(ETCS_OK, GROUPS(3)) && MISSES(1));
+    t[3] = balise(ETCS_SHORT, 0, 2, 0, 255, 511);
+    EXPECT(ANSWERS(ETCS_OK, GROUPS(4)) && MISSES(0) && group.is_complete == 1);
+    EXPECT(STARVES(GROUPS(4)) && !memcmp(&group, &seven, sizeof group));
+    /* bytes after a short telegram count for nothing */
+    memset(t[0].bytes + 27, 7, 77);
+    EXPECT(ANSWERS(ETCS_OK, GROUPS(4)) && group.is_complete == 1);
+    t[4] = balise(ETCS_SHORT, 3, 2, 0, 40, 511);
+    EXPECT(FAILS(ETCS_CLASH_POSITION, 4, 5));
+    t[4] = balise(ETCS_SHORT, 0, 2, 2, 40, 511);
+    EXPECT(FAILS(ETCS_CLASH_DUPLICATE, 4, 5));
+    t[4] = balise(ETCS_SHORT, 2, 2, 1, 40, 511);
+    EXPECT(FAILS(ETCS_CLASH_DUPLICATE, 4, 5));
+    t[4] = balise(ETCS_SHORT, 0, 2, 0, 40, 510);
+    EXPECT(FAILS(ETCS_CLASH_GROUP, 4, 5));
+    t[4] = balise(ETCS_SHORT, 0, 1, 0, 40, 511);
+    EXPECT(FAILS(ETCS_CLASH_TOTAL, 4, 5));
+    t[4] = balise(ETCS_SHORT, 0, 2, 0, 41, 511);
+    EXPECT(FAILS(ETCS_CLASH_COUNTER, 4, 5));
+    t[4] = balise(ETCS_SHORT, 0, 2, 0, 40, 511);
+    EXPECT(FAILS(ETCS_CLASH_DIFFERS, 4, 5));
+    t[4] = balise(ETCS_LONG, 1, 2, 0, 40, 511);
+    EXPECT(FAILS(ETCS_CLASH_DIFFERS, 4, 5));
+    t[4].kind = ETCS_RADIO;
+    EXPECT(FAILS(ETCS_UNKNOWN_KIND, 4, 5));
+    t[1].bytes[0] = 0;
+    EXPECT(FAILS(ETCS_REFUSED, 1, 5) && a.bit == 0 && !strcmp(a.var, "Q_UPDOWN"));
+    /* a duplicate is there for its neighbour */
+    t[0] = balise(ETCS_SHORT, 0, 1, 1, 40, 511);
+    EXPECT(ANSWERS(ETCS_OK, GROUPS(1)) && MISSES(0) && group.is_complete == 1);
+}
+
 /* No pointer to no bytes, no fields and no room. */
 static void no_pointers(void)
 {
@@ -299,6 +436,8 @@ static void no_pointers(void)
     EXPECT(etcs_from_fields(ETCS_RADIO, NULL, 0, NULL, 0, &a) == ETCS_MORE && etcs_from_fields(ETCS_RADIO, sent, a.written, NULL, 0, &a) == ETCS_NO_ROOM);
     EXPECT(etcs_from_json(ETCS_RADIO, NULL, 0, NULL, 0, &a) == ETCS_BAD_JSON && etcs_explain_json(ETCS_RADIO, NULL, 0, NULL, 0, &a) == ETCS_NO_ROOM);
     EXPECT(etcs_from_json(ETCS_RADIO, NULL, 0, out, sizeof out, &a) == ETCS_BAD_JSON && etcs_explain_json(ETCS_RADIO, NULL, 0, out, sizeof out, &a) == ETCS_BAD_JSON);
+    EXPECT(etcs_meaning(ETCS_RADIO, ETCS_VAR_D_LINK, 1, 3, NULL, 0, &a) == ETCS_OK && etcs_meaning(ETCS_RADIO, ETCS_VAR_Q_LINK, 1, 3, NULL, 0, &a) == ETCS_NO_ROOM);
+    EXPECT(etcs_line_bytes(NULL, 0, NULL, 0, &a) == ETCS_EMPTY_LINE && etcs_line_front(NULL, 0) == 0 && etcs_version(NULL, 0, &a) == ETCS_NO_ROOM);
     /* bit 0 is refused, before which there is no field */
     EXPECT(etcs_fields_before(ETCS_SHORT, bytes, len, NULL, 0, &a) == ETCS_REFUSED && a.written == 0 && a.bit == 0);
 }
@@ -435,11 +574,36 @@ static void dear_refusals(int call)
     }
 }
 
+static etcs_telegram group_of_eight[8];
+
+/* The calls that read no item: numbers of each variable, characters as they come, the version. */
+static void *no_item(int call)
+{
+    etcs_answer a = {0};
+    if (call == 9)
+        for (etcs_kind kind = ETCS_LONG; kind <= ETCS_TRAIN; kind++)
+            for (uint32_t i = 0; i < 1024 * ETCS_VAR_COUNT; i++)
+                etcs_meaning(kind, i / 1024, (uint64_t)i << i % 41, i & 3, text, sizeof text, &a);
+    if (call == 10)
+        for (size_t len = 0; len < 4096; len += 61) {
+            for (size_t i = 0; i < len; i++) json_text[i] = (uint8_t)"0123456789ABCDEF ,x#:"[(file[i] + len) % 21];
+            etcs_line_bytes(json_text, len, text, sizeof text, &a);
+            if (etcs_line_front(json_text, len) > len) return (void *)1;
+        }
+    if (call == 11) etcs_version(text, sizeof text, &a);
+    if (call == 12) {
+        etcs_group group;
+        if (etcs_assemble(group_of_eight, 8, &group, &a) || !group.is_complete) return (void *)1;
+    }
+    return NULL;
+}
+
 static void *all_calls(void *arg)
 {
     etcs_answer a = {0};
     int call = *(int *)arg;
     static etcs_field sent[ETCS_MOST_FIELDS];
+    if (call >= 9) return no_item(call);
     dear_refusals(call);
     for (size_t at = 0; at < file_len; at += a.taken) {
         if (call >= 6) {
@@ -485,9 +649,10 @@ static void *all_calls(void *arg)
 
 static void stack(void)
 {
-    static const size_t most[] = {64, 64, 64, 256, 64, 64, 512, 64, 256}; /* KiB, as etcs.h asks for */
+    static const size_t most[] = {64, 64, 64, 256, 64, 64, 512, 64, 256, 32, 32, 32, 32}; /* KiB, at most what etcs.h asks for */
     size_t size = 1 << 20;
-    for (int call = 0; call < 9; call++) {
+    for (uint64_t i = 0; i < 8; i++) group_of_eight[i] = balise(ETCS_LONG, i, 7, 0, 40, 511);
+    for (int call = 0; call < 13; call++) {
         uint8_t *room;
         if (posix_memalign((void **)&room, 4096, size)) return;
         memset(room, 0xA5, size);
@@ -544,6 +709,19 @@ static void deep_json(void)
     free(room);
 }
 
+/* The digits of bytes in a line of exactly its length, after a time. */
+static void exact_line(const uint8_t *bytes, size_t len)
+{
+    etcs_answer a = {0};
+    size_t count = 9 + 2 * len;
+    uint8_t *line = malloc(count), *back = malloc(len);
+    memcpy(line, "12:00:03 ", 9);
+    for (size_t i = 0; i < 2 * len; i++) line[9 + i] = (uint8_t)"0123456789ABCDEF"[bytes[i / 2] >> (i % 2 ? 0 : 4) & 15];
+    EXPECT(etcs_line_front(line, count) == 8);
+    EXPECT(etcs_line_bytes(line, count, back, len, &a) == ETCS_OK && a.written == len && !memcmp(back, bytes, len));
+    free(line), free(back);
+}
+
 /* All calls over buffers of exactly their lengths, in which valgrind sees each byte too far. */
 static void exact(const uint8_t *bytes, size_t len, size_t taken)
 {
@@ -570,6 +748,7 @@ static void exact(const uint8_t *bytes, size_t len, size_t taken)
         EXPECT(etcs_fields(file_kind, in, len, sent, a.written, &a) == ETCS_OK);
         EXPECT(etcs_from_fields(file_kind, sent, a.written, back, taken, &a) == ETCS_OK && !memcmp(back, in, taken));
         free(sent), free(back);
+        exact_line(in, taken);
     }
     free(in);
 }
@@ -630,6 +809,8 @@ int main(int argc, char **argv)
         refused_reasons();
         reasons();
         statuses();
+        lines_and_meanings();
+        groups();
         no_pointers();
         short_buffers();
         variables();

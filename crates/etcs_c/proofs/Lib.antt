@@ -2,6 +2,7 @@ pub mod Delivering
 pub mod Firsts
 pub mod Fits
 pub mod Fronts
+pub mod Holding
 pub mod Packing
 pub mod Packs
 pub mod Refusals

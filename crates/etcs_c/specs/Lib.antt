@@ -1,7 +1,10 @@
 pub mod Answers
 pub mod Built
 pub mod Explained
+pub mod Groups
 pub mod ItemFields
+pub mod Lines
+pub mod Meanings
 pub mod Writes
 pub mod Fields
 pub mod laws

@@ -22,6 +22,24 @@ pub const UNKNOWN_KIND: u32 = 5;
 pub const BAD_JSON: u32 = 6;
 /// The variables are those of no item of the kind.
 pub const BAD_FIELDS: u32 = 7;
+/// A line is blank, or a comment.
+pub const EMPTY_LINE: u32 = 8;
+/// A line has no digits.
+pub const NO_DIGITS: u32 = 9;
+/// The number of a line's digits is odd.
+pub const ODD_DIGITS: u32 = 10;
+/// N_PIG of a telegram is above N_TOTAL.
+pub const CLASH_POSITION: u32 = 11;
+/// A telegram is the first of its group with M_DUP 2, or the last with M_DUP 1.
+pub const CLASH_DUPLICATE: u32 = 12;
+/// A telegram is of another group than one before it.
+pub const CLASH_GROUP: u32 = 13;
+/// Its N_TOTAL is another.
+pub const CLASH_TOTAL: u32 = 14;
+/// Its M_MCOUNT doesn't agree with another.
+pub const CLASH_COUNTER: u32 = 15;
+/// Another telegram is at its position.
+pub const CLASH_DIFFERS: u32 = 16;
 
 /// What a call answers beside its status.
 #[repr(C)]
@@ -39,7 +57,7 @@ pub struct EtcsAnswer {
 
 /// The variable's name, and zeros after it.
 #[tactic(auto, using(crate::proofs::Names::name_short))]
-fn name_field(var: Var) -> [u8; 32]
+pub fn name_field(var: Var) -> [u8; 32]
     ensures { result ≡ name_field var }
 {
     let name = var.name().as_bytes();
@@ -60,7 +78,7 @@ pub fn refuse(bit: usize, var: Var, answer: &mut EtcsAnswer) -> u32
 }
 
 /// Writes to the front of a buffer, where it has room, and answers how many there are.
-fn write_out<T: Copy>(done: u32, items: &[T], out: &mut [T], answer: &mut EtcsAnswer) -> u32
+pub fn write_out<T: Copy>(done: u32, items: &[T], out: &mut [T], answer: &mut EtcsAnswer) -> u32
     ensures writes { WritesAs done items.now out.old out.new result answer.new }
     ensures taken { answer.new.taken ≡ answer.old.taken }
     ensures bit { answer.new.bit ≡ answer.old.bit }

@@ -1,8 +1,9 @@
 //! Each status of each call, over items and fields that are worked out by hand from the tables.
 
 use crate::{
-    EtcsAnswer, EtcsField, etcs_check, etcs_explain, etcs_explain_json, etcs_fields,
-    etcs_fields_before, etcs_from_fields, etcs_from_json, etcs_show, etcs_to_json,
+    EtcsAnswer, EtcsField, EtcsGroup, EtcsTelegram, etcs_assemble, etcs_check, etcs_explain,
+    etcs_explain_json, etcs_fields, etcs_fields_before, etcs_from_fields, etcs_from_json,
+    etcs_line_bytes, etcs_line_front, etcs_meaning, etcs_show, etcs_to_json, etcs_version,
 };
 use etcs_fakes::starve;
 use std::alloc::Global;
@@ -37,6 +38,8 @@ const ANY: usize = usize::MAX;
 const LENGTH: &[u8] = b"L_MESSAGE\0";
 
 const SCALE: &[u8] = b"Q_SCALE\0";
+
+const MEDIA: &[u8] = b"Q_MEDIA\0";
 
 const NONE: &[u8] = b"";
 
@@ -148,6 +151,98 @@ static OF_FIELDS: &[OfFields] = &[
     (9, OWN, 6, 10, (5, ANY, ANY, ANY, NONE)),
 ];
 
+/// A line of hexadecimal, and how much room there is for 10 bytes at most.
+type OfHex = (&'static [u8], usize, Wanted);
+
+static OF_HEX: &[OfHex] = &[
+    (b"12:00:03 A113", 2, (0, ANY, 2, ANY, NONE)),
+    (b"12:00:03 A113", 1, (3, ANY, 2, ANY, NONE)),
+    (b" # A113", 2, (8, ANY, ANY, ANY, NONE)),
+    (b" ", 2, (8, ANY, ANY, ANY, NONE)),
+    (b"A113 noon", 2, (9, ANY, ANY, ANY, NONE)),
+    (b"noon A1B", 2, (10, 3, ANY, ANY, NONE)),
+];
+
+/// The kind, the variable, its number, Q_SCALE, and how much room there is for 120 bytes at most.
+type OfMeanings = (u32, u32, u64, u32, usize, Wanted);
+
+/// `11800 m`, `unlimited`, `General message`, `Virtual Balise Cover marker` and `Position Report`; distances without Q_SCALE
+/// and bits of FILL mean nothing.
+static OF_MEANINGS: &[OfMeanings] = &[
+    (2, 16, 1180, 2, 7, (0, ANY, 7, ANY, b"D_LINK\0")),
+    (2, 16, 1180, 2, 6, (3, ANY, 7, ANY, b"D_LINK\0")),
+    (2, 16, 1180, 3, 0, (0, ANY, 0, ANY, b"D_LINK\0")),
+    (2, 126, 1, 3, 0, (0, ANY, 0, ANY, b"FILL\0")),
+    (2, 23, 1023, 3, 9, (0, ANY, 9, ANY, b"T_LOA\0")),
+    (3, 82, 24, 3, 15, (0, ANY, 15, ANY, b"NID_MESSAGE\0")),
+    (3, 10, 0, 3, 27, (0, ANY, 27, ANY, b"NID_PACKET\0")),
+    (4, 10, 0, 3, 15, (0, ANY, 15, ANY, b"NID_PACKET\0")),
+    (2, 130, 0, 3, 9, (7, ANY, ANY, ANY, NONE)),
+    (9, 16, 1180, 2, 7, (5, ANY, ANY, ANY, NONE)),
+];
+
+/// How much room there is for the version, of 10 bytes at most.
+type OfRoom = (usize, Wanted);
+
+static OF_VERSION: &[OfRoom] = &[(6, (0, ANY, 6, ANY, NONE)), (5, (3, ANY, 6, ANY, NONE))];
+
+/// A short telegram of packet 44 by its kind and three bytes: the second one has N_PIG after its first bit, N_TOTAL and a bit of
+/// M_DUP, the third one the other bit of M_DUP and 7 of M_MCOUNT, before a 1, the sixth one 8 of NID_BG.
+type Balise = (u32, u8, u8, u8);
+
+/// Telegrams, which positions are missing, and whether none is.
+type OfGroups = (&'static [Balise], [u8; 8], u32, Wanted);
+
+/// What is in a group before a call.
+const BEFORE: [u8; 8] = [9; 8];
+
+const GOOD: Wanted = (0, ANY, ANY, ANY, NONE);
+
+static OF_GROUPS: &[OfGroups] = &[
+    (&[], [0; 8], 0, GOOD),
+    (&[(2, 0x12, 0x7F, 0)], [1, 0, 0, 0, 0, 0, 0, 0], 0, GOOD),
+    (&[(2, 0x12, 0x7F, 0), (2, 0x02, 0x7F, 0)], [0; 8], 1, GOOD),
+    (&[(2, 0x02, 0xFF, 0), (2, 0x02, 0xFF, 0)], [0; 8], 1, GOOD),
+    (&[(2, 0x20, 0x7F, 0)], BEFORE, 9, (11, 0, ANY, ANY, NONE)),
+    (&[(2, 0x03, 0x7F, 0)], BEFORE, 9, (12, 0, ANY, ANY, NONE)),
+    (
+        &[(2, 0x12, 0x7F, 0), (2, 0x02, 0x7F, 1)],
+        BEFORE,
+        9,
+        (13, 1, ANY, ANY, NONE),
+    ),
+    (
+        &[(2, 0x12, 0x7F, 0), (2, 0x04, 0x7F, 0)],
+        BEFORE,
+        9,
+        (14, 1, ANY, ANY, NONE),
+    ),
+    (
+        &[(2, 0x12, 0x00, 0), (2, 0x02, 0x01, 0)],
+        BEFORE,
+        9,
+        (15, 1, ANY, ANY, NONE),
+    ),
+    (
+        &[(2, 0x12, 0x00, 0), (2, 0x12, 0x7F, 0)],
+        BEFORE,
+        9,
+        (16, 1, ANY, ANY, NONE),
+    ),
+    (
+        &[(2, 0x12, 0x7F, 0), (3, 0x02, 0x7F, 0)],
+        BEFORE,
+        9,
+        (5, 1, ANY, ANY, NONE),
+    ),
+    (
+        &[(2, 0x12, 0x7F, 0), (2, 0x82, 0x7F, 0)],
+        BEFORE,
+        9,
+        (2, 1, ANY, 8, MEDIA),
+    ),
+];
+
 /// Numbers that no call answers here.
 fn unanswered() -> EtcsAnswer {
     EtcsAnswer {
@@ -224,6 +319,47 @@ fn ask_fields(alloc: Global, case: &OfFields, answer: &mut EtcsAnswer) -> u32 {
     etcs_from_fields(alloc, kind, &fields[..count.min(130)], out, answer)
 }
 
+/// Asks for the bytes of a line of hexadecimal.
+fn ask_hex(alloc: Global, case: &OfHex, answer: &mut EtcsAnswer) -> u32 {
+    let (line, room, _) = *case;
+    let mut bytes = [0; 10];
+    etcs_line_bytes(alloc, line, &mut bytes[..room.min(10)], answer)
+}
+
+/// Asks what a number means.
+fn ask_meaning(alloc: Global, case: &OfMeanings, answer: &mut EtcsAnswer) -> u32 {
+    let (kind, var, number, scale, room, _) = *case;
+    let mut text = [0; 120];
+    let out = &mut text[..room.min(120)];
+    etcs_meaning(alloc, kind, var, number, scale, out, answer)
+}
+
+/// A telegram of these bytes.
+fn balise(row: Balise) -> EtcsTelegram {
+    let (kind, second, third, sixth) = row;
+    let mut bytes = [0xFF; 104];
+    let front = [
+        0xA0, second, third, 0x80, 0x20, sixth, 0xCB, 0x20, 0x0C, 0x7F,
+    ];
+    bytes[..10].copy_from_slice(&front);
+    bytes[26] = 0xC0;
+    EtcsTelegram { kind, bytes }
+}
+
+/// Asks what telegrams make, two at most.
+fn ask_group(
+    alloc: Global,
+    case: &OfGroups,
+    group: &mut EtcsGroup,
+    answer: &mut EtcsAnswer,
+) -> u32 {
+    let mut telegrams = [balise((1, 0, 0, 0)); 2];
+    for (telegram, row) in telegrams.iter_mut().zip(case.0) {
+        *telegram = balise(*row);
+    }
+    etcs_assemble(alloc, &telegrams[..case.0.len().min(2)], group, answer)
+}
+
 /// The first of these calls over bytes that answers something else.
 fn wrong_of_bytes(alloc: Global, cases: &[OfBytes]) -> Option<usize> {
     for (i, case) in cases.iter().enumerate() {
@@ -260,6 +396,60 @@ fn wrong_of_fields(alloc: Global, cases: &[OfFields]) -> Option<usize> {
     None
 }
 
+/// The first of these lines of hexadecimal of which something else is answered.
+fn wrong_of_hex(alloc: Global, cases: &[OfHex]) -> Option<usize> {
+    for (i, case) in cases.iter().enumerate() {
+        let answer = &mut unanswered();
+        let status = ask_hex(alloc, case, answer);
+        if !is_answered(status, answer, &case.2) {
+            return Some(i);
+        }
+    }
+    None
+}
+
+/// The first of these numbers of which something else is answered.
+fn wrong_of_meanings(alloc: Global, cases: &[OfMeanings]) -> Option<usize> {
+    for (i, case) in cases.iter().enumerate() {
+        let answer = &mut unanswered();
+        let status = ask_meaning(alloc, case, answer);
+        if !is_answered(status, answer, &case.5) {
+            return Some(i);
+        }
+    }
+    None
+}
+
+/// The first of these telegrams of which something else is answered.
+fn wrong_of_groups(alloc: Global, cases: &[OfGroups]) -> Option<usize> {
+    for (i, case) in cases.iter().enumerate() {
+        let answer = &mut unanswered();
+        let group = &mut EtcsGroup {
+            missing: BEFORE,
+            is_complete: 9,
+        };
+        let status = ask_group(alloc, case, group, answer);
+        let is_same = group.missing == case.1 && group.is_complete == case.2;
+        if !is_same || !is_answered(status, answer, &case.3) {
+            return Some(i);
+        }
+    }
+    None
+}
+
+/// The first of these rooms with which something else than the version is answered.
+fn wrong_of_version(cases: &[OfRoom]) -> Option<usize> {
+    for (i, case) in cases.iter().enumerate() {
+        let answer = &mut unanswered();
+        let mut text = [0; 10];
+        let status = etcs_version(&mut text[..case.0.min(10)], answer);
+        if !is_answered(status, answer, &case.1) {
+            return Some(i);
+        }
+    }
+    None
+}
+
 /// Each status of each call, but where memory is refused.
 #[test]
 fn each_status(rt: HostRuntime) -> Result<(), Fail> {
@@ -267,6 +457,20 @@ fn each_status(rt: HostRuntime) -> Result<(), Fail> {
     assert_eq!(rt; wrong_of_bytes(alloc, OF_BYTES), None);
     assert_eq!(rt; wrong_of_lines(alloc, OF_LINES), None);
     assert_eq!(rt; wrong_of_fields(alloc, OF_FIELDS), None);
+    assert_eq!(rt; wrong_of_hex(alloc, OF_HEX), None);
+    assert_eq!(rt; wrong_of_meanings(alloc, OF_MEANINGS), None);
+    assert_eq!(rt; wrong_of_groups(alloc, OF_GROUPS), None);
+    assert_eq!(rt; wrong_of_version(OF_VERSION), None);
+    Ok(())
+}
+
+/// How many characters are in front of the digits.
+#[test]
+fn fronts(rt: HostRuntime) -> Result<(), Fail> {
+    assert_eq!(rt; etcs_line_front(b"12:00:03 A113"), 8);
+    assert_eq!(rt; etcs_line_front(b"\xEF\xBB\xBF12 A113"), 2);
+    assert_eq!(rt; etcs_line_front(b"A113"), 0);
+    assert_eq!(rt; etcs_line_front(b"noon  "), 4);
     Ok(())
 }
 
@@ -287,6 +491,15 @@ static STARVED_LINES: &[OfLines] = &[(false, 3, LINE, 10, STARVED), (true, 3, b"
 
 static STARVED_FIELDS: &[OfFields] = &[(3, OWN, 6, 10, STARVED)];
 
+static STARVED_HEX: &[OfHex] = &[(b"A113", 2, STARVED)];
+
+static STARVED_MEANINGS: &[OfMeanings] = &[
+    (2, 16, 1180, 2, 7, STARVED),
+    (2, 23, 1023, 3, 9, STARVED),
+];
+
+static STARVED_GROUPS: &[OfGroups] = &[(&[(2, 0x12, 0x7F, 0)], BEFORE, 9, STARVED)];
+
 /// The status of each call where memory is refused.
 #[test]
 fn refused_memory(rt: HostRuntime) -> Result<(), Fail> {
@@ -295,9 +508,15 @@ fn refused_memory(rt: HostRuntime) -> Result<(), Fail> {
     let bytes = wrong_of_bytes(alloc, STARVED_BYTES);
     let lines = wrong_of_lines(alloc, STARVED_LINES);
     let fields = wrong_of_fields(alloc, STARVED_FIELDS);
+    let hex = wrong_of_hex(alloc, STARVED_HEX);
+    let meanings = wrong_of_meanings(alloc, STARVED_MEANINGS);
+    let groups = wrong_of_groups(alloc, STARVED_GROUPS);
     drop(held);
     assert_eq!(rt; bytes, None);
     assert_eq!(rt; lines, None);
     assert_eq!(rt; fields, None);
+    assert_eq!(rt; hex, None);
+    assert_eq!(rt; meanings, None);
+    assert_eq!(rt; groups, None);
     Ok(())
 }

@@ -7,6 +7,7 @@ ghost use Rattle.etcs_text.specs.Entries.{Spells, entry_value};
 ghost use Rattle.etcs_c.specs.Fields.{field, fields_of, is_run, joins, var_number};
 
 use crate::items::send_item;
+use crate::vars::var_number;
 use etcs_text::Entry;
 use etcs_vars::Var;
 use etcs_vars::inner::VarSink;
@@ -23,13 +24,6 @@ pub struct EtcsField {
     pub var: u32,
     /// How many bits its number takes.
     pub width: u32,
-}
-
-/// The number of a variable.
-fn var_number(var: Var) -> u32
-    ensures { result ≡ var_number var }
-{
-    var as u32
 }
 
 /// Whether bits of the variable are joined.

@@ -52,7 +52,7 @@ pub(crate) fn find(alloc: Global, kind: Kind, bytes: &[u8]) -> Found
 }
 
 /// What the bytes begin with, of telegrams of this size.
-fn find_telegram(alloc: Global, size: Size, bytes: &[u8]) -> Found
+pub(crate) fn find_telegram(alloc: Global, size: Size, bytes: &[u8]) -> Found
     ensures { Finds (kind_of size) (bits bytes.now) result }
 {
     let mut reader = TelegramReader::new(alloc, size);

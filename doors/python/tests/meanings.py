@@ -11,10 +11,14 @@ import sys
 HERE = os.path.dirname(os.path.abspath(__file__))
 TOP = os.path.join(HERE, "..", "..", "..")
 sys.dont_write_bytecode = True
-sys.path[:0] = [os.path.join(HERE, "..", "src"), HERE]
+sys.path[:0] = [os.path.join(HERE, "..", "src"), HERE, os.path.join(TOP, "tools")]
 import etcs
-from etcs._meanings import TEXTS, UNITS
+from sources import number_texts, units, variable
 from test_etcs import all_items
+
+#: the texts of numbers that have one, and the variables whose numbers have a unit, by the names of variables
+TEXTS = {variable(var).name: texts for var, texts in number_texts().items()}
+UNITS = {variable(var).name for var in units()}
 
 MIX = 150
 #: what a number means for what follows it, which a list of variables shows by itself

@@ -450,7 +450,7 @@ class Tests(unittest.TestCase):
         with self.assertRaises(etcs.Refused) as caught:
             etcs.encode(tree)
         self.assertEqual(caught.exception.fields, [])
-        self.assertIn(f"refused at bit {caught.exception.bit}, {caught.exception.variable}", caught.exception.reason)
+        self.assertIn(f"refused at bit {caught.exception.bit} of the item, {caught.exception.variable}", caught.exception.reason)
 
     def test_pieces(self):
         data = RADIO * 3

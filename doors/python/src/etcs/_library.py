@@ -6,6 +6,7 @@ import ctypes
 import os
 import threading
 from array import array
+from functools import lru_cache
 from itertools import accumulate, repeat
 from operator import attrgetter
 from typing import Any, List, NamedTuple, NoReturn, Optional, Tuple, Union
@@ -16,6 +17,8 @@ from ._variables import VARIABLES
 KINDS = {"long": 1, "short": 2, "radio": 3, "train": 4}
 
 _OK, _MORE, _REFUSED, _NO_ROOM, _NO_MEMORY, _UNKNOWN_KIND, _BAD_JSON, _BAD_FIELDS = range(8)
+#: why a line of hexadecimal says no bytes
+EMPTY_LINE, NO_DIGITS, ODD_DIGITS = 8, 9, 10
 _SENT = attrgetter("number", "var", "width")
 
 #: no item has more bytes
@@ -147,9 +150,14 @@ for _name, _types in {
     "etcs_explain": [_number, _bytes, _size, _out, _size, _answer],
     "etcs_fields_before": [_number, _bytes, _size, _out, _size, _answer],
     "etcs_explain_json": [_number, _bytes, _size, _out, _size, _answer],
+    "etcs_meaning": [_number, _number, ctypes.c_uint64, _number, _out, _size, _answer],
+    "etcs_line_bytes": [_bytes, _size, _out, _size, _answer],
+    "etcs_line_front": [_bytes, _size],
+    "etcs_assemble": [_out, _size, _out, _answer],
+    "etcs_version": [_out, _size, _answer],
 }.items():
     getattr(_lib, _name).argtypes = _types
-    getattr(_lib, _name).restype = _number
+    getattr(_lib, _name).restype = _size if _name == "etcs_line_front" else _number
 
 
 class _Buffers(threading.local):
@@ -331,3 +339,27 @@ def explain_json(line: bytes, kind: str) -> str:
     if status not in (_OK, _REFUSED, _BAD_JSON):
         _raise(status, answer, kind, b"", line)
     return text.decode()
+
+
+@lru_cache(maxsize=8192)
+def meaning(kind: str, var: int, number: int, scale: Optional[int]) -> str:
+    """What a number of a variable of an item of the kind means; "" where it has no meaning."""
+    status, answer, text = _call(_lib.etcs_meaning, KINDS[kind], var, number, scale if scale in (0, 1, 2) else 3)
+    if status:
+        _raise(status, answer, kind, b"")
+    return text.decode("ascii")
+
+
+def line_bytes(line: bytes) -> Tuple[int, bytes, int]:
+    """0 and the bytes that the digits of a line say; or why it says none, and how many digits it has if their number is odd."""
+    status, answer, data = _call(_lib.etcs_line_bytes, line, len(line))
+    if status not in (_OK, EMPTY_LINE, NO_DIGITS, ODD_DIGITS):
+        _raise(status, answer, "", b"")
+    return status, data, answer.taken
+
+
+def line_front(line: bytes) -> bytes:
+    """What is in front of the digits of a line."""
+    start = 3 if line.startswith(b"\xef\xbb\xbf") else 0
+    count: int = _lib.etcs_line_front(line, len(line))
+    return line[start:start + count]

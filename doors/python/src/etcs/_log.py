@@ -2,7 +2,6 @@
 
 from __future__ import annotations
 
-import re
 from typing import Any, Dict, Iterable, Iterator, List, NamedTuple, Optional, Sequence, Tuple, Union
 
 from . import _library
@@ -12,11 +11,6 @@ from ._values import Item, Kind, Telegram
 
 #: a longer line is bad
 _MOST_LINE = 1 << 20
-#: as many digits as the shortest message of a typed number has
-_ENOUGH = 20
-_WORD, _PART = re.compile(r"""[^ \t\r,;="'()\[\]{}<>]+"""), re.compile(r"[0-9A-Za-z]+")
-_COMMENT = re.compile(r"[ \t\r](?:#|;|//)")
-_HEX = re.compile(r"[0-9A-Fa-f]+\Z")
 _BYTES = {"long": 104, "short": 27}
 _BITS = {"long": 830, "short": 210}
 
@@ -47,95 +41,6 @@ class LogLine(NamedTuple):
         if self.fault is None:
             return ""
         return f"{self.fault}: {self.fault.reason}" if isinstance(self.fault, Refused) else str(self.fault)
-
-
-# ---- The digits of a line.
-
-
-class _Found(NamedTuple):
-    """The digits at an end of words, and where the first word begins that has some of them."""
-
-    digits: str
-    begin: int
-
-
-def _bare(word: str) -> str:
-    """A word without `0x` in front."""
-    return word[2:] if word[:2] in ("0x", "0X") else word
-
-
-def _is_size(count: int) -> bool:
-    return 0 < count <= 16 and count % 2 == 0
-
-
-def _is_group(word: str) -> bool:
-    return _is_size(len(word)) and _HEX.match(word) is not None
-
-
-def _groups(words: Sequence[Tuple[str, int]], count: int) -> _Found:
-    """Of the first `count` words the last ones that are groups of one size, of which the last may be smaller; or the last one,
-    if it is of digits."""
-    if count == 0:
-        return _Found("", 0)
-    last, begin = _bare(words[count - 1][0]), words[count - 1][1]
-    if not _is_group(last):
-        return _Found(last if _HEX.match(last) else "", begin)
-    size, taken = len(last), [last]
-    if count > 1:
-        before = len(_bare(words[count - 2][0]))
-        size = before if size <= before and _is_size(before) else size
-    for place in range(count - 2, -1, -1):
-        word = _bare(words[place][0])
-        if len(word) != size or not _HEX.match(word):
-            break
-        taken.append(word)
-        begin = words[place][1]
-    return _Found("".join(reversed(taken)), begin)
-
-
-def _parts(text: str, begin: int) -> _Found:
-    """The digits of a word: of its last parts, or of those before them where these are too few."""
-    bare = _bare(text)
-    skipped = begin + (2 if text[:2] in ("0x", "0X") else 0)
-    # a `0x` in front belongs to the first part
-    parts = [(it[0], skipped + it.start() if it.start() else begin) for it in _PART.finditer(bare)]
-    for count in range(len(parts), 0, -1):
-        found = _groups(parts, count)
-        if len(found.digits) >= _ENOUGH:
-            return found
-    return _groups(parts, len(parts))
-
-
-def _end(words: Sequence[Tuple[str, int]], count: int) -> _Found:
-    """The digits at the end of the first `count` words."""
-    if count == 0:
-        return _Found("", 0)
-    text, begin = words[count - 1]
-    if _is_group(_bare(text)):
-        return _groups(words, count)
-    return _parts(text, begin)
-
-
-def _digits_of(line: str) -> _Found:
-    """The digits of a line, by the rule of FORMAT.md: those before a comment, where they are enough, or of all of it."""
-    if len(line) % 2 == 0 and _HEX.match(line):
-        return _Found(line, 0)
-    comment = _COMMENT.search(line)
-    if comment:
-        found = _digits_in(line[:comment.start()])
-        if len(found.digits) >= _ENOUGH:
-            return found
-    return _digits_in(line)
-
-
-def _digits_in(text: str) -> _Found:
-    """The digits of a text."""
-    words = [(it[0], it.start()) for it in _WORD.finditer(text)]
-    for count in range(len(words), 0, -1):
-        found = _end(words, count)
-        if len(found.digits) >= _ENOUGH:
-            return found
-    return _end(words, len(words))
 
 
 # ---- What a line is.
@@ -230,21 +135,22 @@ def _count_fault(data: bytes, kinds: Sequence[Kind], messages: bool) -> str:
     return f"{text}, which no item of these kinds has" + (f": {length}" if messages and length else "")
 
 
-def _line(number: int, text: str, kinds: Sequence[Kind]) -> LogLine:
-    """What a line is that is neither blank nor a comment."""
-    found = _digits_of(text)
-    front = text[:found.begin].rstrip(" \t\r")
-    if not found.digits:
-        return LogLine(number, text.rstrip(" \t\r"), None, None, BadLine("no hexadecimal digits at its end"))
-    if len(found.digits) % 2:
-        count = len(found.digits)
+def _line(number: int, raw: bytes, kinds: Sequence[Kind]) -> Optional[LogLine]:
+    """What a line is; None where it is blank or a comment."""
+    status, data, count = _library.line_bytes(raw)
+    if status == _library.EMPTY_LINE:
+        return None
+    front = _library.line_front(raw).decode("utf-8", "replace")
+    if status == _library.NO_DIGITS:
+        return LogLine(number, front, None, None, BadLine("no hexadecimal digits at its end"))
+    if status == _library.ODD_DIGITS:
         return LogLine(number, front, None, None, BadLine(f"{count} digit{'' if count == 1 else 's'}, an odd number"))
-    data = bytes.fromhex(found.digits)
-    for kind, candidate in _candidates(found.digits, data, kinds):
+    digits = data.hex()
+    for kind, candidate in _candidates(digits, data, kinds):
         item = _if_item(candidate, kind)
         if item is not None:
             return LogLine(number, front, kind, item, None)
-    return LogLine(number, front, None, None, _fault(found.digits, data, kinds))
+    return LogLine(number, front, None, None, _fault(digits, data, kinds))
 
 
 def read_log(lines: Iterable[Union[str, bytes]], kinds: Union[str, Iterable[Kind]]) -> Iterator[LogLine]:
@@ -266,12 +172,10 @@ def read_log(lines: Iterable[Union[str, bytes]], kinds: Union[str, Iterable[Kind
         if len(line) > _MOST_LINE // 4 and _length(line) > _MOST_LINE:
             yield LogLine(number, "", None, None, BadLine(f"more than {_MOST_LINE} characters"))
             continue
-        text = line if isinstance(line, str) else bytes(line).decode("utf-8", "replace")
-        text = text.rstrip("\n")
-        text = text[1:] if text[:1] == "\ufeff" else text
-        first = text.lstrip(" \t\r")
-        if first and first[0] != "#":
-            yield _line(number, text, asked)
+        raw = line.encode("utf-8", "replace") if isinstance(line, str) else bytes(line)
+        found = _line(number, raw.rstrip(b"\n"), asked)
+        if found is not None:
+            yield found
 
 
 def _length(line: Union[str, bytes]) -> int:

@@ -1,0 +1,138 @@
+//! Balise groups.
+
+ghost use Rattle.std.specs.Prelude.{◌≡◌, ◌⊎◌, ◌↔◌, ℕ, Bool, List, ◌∷◌, map, IfSome, IsNone, true};
+ghost use Rattle.etcs_telegram.specs.declared.size.Size.{Size};
+ghost use Rattle.etcs_telegram.specs.Telegrams.{TelegramContent};
+ghost use Rattle.etcs_text.specs.Entries.{kind_of};
+ghost use Rattle.etcs_group.specs.declared.clash.Clash.{Clash};
+ghost use Rattle.etcs_group.specs.Clashes.{IsFirstClash};
+ghost use Rattle.etcs_group.specs.Groups.{IsHeldOf, Joins};
+ghost use Rattle.etcs_c.specs.Answers.{kind_number};
+ghost use Rattle.etcs_c.specs.Groups.{IsOf, IsState, SaysGroup, SaysUnheld, clash_status, flag};
+
+use crate::answer::{
+    CLASH_COUNTER, CLASH_DIFFERS, CLASH_DUPLICATE, CLASH_GROUP, CLASH_POSITION, CLASH_TOTAL,
+    EtcsAnswer, UNKNOWN_KIND, WHOLE,
+};
+use crate::found::{Found, find_telegram, say};
+use etcs_group::{Assembly, Clash, Telegram};
+use etcs_telegram::Size;
+use etcs_text::Entry;
+use std::alloc::Global;
+
+/// A telegram of either size.
+#[repr(C)]
+#[derive(Clone, Copy)]
+pub struct EtcsTelegram {
+    /// Its kind.
+    pub kind: u32,
+    /// Its bytes: of a short one the first 27.
+    pub bytes: [u8; 104],
+}
+
+/// What telegrams of a group make together.
+#[repr(C)]
+#[derive(Drop)]
+pub struct EtcsGroup {
+    /// Of each of the positions 0 to 7: 1 where it is missing, else 0.
+    pub missing: [u8; 8],
+    /// 1 where there is a telegram and no position is missing, else 0.
+    pub is_complete: u32,
+}
+
+/// The size of the telegrams of this kind.
+fn size_of(kind: u32) -> Option<Size>
+    ensures some { IfSome result (λ size. kind_number (kind_of size) ≡ kind) }
+    ensures none { IsNone result → (size : Size) → kind_number (kind_of size) ≡ kind → ⊥ }
+{
+    match kind {
+        1 => Some(Size::Long),
+        2 => Some(Size::Short),
+        _ => None,
+    }
+}
+
+/// The status of a clash.
+fn clash_status(clash: Clash) -> u32
+    ensures { result ≡ clash_status clash }
+{
+    match clash {
+        Clash::BadPosition => CLASH_POSITION,
+        Clash::BadDuplicate => CLASH_DUPLICATE,
+        Clash::OtherGroup => CLASH_GROUP,
+        Clash::OtherTotal => CLASH_TOTAL,
+        Clash::Counter => CLASH_COUNTER,
+        Clash::Differs => CLASH_DIFFERS,
+    }
+}
+
+/// Holds a telegram where it belongs to those that are held, or answers its clash.
+fn hold(telegram: Telegram, assembly: &mut Assembly) -> u32
+    ensures held { (earlier : List TelegramContent) → IsHeldOf earlier assembly.old → IsHeldOf (telegram ∷ earlier) assembly.new }
+    ensures status { ((result ≡ 0) × Joins assembly.old telegram) ⊎ ((c : Clash) × IsFirstClash c assembly.old telegram × (result ≡ clash_status c)) }
+{
+    match assembly.add(telegram) {
+        Ok(_) => WHOLE,
+        Err((clash, _)) => clash_status(clash),
+    }
+}
+
+/// Holds a telegram where its bytes are one that belongs to those that are held, or answers why it isn't held.
+fn add(
+    alloc: Global,
+    telegram: &EtcsTelegram,
+    assembly: &mut Assembly,
+    answer: &mut EtcsAnswer,
+) -> u32
+    ensures { ((t : TelegramContent) × IsOf telegram.now t × Joins assembly.old t × ((earlier : List TelegramContent) → IsHeldOf earlier assembly.old → IsHeldOf (t ∷ earlier) assembly.new) × (result ≡ 0)) ⊎ ((result ≡ 0 → ⊥) × SaysUnheld telegram.now assembly.old result answer.new) }
+{
+    let Some(size) = size_of(telegram.kind) else {
+        return UNKNOWN_KIND;
+    };
+    match find_telegram(alloc, size, &telegram.bytes) {
+        Found::Whole { entry, .. } => match entry {
+            Entry::Telegram(telegram) => hold(telegram, assembly),
+            _ => unreachable!(),
+        },
+        found => say(&found, answer),
+    }
+}
+
+/// Writes 1 for each that is true, else 0.
+fn write_flags(marked: &[bool; 8], out: &mut [u8; 8])
+    ensures { out.new ≡ map flag marked.now }
+{
+    for position in 0..8 {
+        out[position] = u8::from(marked[position]);
+    }
+}
+
+/// Writes which positions are missing.
+fn write_state(assembly: &Assembly, group: &mut EtcsGroup)
+    ensures { IsState assembly.now group.new }
+{
+    write_flags(&assembly.missing(), &mut group.missing);
+    group.is_complete = u32::from(assembly.is_complete());
+}
+
+/// Holds telegrams one after another, up to the first that isn't held, and writes what they make together.
+#[tactic(auto, using(crate::proofs::Holding::none_held))]
+pub(crate) fn assemble(
+    alloc: Global,
+    telegrams: &[EtcsTelegram],
+    group: &mut EtcsGroup,
+    answer: &mut EtcsAnswer,
+) -> u32
+    ensures { SaysGroup telegrams.now group.old group.new result answer.new }
+{
+    let mut assembly = Assembly::new();
+    for (i, telegram) in telegrams.iter().enumerate() {
+        let status = add(alloc, telegram, &mut assembly, answer);
+        if status != WHOLE {
+            answer.taken = i;
+            return status;
+        }
+    }
+    write_state(&assembly, group);
+    WHOLE
+}

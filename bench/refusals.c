@@ -1,7 +1,8 @@
 /* Looks for the dearest refusals of the library for C: bench/refusals builds and runs it.
  *
- *     refusals SECONDS SEED     reads lines KIND HEX, and writes the dearest refused input of each kind and call that it found
- *     refusals price            reads the same lines and makes each call once, for callgrind
+ *     refusals SECONDS SEED CALLS MOST     reads lines KIND HEX, and writes the MOST dearest refused inputs of each kind and of
+ *                                          each of the first CALLS calls that it found
+ *     refusals price CALLS                 reads the same lines and makes each of the first CALLS calls once, for callgrind
  *
  * A price is how many compares and switches of the library's code a call runs. The inputs of each kind are kept in lists, a list for each
  * call with the dearest refused ones, and one with items and fronts of them that are dear to check; each is changed, and
@@ -29,6 +30,7 @@ typedef struct input {
 
 static input kept[KINDS][LISTS][KEPT];
 static uint64_t compares, tried;
+static size_t called = CALLED;
 
 /* ---- What the library's code calls, at each compare and switch, and once for its counters. */
 
@@ -129,7 +131,7 @@ static void try_input(etcs_kind kind, input *in)
         return;
     }
     keep(lists[0], in);
-    for (size_t which = 1; which < CALLED; which++) {
+    for (size_t which = 1; which < called; which++) {
         priced(which, kind, in);
         keep(lists[which], in);
     }
@@ -139,7 +141,8 @@ static void try_input(etcs_kind kind, input *in)
 
 static const input *any_kept(etcs_kind kind)
 {
-    const input *list = kept[kind - 1][chance(LISTS)], *one = &list[chance(KEPT)], *other = &list[chance(KEPT)];
+    size_t which = chance(called + 1);
+    const input *list = kept[kind - 1][which < called ? which : CALLED], *one = &list[chance(KEPT)], *other = &list[chance(KEPT)];
     return one->price > other->price ? one : other;
 }
 
@@ -193,41 +196,51 @@ static int read_input(etcs_kind *kind, input *in)
     return *kind <= KINDS;
 }
 
-static void write_input(etcs_kind kind, size_t which, const input *in)
+static int is_cheaper(const void *one, const void *other)
 {
-    printf("%s %s %" PRIu64 " ", kind_names[kind - 1], call_names[which], in->price);
-    for (size_t i = 0; i < in->len; i++)
-        printf("%02X", in->bytes[i]);
-    printf("\n");
+    uint64_t a = ((const input *)one)->price, b = ((const input *)other)->price;
+    return (a < b) - (a > b);
+}
+
+static void write_dearest(etcs_kind kind, size_t which, size_t most)
+{
+    input *list = kept[kind - 1][which];
+    qsort(list, KEPT, sizeof *list, is_cheaper);
+    for (size_t i = 0; i < most && i < KEPT && list[i].len; i++) {
+        printf("%s %s %" PRIu64 " ", kind_names[kind - 1], call_names[which], list[i].price);
+        for (size_t at = 0; at < list[i].len; at++)
+            printf("%02X", list[i].bytes[at]);
+        printf("\n");
+    }
+}
+
+static void price(void)
+{
+    static input in;
+    for (etcs_kind kind; read_input(&kind, &in);)
+        for (size_t which = 0; which < called; which++)
+            call(which, kind, &in);
 }
 
 int main(int count, char **words)
 {
     static input in;
     etcs_kind kind;
-    int is_price = count == 2 && !strcmp(words[1], "price");
-    if (count != 3 && !is_price)
+    int is_price = count == 3 && !strcmp(words[1], "price");
+    if (count != 5 && !is_price)
         return 2;
-    if (!is_price)
-        chance_state = strtoull(words[2], NULL, 10) * 2 + 1;
-    while (read_input(&kind, &in))
-        if (is_price)
-            for (size_t which = 0; which < CALLED; which++)
-                call(which, kind, &in);
-        else
-            try_input(kind, &in);
+    called = strtoul(words[is_price ? 2 : 3], NULL, 10);
+    if (called < 1 || called > CALLED)
+        return 2;
     if (is_price)
-        return 0;
+        return price(), 0;
+    chance_state = strtoull(words[2], NULL, 10) * 2 + 1;
+    while (read_input(&kind, &in))
+        try_input(kind, &in);
     search(atof(words[1]));
     for (kind = 1; kind <= KINDS; kind++)
-        for (size_t which = 0; which < CALLED; which++) {
-            const input *most = kept[kind - 1][which];
-            for (size_t i = 0; i < KEPT; i++)
-                if (kept[kind - 1][which][i].price > most->price)
-                    most = &kept[kind - 1][which][i];
-            if (most->len)
-                write_input(kind, which, most);
-        }
+        for (size_t which = 0; which < called; which++)
+            write_dearest(kind, which, strtoul(words[4], NULL, 10));
     fprintf(stderr, "%" PRIu64 " calls\n", tried);
     return 0;
 }

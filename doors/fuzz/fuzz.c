@@ -1,9 +1,10 @@
 /* A fuzz target over the library for C: doors/fuzz/run builds and runs it.
  *
  * An input is a byte that says the kind and what follows: the bytes of items one after another, a line of JSON, or fields
- * of ten bytes each. What is asked of each call, and of the calls together, is in try_bytes, try_line and try_fields.
- * Whatever doesn't hold is written, and ends the process by abort.
+ * of ten bytes each. The top bit of that byte says that memory is refused often. What is asked of each call, and of the
+ * calls together, is in try_bytes, try_line and try_fields. Whatever doesn't hold is written, and ends the process by abort.
  */
+#define _GNU_SOURCE
 #include "fuzz.h"
 #include "mutate.h"
 
@@ -48,15 +49,20 @@ void __real_free(void *old);
 static int is_inside;
 static size_t live, taken_times, refused_from, refused_to;
 
-static int refuses(void)
+/* Which of the allocations are of 512 bytes or more, as those of texts that grow; none is noted while some are refused. */
+static size_t large[64], larges;
+
+static int refuses(size_t size)
 {
     taken_times++;
+    if (size >= 512 && !refused_from && larges < sizeof large / sizeof *large)
+        large[larges++] = taken_times;
     return taken_times >= refused_from && taken_times < refused_to;
 }
 
 void *__wrap_malloc(size_t size)
 {
-    if (is_inside && refuses())
+    if (is_inside && refuses(size))
         return NULL;
     void *made = __real_malloc(size);
     live += is_inside && made;
@@ -65,7 +71,7 @@ void *__wrap_malloc(size_t size)
 
 void *__wrap_realloc(void *old, size_t size)
 {
-    if (is_inside && refuses())
+    if (is_inside && refuses(size))
         return NULL;
     void *made = __real_realloc(old, size);
     live += is_inside && made && !old;
@@ -95,10 +101,11 @@ static void make_areas(void)
     }
 }
 
+/* The last bytes of a buffer, this many; of none it is a null pointer every other time. */
 static uint8_t *area(int which, size_t size)
 {
     HOLDS(size <= AREA);
-    return area_end[which] - size;
+    return size || chance(2) ? area_end[which] - size : NULL;
 }
 
 /* ---- One call. */
@@ -108,9 +115,13 @@ static size_t unit_of(int which)
     return which == FIELDS || which == FIELDS_BEFORE ? sizeof(etcs_field) : 1;
 }
 
-static uint64_t number_of(etcs_kind kind)
+/* The number of the item for `show`. */
+static uint64_t item_number;
+
+static uint64_t any_number(void)
 {
-    return kind * 1000003ull;
+    static const uint64_t numbers[] = {0, 9, 10, UINT32_MAX, UINT64_MAX};
+    return chance(2) ? numbers[chance(sizeof numbers / sizeof *numbers)] : chance(UINT64_MAX);
 }
 
 static etcs_status call(int which, etcs_kind kind, const uint8_t *in, size_t len, uint8_t *out, size_t room, etcs_answer *a)
@@ -119,7 +130,7 @@ static etcs_status call(int which, etcs_kind kind, const uint8_t *in, size_t len
     is_inside = 1;
     switch (which) {
     case CHECK: status = etcs_check(kind, in, len, a); break;
-    case SHOW: status = etcs_show(kind, number_of(kind), in, len, out, room, a); break;
+    case SHOW: status = etcs_show(kind, item_number, in, len, out, room, a); break;
     case TO_JSON: status = etcs_to_json(kind, in, len, out, room, a); break;
     case FROM_JSON: status = etcs_from_json(kind, in, len, out, room, a); break;
     case FIELDS: status = etcs_fields(kind, in, len, (etcs_field *)(void *)out, room, a); break;
@@ -166,18 +177,32 @@ static result call_with(int which, etcs_kind kind, const uint8_t *in, size_t len
     return r;
 }
 
-/* Each of the first allocations refused, alone or with all later ones: the answer is the same, or NO_MEMORY. */
+/* Whether up to 200 allocations of each call are refused, and not 12 of some calls. */
+static int is_starved;
+
+/* Which allocation is refused as number i, of so many: each, or else every other one of the large ones, or by chance. */
+static size_t refused_at(size_t i, size_t most, size_t all)
+{
+    if (all <= most)
+        return i;
+    return larges && i % 2 ? large[chance(larges)] : 1 + chance(all);
+}
+
+/* Allocations refused, alone or with all later ones: the answer is the same, or NO_MEMORY. */
 static void refuse_memory(int which, etcs_kind kind, const uint8_t *in, size_t len, size_t room, const result *wanted)
 {
     int with_later = chance(2) == 0;
-    for (size_t at = 1; at <= 12; at++) {
+    size_t most = !is_starved ? 12 : len < 400 ? 200 : 40;
+    taken_times = larges = 0;
+    call_with(which, kind, in, len, room, 0);
+    for (size_t i = 1, all = taken_times; i <= most && i <= all; i++) {
+        size_t at = refused_at(i, most, all);
         taken_times = 0, refused_from = at, refused_to = with_later ? (size_t)-1 : at + 1;
         result r = call_with(which, kind, in, len, room, 0);
         refused_from = refused_to = 0;
-        HOLDS(r.status == ETCS_NO_MEMORY ? taken_times >= at
-                                         : r.status == wanted->status && r.answer.taken == wanted->answer.taken && r.answer.written == wanted->answer.written);
-        if (taken_times < at)
-            return;
+        HOLDS(taken_times >= at);
+        HOLDS(r.status == ETCS_NO_MEMORY
+              || (r.status == wanted->status && r.answer.taken == wanted->answer.taken && r.answer.written == wanted->answer.written));
     }
 }
 
@@ -195,7 +220,7 @@ static result ask(int which, etcs_kind kind, const void *data, size_t len)
         result less = call_with(which, kind, in, len, wanted - 1 - chance(wanted), chance(40));
         HOLDS(less.status == ETCS_NO_ROOM && less.answer.written == wanted && less.answer.taken == r.answer.taken);
         HOLDS(less.answer.bit == r.answer.bit && !strcmp(less.answer.var, r.answer.var));
-        if (chance(16) == 0) {
+        if (is_starved || chance(16) == 0) {
             result full = call_with(which, kind, in, len, wanted, 0);
             refuse_memory(which, kind, in, len, wanted, &full);
         }
@@ -204,8 +229,11 @@ static result ask(int which, etcs_kind kind, const void *data, size_t len)
         HOLDS(more.status == same.status && more.answer.written == wanted);
         HOLDS(same.status != ETCS_NO_ROOM && same.answer.written == wanted && same.answer.taken == r.answer.taken);
         r = same;
-    } else if (which != CHECK)
-        HOLDS(r.answer.written == 0);
+    } else {
+        HOLDS(which == CHECK || r.answer.written == 0);
+        if (is_starved || chance(16) == 0)
+            refuse_memory(which, kind, in, len, 0, &r);
+    }
     HOLDS(memcmp(in, data, size) == 0);
     return r;
 }
@@ -299,7 +327,7 @@ static int shows(etcs_kind kind, const uint8_t *out, size_t len, const etcs_fiel
     lines text = {out, out + len};
     char line[80];
     size_t at = 0, bits = kind == ETCS_LONG ? 830 : kind == ETCS_SHORT ? 210 : 8 * taken;
-    snprintf(line, sizeof line, "item %llu %s %zu bits", (unsigned long long)number_of(kind), names[kind], bits);
+    snprintf(line, sizeof line, "item %llu %s %zu bits", (unsigned long long)item_number, names[kind], bits);
     int holds = takes(&text, line);
     while (holds && at < count) {
         uint32_t var = fields[at].var;
@@ -430,8 +458,6 @@ static void try_bytes(etcs_kind kind, const uint8_t *bytes, size_t len)
     static const int calls[] = {SHOW, TO_JSON, FIELDS, EXPLAIN, FIELDS_BEFORE};
     result r = ask(CHECK, kind, bytes, len);
     HOLDS(r.status == ETCS_OK || r.status == ETCS_MORE || r.status == ETCS_REFUSED);
-    if (chance(8) == 0)
-        refuse_memory(CHECK, kind, area(INPUT, len), len, 0, &r);
     int which = calls[chance(5)];
     result other = ask(which, kind, bytes, len);
     HOLDS(is_same(&other, &r));
@@ -444,7 +470,57 @@ static void try_bytes(etcs_kind kind, const uint8_t *bytes, size_t len)
         HOLDS(len < (kind == ETCS_LONG ? 104 : kind == ETCS_SHORT ? 27 : ETCS_MOST_BYTES));
     if (chance(4) == 0)
         try_pieces(kind, bytes, len);
-    HOLDS(ask(CHECK, 5 + (etcs_kind)chance(1u << 31), bytes, len).status == ETCS_UNKNOWN_KIND);
+}
+
+/* Blanks after a line change nothing, but that why it is no item isn't looked for in one of more than 65,536 bytes. */
+static void try_blanks(etcs_kind kind, const uint8_t *line, size_t len, etcs_status wanted)
+{
+    static uint8_t longer[80000];
+    size_t size = 65530 + chance(12) + (chance(2) ? chance(14000) : 0);
+    if (len > size)
+        return;
+    memcpy(longer, line, len);
+    memset(longer + len, ' ', size - len);
+    HOLDS(ask(FROM_JSON, kind, longer, size).status == wanted);
+    result why = ask(EXPLAIN_JSON, kind, longer, size);
+    HOLDS(why.status == wanted && (wanted == ETCS_OK || is_sentence(why.out, why.answer.written)));
+}
+
+/* Writes the same JSON with blanks after some marks, and with some letters and digits of texts as escapes; answers how many bytes. */
+static size_t respell(const uint8_t *line, size_t len, uint8_t *out)
+{
+    size_t at = 0, from = 0;
+    int is_text = 0;
+    while (from < len) {
+        uint8_t c = line[from++];
+        if (is_text && (c >= '0' && c <= 'z') && c != '\\' && chance(8) == 0) {
+            at += (size_t)sprintf((char *)out + at, "\\u%04x", c);
+            continue;
+        }
+        out[at++] = c;
+        if (is_text && c == '\\')
+            for (size_t more = from < len && line[from] == 'u' ? 5 : 1; more-- && from < len;)
+                out[at++] = line[from++];
+        is_text ^= c == '"';
+        if (!is_text && c && strchr("{}[],:", c) && chance(4) == 0)
+            out[at++] = " \t\r"[chance(3)];
+    }
+    return at;
+}
+
+/* JSON in another spelling says the same, and is wrong for the same reason where a column isn't part of that. */
+static void try_respelled(etcs_kind kind, const uint8_t *line, size_t len, const result *wanted, const result *why)
+{
+    static uint8_t other[6 * MOST_INPUT], made[ETCS_MOST_BYTES], sentence[1 << 13];
+    size_t count = wanted->answer.written, size = respell(line, len, other), said = why->answer.written;
+    memcpy(made, wanted->out, count);
+    memcpy(sentence, why->out, said < sizeof sentence ? said : 0);
+    result r = ask(FROM_JSON, kind, other, size);
+    HOLDS(r.status == wanted->status && r.answer.written == count && !memcmp(r.out, made, count));
+    result reason = ask(EXPLAIN_JSON, kind, other, size);
+    HOLDS(is_same(&reason, why));
+    if (size < 1 << 16 && said < sizeof sentence && !memmem(sentence, said, " column ", 8))
+        HOLDS(reason.answer.written == said && !memcmp(reason.out, sentence, said));
 }
 
 /* A line is the JSON of an item, or has a reason why not. */
@@ -455,16 +531,27 @@ static void try_line(etcs_kind kind, const uint8_t *line, size_t len)
     result why = ask(EXPLAIN_JSON, kind, line, len);
     HOLDS(r.status == ETCS_OK || r.status == ETCS_BAD_JSON || r.status == ETCS_REFUSED);
     HOLDS(is_same(&why, &(result){r.status, {.taken = why.answer.taken, .bit = r.answer.bit}, NULL}) || r.status == ETCS_REFUSED);
-    if (r.status != ETCS_OK) {
-        HOLDS(is_sentence(why.out, why.answer.written));
-        return;
-    }
+    HOLDS(r.status == ETCS_OK || is_sentence(why.out, why.answer.written));
     size_t count = r.answer.written;
     HOLDS(count <= sizeof made);
     memcpy(made, r.out, count);
+    if (chance(2) == 0)
+        try_respelled(kind, line, len, &r, &why);
+    if (chance(64) == 0)
+        try_blanks(kind, line, len, r.status);
+    if (r.status != ETCS_OK)
+        return;
     result item = ask(CHECK, kind, made, count);
     HOLDS(item.status == ETCS_OK && item.answer.taken == count);
     try_item(kind, made, count);
+}
+
+/* No call knows another kind. */
+static void try_unknown(const uint8_t *data, size_t size)
+{
+    int which = (int)chance(CALLS);
+    etcs_kind kind = chance(8) ? 5 + (etcs_kind)chance(1u << 31) : 0;
+    HOLDS(ask(which, kind, data, size / (which == FROM_FIELDS ? sizeof(etcs_field) : 1)).status == ETCS_UNKNOWN_KIND);
 }
 
 int LLVMFuzzerTestOneInput(const uint8_t *data, size_t size)
@@ -475,11 +562,15 @@ int LLVMFuzzerTestOneInput(const uint8_t *data, size_t size)
     if (size < 1 || size > MOST_INPUT)
         return 0;
     begin_chance(data, size, 0);
+    item_number = any_number();
+    is_starved = data[0] >= STARVED;
     etcs_kind kind = 1 + data[0] % 4;
     switch (data[0] / 4 % 4) {
     case LINE: try_line(kind, data + 1, size - 1); break;
     case SENT: try_fields(kind, fields, fields_in(data + 1, size - 1, fields)); break;
     default: try_bytes(kind, data + 1, size - 1);
     }
+    if (chance(4) == 0)
+        try_unknown(data, size);
     return 0;
 }

@@ -10,6 +10,9 @@ enum { CHECK, SHOW, TO_JSON, FROM_JSON, FIELDS, FROM_FIELDS, EXPLAIN, FIELDS_BEF
 /* What follows the first byte of an input, by the two bits above its kind. */
 enum { ITEMS, LINE, SENT };
 
+/* The first bytes from this one on: many allocations of each call are refused, one after another. */
+enum { STARVED = 0x80 };
+
 enum { MOST_INPUT = 1 << 16 };
 
 /* A number below this one, as the input decides. */

@@ -19,6 +19,7 @@ KINDS = ("long", "short", "radio", "train")  # by their numbers, from 1
 OTHER_NAMES = {"message": "radio", "train_message": "train"}
 FORMS = ("items", "line", "fields")  # by their numbers, of fuzz.h
 ITEMS, LINE = 0, 1
+STARVED = 32  # what is added to the number of a form where memory is refused often
 
 
 def kind_of(words):
@@ -46,10 +47,24 @@ def seeds():
 
 
 def written():
-    """Yields the inputs of seeds.txt: a line KIND FORM and then JSON, or bytes in hexadecimal."""
+    """Yields the inputs of seeds.txt: a line KIND FORM and then bytes in hexadecimal, or after `line` JSON.
+
+    Bytes of a line that isn't text are the form `bytes`; `starved-` before a form says that memory is refused often.
+    """
     with open(f"{TOP}/doors/fuzz/seeds.txt", encoding="utf-8") as file:
-        for kind, form, text in (line.rstrip("\n").split(" ", 2) for line in file if not line.startswith("#")):
-            yield kind, FORMS.index(form), text.encode() if form == "line" else bytes.fromhex(text)
+        for kind, word, text in (line.rstrip("\n").split(" ", 2) for line in file if not line.startswith("#")):
+            name = word.removeprefix("starved-")
+            form = LINE if name == "bytes" else FORMS.index(name)
+            yield kind, form + (STARVED if name != word else 0), text.encode() if name == "line" else bytes.fromhex(text)
+
+
+def long_ones():
+    """Yields inputs that are too long for seeds.txt: bits for more bytes than a message has, and objects of many members."""
+    yield "radio", LINE, b'{"data":"' + b"0" * 8174 + b'","kind":"radio","nid":15}'
+    for count in (12, 40, 300):
+        for places in (range(count), range(count, 0, -1), [7 * it % 401 for it in range(count)]):
+            members = ",".join(f'"k{it:03}":{it}' for it in places)
+            yield "radio", LINE, f'{{"kind":"radio","nid":24,{members}}}'.encode()
 
 
 def item(kind, digits):
@@ -62,7 +77,7 @@ def main(words):
     if len(words) != 1 or words[0].startswith("-"):
         sys.exit(__doc__)
     os.makedirs(words[0], exist_ok=True)
-    found = {bytes([KINDS.index(kind) + 4 * form]) + data for kind, form, data in [*seeds(), *written()]}
+    found = {bytes([KINDS.index(kind) + 4 * form]) + data for kind, form, data in [*seeds(), *written(), *long_ones()]}
     for data in found:
         with open(f"{words[0]}/{hashlib.sha1(data).hexdigest()}", "wb") as file:
             file.write(data)

@@ -446,8 +446,8 @@ def check_install(room):
     wanted |= {"share/bash-completion/completions/etcs", "share/zsh/site-functions/_etcs", "share/fish/vendor_completions.d/etcs.fish"}
     for words, where, sums, docs in (
         (["in to"], "in to", "SHA256SUMS", "docs"),
-        (["--prefix", "usr/local"], "usr/local", "share/doc/etcs/SHA256SUMS", "share/doc/etcs"),
-        (["--prefix=usr/local"], "usr/local", "share/doc/etcs/SHA256SUMS", "share/doc/etcs"),
+        (["--prefix", "usr/local"], "usr/local", "share/doc/etcs/SHA256SUMS", "share/doc/etcs/docs"),
+        (["--prefix=usr/local"], "usr/local", "share/doc/etcs/SHA256SUMS", "share/doc/etcs/docs"),
     ):
         if where == "usr/local":
             room.write("usr/local/bin/other", "kept")

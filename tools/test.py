@@ -8,7 +8,7 @@ RT is the path of `rt`. What the parts ask is built first, without a proof, wher
 
     vectors      every vector, by `etcs_vectors`, and how many there are of each kind
     commands     the vectors that a command line can answer, by `etcs` (tools/vectors.py)
-    stack        the same with 96 KB of stack
+    stack        the same with 64 KB of stack
     sentences    whether each sentence of `explain` and `log` is in a vector (tools/sentences.py)
     schema       docs/etcs.schema.json against the tables, the vectors and what the program writes (tools/schema.py)
     documents    the commands and the quoted files of all documents (tools/doc_examples.py)
@@ -62,7 +62,7 @@ PROGRAM_SCRIPTS = {
     "chance": ["fuzz.py", "--seconds", "10"],
     "found": ["fuzz_test.py"],
     "commands": ["vectors.py"],
-    "stack": ["vectors.py", "sh", "-c", 'ulimit -s 96 && exec "$@"', "sh"],
+    "stack": ["vectors.py", "sh", "-c", 'ulimit -s 64 && exec "$@"', "sh"],
     "script": ["script_test.py"],
     "streams": ["stream_test.py"],
     "documents": ["doc_examples.py", "--check"],

@@ -1,11 +1,11 @@
 -- Telegrams of a group one after another.
-use Rattle.std.proofs.Common.{◌≡◌, ◌+◌, ◌<◌, ℕ, List, [], ◌∷◌, ◌++◌, take, length, reverse, get_or, sym, ap, subst, ◌∙◌, refl, arith, inl, inr}
+use Rattle.std.proofs.Common.{◌≡◌, ◌+◌, ◌<◌, ℕ, List, [], ◌∷◌, take, length, reverse, get_or, sym, ap, subst, ◌∙◌, refl, arith, inl, inr}
 use Rattle.std.specs.Prelude.{Option, Some, slice_get}
 use Rattle.std.proofs.lemmas.List.{reverse-append, take_more}
 use Rattle.std.proofs.lemmas.Option.{slice_get-get_or}
 use Rattle.etcs_telegram.specs.Telegrams.{TelegramContent}
 use Rattle.etcs_text.specs.declared.entry.Entry.{Entry}
-use Rattle.etcs_group.specs.Groups.{HeldOf, Holds, HoldsNone, IsHeldOf, Joins, JoinsSet}
+use Rattle.etcs_group.specs.Groups.{HeldOf, HoldsNone, IsHeldOf, Joins, JoinsSet}
 use Rattle.etcs_c.specs.declared.answer.EtcsAnswer.{EtcsAnswer}
 use Rattle.etcs_c.specs.declared.groups.EtcsTelegram.{EtcsTelegram}
 use Rattle.etcs_c.specs.declared.found.Found.{Found}

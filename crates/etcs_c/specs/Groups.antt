@@ -1,5 +1,5 @@
 -- What telegrams of a balise group make together, one after another.
-use Rattle.std.specs.Prelude.{◌≡◌, ◌↔◌, ◌⊎◌, ◌<◌, ◌*◌, ℕ, Bool, true, false, List, [], ◌∷◌, length, map, reverse, take, slice_get, Option, Some}
+use Rattle.std.specs.Prelude.{◌≡◌, ◌↔◌, ◌⊎◌, ◌*◌, ℕ, Bool, true, false, List, [], ◌∷◌, map, reverse, take, slice_get, Option, Some}
 use Rattle.etcs_bits.specs.Bits.{bits}
 use Rattle.etcs_vars.specs.Reading.{IsOutcome, done}
 use Rattle.etcs_telegram.specs.declared.size.Size.{Size}

@@ -1,6 +1,6 @@
 //! Balise groups.
 
-ghost use Rattle.std.specs.Prelude.{◌≡◌, ◌⊎◌, ◌↔◌, ℕ, Bool, List, ◌∷◌, map, IfSome, IsNone, true};
+ghost use Rattle.std.specs.Prelude.{◌≡◌, ◌⊎◌, List, ◌∷◌, map, IfSome, IsNone};
 ghost use Rattle.etcs_telegram.specs.declared.size.Size.{Size};
 ghost use Rattle.etcs_telegram.specs.Telegrams.{TelegramContent};
 ghost use Rattle.etcs_text.specs.Entries.{kind_of};

@@ -39,7 +39,8 @@ pub(crate) struct LogLines {
 }
 
 impl LogLines {
-    /// No line has come.
+    /// No line has come. Not inlined, so that what it is made of isn't on the stack while lines are read.
+    #[inline(never)]
     pub(crate) fn new(alloc: Global, job: LogJob) -> LogLines
         ensures job { result.answers.job ≡ job }
         ensures took { LogTook job result.answers.line result.answers.seen [] [] }

@@ -379,6 +379,61 @@ void try_fields(etcs_kind kind, const etcs_field *fields, size_t count)
     HOLDS(memcmp(back.out, fields, count * sizeof *fields) == 0);
 }
 
+/* Writes the same JSON with blanks after some marks, and with some letters and digits of texts as escapes; answers how many bytes. */
+static size_t respell(const uint8_t *line, size_t len, uint8_t *out)
+{
+    size_t at = 0, from = 0;
+    int is_text = 0;
+    while (from < len) {
+        uint8_t c = line[from++];
+        if (is_text && (c >= '0' && c <= 'z') && c != '\\' && chance(8) == 0) {
+            at += (size_t)sprintf((char *)out + at, "\\u%04x", c);
+            continue;
+        }
+        out[at++] = c;
+        if (is_text && c == '\\')
+            for (size_t more = from < len && line[from] == 'u' ? 5 : 1; more-- && from < len;)
+                out[at++] = line[from++];
+        is_text ^= c == '"';
+        if (!is_text && c && strchr("{}[],:", c) && chance(4) == 0)
+            out[at++] = " \t\r"[chance(3)];
+    }
+    return at;
+}
+
+/* JSON in another spelling says the same, and is wrong for the same reason where a column isn't part of that. */
+static void try_respelled(etcs_kind kind, const uint8_t *line, size_t len, const result *wanted, const result *why)
+{
+    static uint8_t other[6 * MOST_INPUT], made[ETCS_MOST_BYTES], sentence[1 << 13];
+    size_t count = wanted->answer.written, size = respell(line, len, other), said = why->answer.written;
+    memcpy(made, wanted->out, count);
+    memcpy(sentence, why->out, said < sizeof sentence ? said : 0);
+    result r = ask(FROM_JSON, kind, other, size);
+    HOLDS(r.status == wanted->status && r.answer.written == count && !memcmp(r.out, made, count));
+    result reason = ask(EXPLAIN_JSON, kind, other, size);
+    HOLDS(is_same(&reason, why));
+    if (size < 1 << 16 && said < sizeof sentence && !memmem(sentence, said, " column ", 8))
+        HOLDS(reason.answer.written == said && !memcmp(reason.out, sentence, said));
+}
+
+/* Bytes after an item count for nothing: what is written of it stays the same. */
+static void try_followed(etcs_kind kind, const uint8_t *bytes, size_t taken)
+{
+    static const int calls[] = {SHOW, TO_JSON, FIELDS};
+    static uint8_t longer[ETCS_MOST_BYTES + 64];
+    static uint8_t kept[AREA];
+    int which = calls[chance(3)];
+    result alone = ask(which, kind, bytes, taken);
+    size_t size = alone.answer.written * unit_of(which), further = 1 + chance(64);
+    HOLDS(size <= sizeof kept);
+    memcpy(kept, alone.out, size);
+    memcpy(longer, bytes, taken);
+    for (size_t i = 0; i < further; i++)
+        longer[taken + i] = (uint8_t)chance(256);
+    result followed = ask(which, kind, longer, taken + further);
+    HOLDS(is_same(&followed, &alone) && followed.answer.written == alone.answer.written && !memcmp(followed.out, kept, size));
+}
+
 /* An item is what its JSON and its fields say, `show` prints it, and no shorter bytes hold it. */
 static void try_item(etcs_kind kind, const uint8_t *bytes, size_t taken)
 {
@@ -387,7 +442,10 @@ static void try_item(etcs_kind kind, const uint8_t *bytes, size_t taken)
     HOLDS(json.status == ETCS_OK && json.answer.taken == taken);
     result back = ask(FROM_JSON, kind, json.out, json.answer.written);
     HOLDS(back.status == ETCS_OK && back.answer.written == taken && !memcmp(back.out, bytes, taken));
-    HOLDS(ask(EXPLAIN_JSON, kind, json.out, json.answer.written).status == ETCS_OK);
+    result why = ask(EXPLAIN_JSON, kind, json.out, json.answer.written);
+    HOLDS(why.status == ETCS_OK);
+    if (chance(4) == 0)
+        try_respelled(kind, json.out, json.answer.written, &back, &why);
     result sent = ask(FIELDS, kind, bytes, taken);
     HOLDS(sent.status == ETCS_OK && sent.answer.written <= ETCS_MOST_FIELDS);
     size_t count = sent.answer.written;
@@ -397,6 +455,8 @@ static void try_item(etcs_kind kind, const uint8_t *bytes, size_t taken)
     result text = ask(SHOW, kind, bytes, taken);
     HOLDS(text.status == ETCS_OK && shows(kind, text.out, text.answer.written, fields, count, taken));
     HOLDS(ask(CHECK, kind, bytes, taken - 1).status == ETCS_MORE);
+    if (chance(4) == 0)
+        try_followed(kind, bytes, taken);
     change_fields(fields, &count);
     try_fields(kind, fields, count);
 }
@@ -417,6 +477,8 @@ static void try_refused(etcs_kind kind, const uint8_t *bytes, size_t len, const 
             HOLDS(sum < bit && (fields[i].number >> b & 1) == (bytes[sum / 8] >> (7 - sum % 8) & 1));
     HOLDS(bit - sum < 64);
     HOLDS(ask(CHECK, kind, bytes, bit / 8).status == ETCS_MORE);
+    result cut = ask(CHECK, kind, bytes, bit / 8 + 1);
+    HOLDS(is_same(&cut, refused));
     memcpy(turned, bytes, len);
     for (size_t at = bit + 1; at < 8 * len; at++)
         turned[at / 8] ^= (uint8_t)((chance(2) << 7) >> at % 8);
@@ -484,43 +546,6 @@ static void try_blanks(etcs_kind kind, const uint8_t *line, size_t len, etcs_sta
     HOLDS(ask(FROM_JSON, kind, longer, size).status == wanted);
     result why = ask(EXPLAIN_JSON, kind, longer, size);
     HOLDS(why.status == wanted && (wanted == ETCS_OK || is_sentence(why.out, why.answer.written)));
-}
-
-/* Writes the same JSON with blanks after some marks, and with some letters and digits of texts as escapes; answers how many bytes. */
-static size_t respell(const uint8_t *line, size_t len, uint8_t *out)
-{
-    size_t at = 0, from = 0;
-    int is_text = 0;
-    while (from < len) {
-        uint8_t c = line[from++];
-        if (is_text && (c >= '0' && c <= 'z') && c != '\\' && chance(8) == 0) {
-            at += (size_t)sprintf((char *)out + at, "\\u%04x", c);
-            continue;
-        }
-        out[at++] = c;
-        if (is_text && c == '\\')
-            for (size_t more = from < len && line[from] == 'u' ? 5 : 1; more-- && from < len;)
-                out[at++] = line[from++];
-        is_text ^= c == '"';
-        if (!is_text && c && strchr("{}[],:", c) && chance(4) == 0)
-            out[at++] = " \t\r"[chance(3)];
-    }
-    return at;
-}
-
-/* JSON in another spelling says the same, and is wrong for the same reason where a column isn't part of that. */
-static void try_respelled(etcs_kind kind, const uint8_t *line, size_t len, const result *wanted, const result *why)
-{
-    static uint8_t other[6 * MOST_INPUT], made[ETCS_MOST_BYTES], sentence[1 << 13];
-    size_t count = wanted->answer.written, size = respell(line, len, other), said = why->answer.written;
-    memcpy(made, wanted->out, count);
-    memcpy(sentence, why->out, said < sizeof sentence ? said : 0);
-    result r = ask(FROM_JSON, kind, other, size);
-    HOLDS(r.status == wanted->status && r.answer.written == count && !memcmp(r.out, made, count));
-    result reason = ask(EXPLAIN_JSON, kind, other, size);
-    HOLDS(is_same(&reason, why));
-    if (size < 1 << 16 && said < sizeof sentence && !memmem(sentence, said, " column ", 8))
-        HOLDS(reason.answer.written == said && !memcmp(reason.out, sentence, said));
 }
 
 /* A line is the JSON of an item, or has a reason why not. */

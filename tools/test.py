@@ -8,7 +8,7 @@ RT is the path of `rt`. What the parts ask is built first, without a proof, wher
 
     vectors      every vector, by `etcs_vectors`, and how many there are of each kind
     commands     the vectors that a command line can answer, by `etcs` (tools/vectors.py)
-    stack        the same with 64 KB of stack
+    stack        the same with 64 KB of stack, or 160 where the program is unproved, since its functions are inlined otherwise
     sentences    whether each sentence of `explain` and `log` is in a vector (tools/sentences.py)
     schema       docs/etcs.schema.json against the tables, the vectors and what the program writes (tools/schema.py)
     documents    the commands and the quoted files of all documents (tools/doc_examples.py)
@@ -57,12 +57,13 @@ LIMIT = 600  # seconds for a part
 LINES = 40  # that are written of a part that failed
 BUILD_MEMORY = 2_000_000_000  # that the front end takes
 FREE_SPACE = 16_000_000  # that temporary files of the parts take at most
+STACKS = {"unproved": 160, "proved": 64}  # in KB
 # The longest first, since as many run at a time as there are cores.
 PROGRAM_SCRIPTS = {
     "chance": ["fuzz.py", "--seconds", "10"],
     "found": ["fuzz_test.py"],
     "commands": ["vectors.py"],
-    "stack": ["vectors.py", "sh", "-c", 'ulimit -s 64 && exec "$@"', "sh"],
+    "stack": ["vectors.py", "sh", "-c", 'ulimit -s $0 && exec "$@"'],
     "script": ["script_test.py"],
     "streams": ["stream_test.py"],
     "documents": ["doc_examples.py", "--check"],
@@ -152,6 +153,11 @@ def is_proved(program):
     return all(os.stat(it).st_mtime <= built for it in paths)
 
 
+def words_of(part, how):
+    """Returns the words of a part that asks the program, before its path."""
+    return [*PROGRAM_SCRIPTS[part], str(STACKS[how])] if part == "stack" else PROGRAM_SCRIPTS[part]
+
+
 def jobs_of(rt, part):
     """Yields what is to be run for a part."""
     made, proved = folder_of(PROGRAM), f"{TOP}/crates/etcs/out/etcs"
@@ -163,9 +169,9 @@ def jobs_of(rt, part):
     elif part in SCRIPTS:
         yield Job(part, None, lambda: script(*SCRIPTS[part]))
     else:
-        yield Job(f"{part}, unproved program", PROGRAM, lambda: script(*PROGRAM_SCRIPTS[part], f"{made}/etcs"))
+        yield Job(f"{part}, unproved program", PROGRAM, lambda: script(*words_of(part, "unproved"), f"{made}/etcs"))
         if is_proved(proved):
-            yield Job(f"{part}, proved program", None, lambda: script(*PROGRAM_SCRIPTS[part], proved))
+            yield Job(f"{part}, proved program", None, lambda: script(*words_of(part, "proved"), proved))
 
 
 # ---- The run.

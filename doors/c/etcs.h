@@ -21,8 +21,8 @@
  *     0 it may be null; answer and group are never null;
  *   - out, group and answer overlap neither each other nor what is read;
  *   - no call from a signal handler, nor in the forked child of a process with threads;
- *   - stack: 64 KiB; etcs_from_json and etcs_explain_json 256 KiB, since lists and objects may be in one another, up to
- *     127 deep; etcs_explain 512 KiB, since it works out which lengths a packet may have.
+ *   - stack: 32 KiB; etcs_from_json and etcs_explain_json 64 KiB, since lists and objects may be in one another, up to
+ *     127 deep.
  *
  * What stays in each version of libetcs.so.1: these calls, the structs with their members, sizes and order, and the
  * numbers of kinds, statuses and variables. Further calls, statuses and variables may come after them.

@@ -647,28 +647,41 @@ static void *all_calls(void *arg)
     return NULL;
 }
 
+static void *nothing(void *arg)
+{
+    (void)arg;
+    return NULL;
+}
+
+/* How many bytes of its stack a thread touches that does this. */
+static size_t touched(void *(*does)(void *), void *arg)
+{
+    size_t size = 1 << 20, clean = 0;
+    uint8_t *room;
+    if (posix_memalign((void **)&room, 4096, size)) return 0;
+    memset(room, 0xA5, size);
+    pthread_attr_t attr;
+    pthread_t t;
+    void *said;
+    pthread_attr_init(&attr);
+    pthread_attr_setstack(&attr, room, size);
+    pthread_create(&t, &attr, does, arg);
+    pthread_join(t, &said);
+    EXPECT(!said);
+    while (clean < size && room[clean] == 0xA5) clean++;
+    free(room);
+    return size - clean;
+}
+
 static void stack(void)
 {
-    static const size_t most[] = {64, 64, 64, 256, 64, 64, 512, 64, 256, 32, 32, 32, 32}; /* KiB, at most what etcs.h asks for */
-    size_t size = 1 << 20;
+    static const size_t most[] = {32, 32, 32, 64, 32, 32, 32, 32, 64, 32, 32, 32, 32}; /* KiB, what etcs.h asks for */
+    size_t own = touched(nothing, NULL);
     for (uint64_t i = 0; i < 8; i++) group_of_eight[i] = balise(ETCS_LONG, i, 7, 0, 40, 511);
     for (int call = 0; call < 13; call++) {
-        uint8_t *room;
-        if (posix_memalign((void **)&room, 4096, size)) return;
-        memset(room, 0xA5, size);
-        pthread_attr_t attr;
-        pthread_t t;
-        void *said;
-        pthread_attr_init(&attr);
-        pthread_attr_setstack(&attr, room, size);
-        pthread_create(&t, &attr, all_calls, &call);
-        pthread_join(t, &said);
-        EXPECT(!said);
-        size_t clean = 0;
-        while (clean < size && room[clean] == 0xA5) clean++;
-        printf("kind %u, call %d: %zu bytes of stack\n", file_kind, call, size - clean);
-        EXPECT(size - clean <= most[call] << 10);
-        free(room);
+        size_t taken = touched(all_calls, &call) - own;
+        printf("kind %u, call %d: %zu bytes of stack\n", file_kind, call, taken);
+        EXPECT(taken <= most[call] << 10);
     }
 }
 
@@ -694,7 +707,7 @@ static void *deep(void *arg)
 
 static void deep_json(void)
 {
-    size_t size = 256 << 10, clean = 0;
+    size_t size = 64 << 10, clean = 0;
     uint8_t *room;
     pthread_attr_t attr;
     pthread_t t;

@@ -137,7 +137,7 @@ impl<'a> BitSlice<'a> {
     }
 
     /// As `number`, of bits that are inside, where the eight bytes from the first of them on hold them.
-    /// `None` says nothing.
+    /// It may always return `None`.
     #[inline(always)]
     fn number_in_word(&self, from: usize, width: usize) -> Option<u64>
         requires width { width ≤ 64 }
@@ -149,7 +149,7 @@ impl<'a> BitSlice<'a> {
     }
 
     /// The eight bytes from the bit `from` on, that bit highest, and how many of these bits are the slice's.
-    /// `None` says nothing.
+    /// It may always return `None`.
     #[inline(always)]
     pub(crate) fn word_from(&self, from: usize) -> Option<(u64, usize)>
         requires { from ≤ length self.now }
@@ -181,8 +181,8 @@ impl<'a> BitSlice<'a> {
         (word >> (64 - left)) << (64 - left)
     }
 
-    /// The 64 bits from `from` on, where nine bytes hold them: those of the slice, and anything after its last. `None`
-    /// says nothing.
+    /// The 64 bits from `from` on, where nine bytes hold them: those of the slice, and anything after its last. It
+    /// may always return `None`.
     #[inline(always)]
     fn nine_bytes(&self, from: usize) -> Option<u64>
         requires { from < length self.now }

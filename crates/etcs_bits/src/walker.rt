@@ -48,7 +48,7 @@ pub fn peek(bytes: &[u8], start: usize, width: usize) -> Option<u64>
     }
 }
 
-/// As `peek`, where the eight bytes from the first bit on hold the bits. `None` says nothing.
+/// As `peek`, where the eight bytes from the first bit on hold the bits. It may always return `None`.
 #[inline(always)]
 pub(crate) fn peek_word(bytes: &[u8], start: usize, width: usize) -> Option<u64>
     requires { width ≤ 64 }
@@ -61,7 +61,7 @@ pub(crate) fn peek_word(bytes: &[u8], start: usize, width: usize) -> Option<u64>
     peek_in_word(bytes, at, start % 8, width)
 }
 
-/// The number in some bits of the eight bytes from the byte `at` on. `None` says nothing.
+/// The number in some bits of the eight bytes from the byte `at` on. It may always return `None`.
 #[inline(always)]
 fn peek_in_word(bytes: &[u8], at: usize, offset: usize, width: usize) -> Option<u64>
     requires width { width ≤ 64 }
@@ -86,7 +86,7 @@ pub(crate) fn peek_at_end(bytes: &[u8], start: usize, width: usize) -> Option<u6
     }
 }
 
-/// As `peek`, where the last eight bytes hold the bits. `None` says nothing.
+/// As `peek`, where the last eight bytes hold the bits. It may always return `None`.
 fn peek_last_word(bytes: &[u8], start: usize, width: usize) -> Option<u64>
     requires { width ≤ 64 }
     ensures { IfSome result (λ n. number_at start width (bits bytes.now) ≡ Some n) }

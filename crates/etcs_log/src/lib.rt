@@ -1,4 +1,4 @@
-//! Logs: lines as people have them, an item a line, each of which is read by itself.
+//! Log lines: an item a line, each read by itself.
 #![tactic(auto)]
 
 mod counts;

@@ -32,7 +32,7 @@ const MOST_READS: u64 = 1 << 49;
 /// - [`RunFault::Endless`] of more than 2^49 reads;
 /// - [`RunFault::Memory`] of a refused allocation.
 ///
-/// What is said of the lines that were whole before a fault is written first.
+/// What is said of the lines that were whole before a fault is written first, unless memory or the sink fails.
 pub fn run_log<S: Source, W: Sink, N: Sink>(
     alloc: Global,
     job: LogJob,

@@ -33,7 +33,7 @@ const MOST_READS: u64 = 16_000_000;
 /// - [`RunFault::Endless`] of more than 16,000,000 reads or 1,000,000 items;
 /// - [`RunFault::Memory`] of a refused allocation.
 ///
-/// The text of the items that were whole before a fault is written first.
+/// The text of the items that were whole before a fault is written first, unless memory or the sink fails.
 pub fn run<S: Source, W: Sink>(
     alloc: Global,
     job: Job,

@@ -44,7 +44,7 @@ pub fn exact_equality(first: &TrainMessage, second: &TrainMessage) -> bool
 ///
 /// # Errors
 ///
-/// Where memory was refused, for the bytes or for the reader, and for no other cause.
+/// Where memory was refused, for the bytes or for the reader.
 pub fn round_trip(alloc: Global, message: &TrainMessage) -> Result<TrainMessage, AllocError>
     ensures { IfOk result (λ again. again ≡ message.now) }
 {
@@ -56,7 +56,7 @@ pub fn round_trip(alloc: Global, message: &TrainMessage) -> Result<TrainMessage,
 ///
 /// # Errors
 ///
-/// Where memory was refused, for the reader or for the bytes, and for no other cause. `out` then stays as it was.
+/// Where memory was refused, for the reader or for the bytes. `out` then stays as it was.
 pub fn read_back(
     alloc: Global,
     bytes: &[u8],

@@ -7,7 +7,7 @@ use crate::var::Var;
 use std::error::Error;
 use std::fmt;
 
-/// What a piece brought.
+/// The result of feeding a piece.
 #[derive(Clone, Copy, Debug, PartialEq, Eq)]
 pub enum Fed {
     /// The whole piece was taken, and the value isn't whole yet.

@@ -125,7 +125,7 @@ impl<'a> WordSink<'a> {
         }
     }
 
-    /// Writes the last bits. Those after them, up to eight bytes, are then zeros.
+    /// Writes the last bits.
     pub fn finish(self)
         ensures { IsWritten self.entry self.exit.0.now }
     {

@@ -1,11 +1,10 @@
 -- Groups after a number that is stored: the group must be there exactly where its guard holds.
-use Rattle.std.proofs.Common.{◌≡◌, ℕ, Bool, true, false, [], Option, Some, None}
+use Rattle.std.proofs.Common.{◌≡◌, ℕ, Bool, true, false, Option, Some, None}
 use Rattle.std.specs.Option.{is_some}
 use Rattle.etcs_vars.specs.declared.var.Var.{Var}
 use Rattle.etcs_vars.specs.declared.fault.BuildFault.{BuildFault}
 use Rattle.etcs_vars.specs.declared.fault.BuildFault.TheVariants.{Guard}
 use Rattle.etcs_vars.specs.Faults.{number_fault}
-use Rattle.etcs_vars.specs.Reading.{Reading}
 use Rattle.etcs_tables.specs.declared.item.Test.{Test}
 use Rattle.etcs_tables.specs.Layouts.{passes}
 use Rattle.etcs_bodies.specs.Codecs.{IsOptional}
@@ -17,13 +16,13 @@ guard_fault v true false = Some (Guard v)
 guard_fault v false true = Some (Guard v)
 guard_fault v false false = None
 
+-- of a group that need not be there
+abbrev pub group_fault : {W : Type 0} → (W → Option BuildFault) → Option W → Option BuildFault
+group_fault fault None = None
+group_fault fault (Some w) = fault w
+
 -- what a group gives
 pub record Group {W : Type 0} (v : Var) (test : Test) (IsW : W → Type 0) (n : ℕ) (o : Option W) : Type 0 where
   pub number : number_fault v n ≡ None
   pub guard : guard_fault v (passes test n) (is_some o) ≡ None
   pub is : IsOptional IsW o
-
--- the group alone
-abbrev pub optional_group : {W : Type 0} → (W → Reading) → Option W → Reading
-optional_group reading None = []
-optional_group reading (Some w) = reading w

@@ -2,9 +2,10 @@ pub mod Choices
 pub mod Codecs
 pub mod Entries
 pub mod Equality
-pub mod Groups
+pub mod Formats
 pub mod Guards
 pub mod PacketCodes
+pub mod PacketFormats
 pub mod Packets
 pub mod Repeats
 pub mod Runs

@@ -9,14 +9,15 @@ use Rattle.etcs_tables.specs.Layouts.{Layout}
 use Rattle.etcs_tables.specs.Rows.{◌▸◌}
 use Rattle.etcs_bodies.specs.Faults.{count_fault}
 use Rattle.etcs_bodies.specs.Taking.{Left, next_number}
+use Rattle.etcs_bodies.specs.Formats.{Is, reading}
 use Rattle.etcs_bodies.specs.Codecs.{both_from, IsBoth}
 use Rattle.etcs_bodies.specs.Entries.{AreEntries, entries_reading, entries_from, entries_row}
 use Rattle.etcs_bodies.specs.Packets.{length_fault}
 use Rattle.etcs_bodies.specs.PacketCodes.{directed_from}
-use Rattle.etcs_parts.specs.Links.{LinkValue, IsLink, link_reading}
-use Rattle.etcs_parts.specs.Slopes.{SlopeValue, IsSlope, slope_reading}
-use Rattle.etcs_parts.specs.Speeds.{SpeedValue, IsSpeed, speed_reading}
-use Rattle.etcs_parts.specs.ModeSections.{ModeSectionValue, IsModeSection, mode_section_reading}
+use Rattle.etcs_parts.specs.Links.{LinkValue, link_format}
+use Rattle.etcs_parts.specs.Slopes.{SlopeValue, slope_format}
+use Rattle.etcs_parts.specs.Speeds.{SpeedValue, speed_format}
+use Rattle.etcs_parts.specs.ModeSections.{ModeSectionValue, mode_section_format}
 
 pub record ChainValue (V : Type 0) : Type 0 where
   pub dir : ℕ
@@ -67,37 +68,37 @@ chain_from most reading from = directed_from (both_from (next_number Q_SCALE) (e
 -- ---- Of links, slopes, speeds and areas of modes.
 
 abbrev pub linking_reading : ChainValue LinkValue → Reading
-linking_reading = chain_reading link_reading
+linking_reading = chain_reading (reading link_format)
 
 abbrev pub linking_fault : ChainValue LinkValue → Option BuildFault
-linking_fault = chain_fault 49 link_reading
+linking_fault = chain_fault 49 (reading link_format)
 
 abbrev pub IsLinking : ChainValue LinkValue → Type 0
-IsLinking = IsChain IsLink 49 link_reading
+IsLinking = IsChain (Is link_format) 49 (reading link_format)
 
 abbrev pub gradient_reading : ChainValue SlopeValue → Reading
-gradient_reading = chain_reading slope_reading
+gradient_reading = chain_reading (reading slope_format)
 
 abbrev pub gradient_fault : ChainValue SlopeValue → Option BuildFault
-gradient_fault = chain_fault 24 slope_reading
+gradient_fault = chain_fault 24 (reading slope_format)
 
 abbrev pub IsGradient : ChainValue SlopeValue → Type 0
-IsGradient = IsChain IsSlope 24 slope_reading
+IsGradient = IsChain (Is slope_format) 24 (reading slope_format)
 
 abbrev pub speed_profile_reading : ChainValue SpeedValue → Reading
-speed_profile_reading = chain_reading speed_reading
+speed_profile_reading = chain_reading (reading speed_format)
 
 abbrev pub speed_profile_fault : ChainValue SpeedValue → Option BuildFault
-speed_profile_fault = chain_fault 431 speed_reading
+speed_profile_fault = chain_fault 431 (reading speed_format)
 
 abbrev pub IsSpeedProfile : ChainValue SpeedValue → Type 0
-IsSpeedProfile = IsChain IsSpeed 431 speed_reading
+IsSpeedProfile = IsChain (Is speed_format) 431 (reading speed_format)
 
 abbrev pub mode_profile_reading : ChainValue ModeSectionValue → Reading
-mode_profile_reading = chain_reading mode_section_reading
+mode_profile_reading = chain_reading (reading mode_section_format)
 
 abbrev pub mode_profile_fault : ChainValue ModeSectionValue → Option BuildFault
-mode_profile_fault = chain_fault 55 mode_section_reading
+mode_profile_fault = chain_fault 55 (reading mode_section_format)
 
 abbrev pub IsModeProfile : ChainValue ModeSectionValue → Type 0
-IsModeProfile = IsChain IsModeSection 55 mode_section_reading
+IsModeProfile = IsChain (Is mode_section_format) 55 (reading mode_section_format)

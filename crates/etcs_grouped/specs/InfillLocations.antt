@@ -1,12 +1,9 @@
 -- Packet 136, where the infill that follows begins (SUBSET-026, 7.4.2).
-use Rattle.std.proofs.Common.{◌≡◌, ℕ, Option, None}
-use Rattle.etcs_vars.specs.declared.var.Var.TheVariants.{Q_DIR}
+use Rattle.std.proofs.Common.{ℕ, Option}
 use Rattle.etcs_vars.specs.declared.fault.BuildFault.{BuildFault}
-use Rattle.etcs_vars.specs.Faults.{◌or_else◌, number_fault}
 use Rattle.etcs_vars.specs.Reading.{Reading}
-use Rattle.etcs_bodies.specs.Taking.{Left}
-use Rattle.etcs_bodies.specs.PacketCodes.{directed_from, never}
-use Rattle.etcs_parts.specs.BalisesAt.{BaliseAtValue, balise_at_value, balise_at_fault, IsBaliseAt, balise_at_reading, balise_at_from}
+use Rattle.etcs_bodies.specs.PacketFormats.{PacketFormat, packet_of, packet_fault, IsPacketOf, packet_reading}
+use Rattle.etcs_parts.specs.BalisesAt.{BaliseAtValue, balise_at_value, balise_at_format}
 
 pub record InfillLocationValue : Type 0 where
   pub dir : ℕ
@@ -16,24 +13,16 @@ pub record InfillLocationValue : Type 0 where
 abbrev pub infill_location_value : ℕ → Option ℕ → ℕ → InfillLocationValue
 infill_location_value dir nid_c nid_bg = record { dir = dir; nid_c = nid_c; nid_bg = nid_bg }
 
--- all but the direction, a balise group
-abbrev pub body_of : InfillLocationValue → BaliseAtValue
-body_of p = balise_at_value p.nid_c p.nid_bg
-
-abbrev pub infill_location_of : ℕ → BaliseAtValue → InfillLocationValue
-infill_location_of dir b = infill_location_value dir b.nid_c b.nid_bg
-
--- its variables in the order of sending
-abbrev pub infill_location_reading : InfillLocationValue → Reading
-infill_location_reading p = balise_at_reading (body_of p)
+abbrev pub infill_location_packet : PacketFormat BaliseAtValue InfillLocationValue
+infill_location_packet =
+    packet_of (λ p. p.dir) (λ p. balise_at_value p.nid_c p.nid_bg) (λ dir b. infill_location_value dir b.nid_c b.nid_bg) balise_at_format
 
 -- why it is none
 abbrev pub infill_location_fault : InfillLocationValue → Option BuildFault
-infill_location_fault p = number_fault Q_DIR p.dir or_else balise_at_fault (body_of p)
+infill_location_fault = packet_fault infill_location_packet
 
 abbrev pub IsInfillLocation : InfillLocationValue → Type 0
-IsInfillLocation p = (number_fault Q_DIR p.dir ≡ None) × IsBaliseAt (body_of p)
+IsInfillLocation = IsPacketOf infill_location_packet
 
--- the packet of a direction with which what is left begins, and what is left after it
-unfoldable pub infill_location_from : ℕ → Left → Option (InfillLocationValue × Left)
-infill_location_from = directed_from balise_at_from never infill_location_of
+abbrev pub infill_location_reading : InfillLocationValue → Reading
+infill_location_reading = packet_reading infill_location_packet

@@ -1,13 +1,11 @@
 -- Packet 12, the movement authority of level 1 (SUBSET-026, 7.4.2).
-use Rattle.std.proofs.Common.{◌≡◌, ℕ, ◌∷◌, Option, None}
-use Rattle.etcs_vars.specs.declared.var.Var.TheVariants.{Q_DIR, Q_SCALE, V_MAIN, V_LOA, T_LOA}
+use Rattle.std.proofs.Common.{ℕ, Option}
+use Rattle.etcs_vars.specs.declared.var.Var.TheVariants.{Q_SCALE, V_MAIN, V_LOA, T_LOA}
 use Rattle.etcs_vars.specs.declared.fault.BuildFault.{BuildFault}
-use Rattle.etcs_vars.specs.Faults.{◌or_else◌, number_fault}
 use Rattle.etcs_vars.specs.Reading.{Reading}
-use Rattle.etcs_bodies.specs.Taking.{Left, next_number}
-use Rattle.etcs_bodies.specs.Codecs.{both_from, IsBoth}
-use Rattle.etcs_bodies.specs.PacketCodes.{directed_from, never}
-use Rattle.etcs_parts.specs.Authorities.{AuthorityValue, IsAuthority, authority_reading, authority_from}
+use Rattle.etcs_bodies.specs.Formats.{number, ◌⊗◌, part}
+use Rattle.etcs_bodies.specs.PacketFormats.{PacketFormat, packet_of, packet_fault, IsPacketOf, packet_reading}
+use Rattle.etcs_parts.specs.Authorities.{AuthorityValue, authority_format}
 
 pub record Level1MaValue : Type 0 where
   pub dir : ℕ
@@ -20,31 +18,19 @@ pub record Level1MaValue : Type 0 where
 abbrev pub level1_ma_value : ℕ → ℕ → ℕ → ℕ → ℕ → AuthorityValue → Level1MaValue
 level1_ma_value dir q_scale v_main v_loa t_loa authority = record { dir = dir; q_scale = q_scale; v_main = v_main; v_loa = v_loa; t_loa = t_loa; authority = authority }
 
--- its variables in the order of sending
-abbrev pub level1_ma_reading : Level1MaValue → Reading
-level1_ma_reading p = (Q_SCALE, p.q_scale) ∷ (V_MAIN, p.v_main) ∷ (V_LOA, p.v_loa) ∷ (T_LOA, p.t_loa) ∷ authority_reading p.authority
+abbrev pub level1_ma_packet : PacketFormat (ℕ × (ℕ × (ℕ × (ℕ × AuthorityValue)))) Level1MaValue
+level1_ma_packet =
+    packet_of (λ p. p.dir)
+    (λ p. (p.q_scale, (p.v_main, (p.v_loa, (p.t_loa, p.authority)))))
+    (λ dir b. level1_ma_value dir b.0 b.1.0 b.1.1.0 b.1.1.1.0 b.1.1.1.1) (
+    number Q_SCALE ⊗ number V_MAIN ⊗ number V_LOA ⊗ number T_LOA ⊗ part authority_format)
 
 -- why it is none, where its authority is one
 abbrev pub level1_ma_fault : Level1MaValue → Option BuildFault
-level1_ma_fault p = number_fault Q_DIR p.dir or_else number_fault Q_SCALE p.q_scale or_else number_fault V_MAIN p.v_main or_else number_fault V_LOA p.v_loa or_else number_fault T_LOA p.t_loa
-
--- ---- All but the direction.
-
-abbrev pub Level1MaBody : Type 0
-Level1MaBody = ℕ × (ℕ × (ℕ × (ℕ × AuthorityValue)))
-
-abbrev pub body_of : Level1MaValue → Level1MaBody
-body_of p = (p.q_scale, (p.v_main, (p.v_loa, (p.t_loa, p.authority))))
-
-abbrev pub level1_ma_of : ℕ → Level1MaBody → Level1MaValue
-level1_ma_of dir b = level1_ma_value dir b.0 b.1.0 b.1.1.0 b.1.1.1.0 b.1.1.1.1
-
-abbrev pub IsBody : Level1MaBody → Type 0
-IsBody = IsBoth (λ n. number_fault Q_SCALE n ≡ None) (IsBoth (λ n. number_fault V_MAIN n ≡ None) (IsBoth (λ n. number_fault V_LOA n ≡ None) (IsBoth (λ n. number_fault T_LOA n ≡ None) IsAuthority)))
+level1_ma_fault = packet_fault level1_ma_packet
 
 abbrev pub IsLevel1Ma : Level1MaValue → Type 0
-IsLevel1Ma p = (number_fault Q_DIR p.dir ≡ None) × IsBody (body_of p)
+IsLevel1Ma = IsPacketOf level1_ma_packet
 
--- the packet of a direction with which what is left begins, and what is left after it
-unfoldable pub level1_ma_from : ℕ → Left → Option (Level1MaValue × Left)
-level1_ma_from = directed_from (both_from (next_number Q_SCALE) (both_from (next_number V_MAIN) (both_from (next_number V_LOA) (both_from (next_number T_LOA) authority_from)))) never level1_ma_of
+abbrev pub level1_ma_reading : Level1MaValue → Reading
+level1_ma_reading = packet_reading level1_ma_packet

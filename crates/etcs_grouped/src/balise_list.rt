@@ -7,7 +7,8 @@ ghost use Rattle.etcs_vars.specs.Vars.{admits};
 ghost use Rattle.etcs_vars.specs.Faults.{◌or_else◌, number_fault};
 ghost use Rattle.etcs_tables.specs.declared.row.Way.TheVariants.{ToTrain};
 ghost use Rattle.etcs_tables.specs.Rows.{row_to, balise_list};
-ghost use Rattle.etcs_grouped.specs.BaliseLists.{balise_list_value, nid_fault, balise_list_fault, balise_list_from};
+ghost use Rattle.etcs_bodies.specs.PacketFormats.{packet_left};
+ghost use Rattle.etcs_grouped.specs.BaliseLists.{balise_list_value, nid_fault, balise_list_fault, balise_list_packet};
 
 use etcs_bodies::laws::Exact;
 use etcs_bodies::{Body, Counted, Numbers, Part, check, taken};
@@ -69,7 +70,7 @@ impl<const NID: u8> BaliseList<NID> {
     }
 
     /// Takes the packet of a direction that the numbers begin with, if they begin with one.
-    #[tactic(auto, using(etcs_bodies::specs::laws::Takes::number_ok), unfolding(etcs_bodies::specs::PacketCodes::directed_from, crate::specs::BaliseLists::balise_list_from))]
+    #[tactic(auto, using(etcs_bodies::specs::laws::Takes::number_ok), unfolding(etcs_bodies::specs::PacketCodes::directed_from))]
     fn taken<L: Numbers>(
         alloc: Global,
         dir: u8,
@@ -77,8 +78,8 @@ impl<const NID: u8> BaliseList<NID> {
     ) -> Result<Option<Self>, AllocError>
         requires nid { nid_fault NID ≡ None }
         requires dir { IsTrue (admits Q_DIR dir) }
-        ensures some { IfOk result (λ o. IfSome o (λ p. balise_list_from dir (L.left numbers.old) ≡ Some (p, L.left numbers.new))) }
-        ensures none { IfOk result (λ o. IfNone o (balise_list_from dir (L.left numbers.old) ≡ None)) }
+        ensures some { IfOk result (λ o. IfSome o (λ p. packet_left balise_list_packet dir (L.left numbers.old) ≡ Some (p, L.left numbers.new))) }
+        ensures none { IfOk result (λ o. IfNone o (packet_left balise_list_packet dir (L.left numbers.old) ≡ None)) }
     {
         let balises = taken!(Counted::take(alloc, numbers)?);
         Ok(Some(BaliseList { dir, balises }))
@@ -135,7 +136,8 @@ where
     BaliseList<N>: ListNumber<N>,
 {
     ghost use Rattle.etcs_tables.specs.declared.row.Way.TheVariants.{ToTrain};
-    ghost use Rattle.etcs_grouped.specs.BaliseLists.{IsBaliseList, balise_list_from};
+    ghost use Rattle.etcs_bodies.specs.PacketFormats.{packet_left};
+    ghost use Rattle.etcs_grouped.specs.BaliseLists.{IsBaliseList, balise_list_packet};
     ghost use Rattle.etcs_grouped.specs.laws.BaliseLists.{balise_list_codes};
 
     const NID: u8 = N;
@@ -150,7 +152,7 @@ where
 
     ghost is_value = { λ p. IsBaliseList N p };
 
-    ghost read_from = { λ dir s. balise_list_from dir s };
+    ghost read_from = { λ dir s. packet_left balise_list_packet dir s };
 
     ghost codes = { balise_list_codes N bound-1.listed bound-1.typed };
 

@@ -89,7 +89,8 @@ impl Variables for ConditionalLevelOrder {
 
 impl Body for ConditionalLevelOrder {
     ghost use Rattle.etcs_tables.specs.declared.row.Way.TheVariants.{ToTrain};
-    ghost use Rattle.etcs_grouped.specs.ConditionalLevelOrders.{IsConditionalLevelOrder, conditional_level_order_from};
+    ghost use Rattle.etcs_bodies.specs.PacketFormats.{packet_left};
+    ghost use Rattle.etcs_grouped.specs.ConditionalLevelOrders.{IsConditionalLevelOrder, conditional_level_order_packet};
     ghost use Rattle.etcs_grouped.specs.laws.ConditionalLevelOrders.{conditional_level_order_codes};
 
     const NID: u8 = 46;
@@ -104,7 +105,7 @@ impl Body for ConditionalLevelOrder {
 
     ghost is_value = { λ p. IsConditionalLevelOrder p };
 
-    ghost read_from = { λ dir s. conditional_level_order_from dir s };
+    ghost read_from = { λ dir s. packet_left conditional_level_order_packet dir s };
 
     ghost codes = { conditional_level_order_codes };
 
@@ -112,7 +113,7 @@ impl Body for ConditionalLevelOrder {
         self.dir
     }
 
-    #[tactic(auto, using(etcs_bodies::specs::laws::Takes::number_ok), unfolding(etcs_bodies::specs::PacketCodes::directed_from, crate::specs::ConditionalLevelOrders::conditional_level_order_from))]
+    #[tactic(auto, using(etcs_bodies::specs::laws::Takes::number_ok), unfolding(etcs_bodies::specs::PacketCodes::directed_from))]
     fn take<L: Numbers>(
         alloc: Global,
         dir: u8,

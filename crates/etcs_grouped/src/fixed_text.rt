@@ -88,7 +88,8 @@ impl Variables for FixedText {
 
 impl Body for FixedText {
     ghost use Rattle.etcs_tables.specs.declared.row.Way.TheVariants.{ToTrain};
-    ghost use Rattle.etcs_grouped.specs.FixedTexts.{IsFixedText, fixed_text_from};
+    ghost use Rattle.etcs_bodies.specs.PacketFormats.{packet_left};
+    ghost use Rattle.etcs_grouped.specs.FixedTexts.{IsFixedText, fixed_text_packet};
     ghost use Rattle.etcs_grouped.specs.laws.FixedTexts.{fixed_text_codes};
 
     const NID: u8 = 76;
@@ -103,7 +104,7 @@ impl Body for FixedText {
 
     ghost is_value = { λ p. IsFixedText p };
 
-    ghost read_from = { λ dir s. fixed_text_from dir s };
+    ghost read_from = { λ dir s. packet_left fixed_text_packet dir s };
 
     ghost codes = { fixed_text_codes };
 
@@ -111,7 +112,7 @@ impl Body for FixedText {
         self.dir
     }
 
-    #[tactic(auto, using(etcs_bodies::specs::laws::Takes::number_ok), unfolding(etcs_bodies::specs::PacketCodes::directed_from, crate::specs::FixedTexts::fixed_text_from))]
+    #[tactic(auto, using(etcs_bodies::specs::laws::Takes::number_ok), unfolding(etcs_bodies::specs::PacketCodes::directed_from))]
     fn take<L: Numbers>(
         alloc: Global,
         dir: u8,

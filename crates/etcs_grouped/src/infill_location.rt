@@ -86,7 +86,8 @@ impl Variables for InfillLocation {
 
 impl Body for InfillLocation {
     ghost use Rattle.etcs_tables.specs.declared.row.Way.TheVariants.{ToTrain};
-    ghost use Rattle.etcs_grouped.specs.InfillLocations.{IsInfillLocation, infill_location_from};
+    ghost use Rattle.etcs_bodies.specs.PacketFormats.{packet_left};
+    ghost use Rattle.etcs_grouped.specs.InfillLocations.{IsInfillLocation, infill_location_packet};
     ghost use Rattle.etcs_grouped.specs.laws.InfillLocations.{infill_location_codes};
 
     const NID: u8 = 136;
@@ -101,7 +102,7 @@ impl Body for InfillLocation {
 
     ghost is_value = { λ p. IsInfillLocation p };
 
-    ghost read_from = { λ dir s. infill_location_from dir s };
+    ghost read_from = { λ dir s. packet_left infill_location_packet dir s };
 
     ghost codes = { infill_location_codes };
 
@@ -109,7 +110,7 @@ impl Body for InfillLocation {
         self.dir
     }
 
-    #[tactic(auto, using(etcs_bodies::specs::laws::Takes::number_ok), unfolding(etcs_bodies::specs::PacketCodes::directed_from, crate::specs::InfillLocations::infill_location_from))]
+    #[tactic(auto, using(etcs_bodies::specs::laws::Takes::number_ok), unfolding(etcs_bodies::specs::PacketCodes::directed_from))]
     fn take<L: Numbers>(
         alloc: Global,
         dir: u8,

@@ -125,7 +125,8 @@ impl Variables for Level1Ma {
 
 impl Body for Level1Ma {
     ghost use Rattle.etcs_tables.specs.declared.row.Way.TheVariants.{ToTrain};
-    ghost use Rattle.etcs_grouped.specs.Level1Mas.{IsLevel1Ma, level1_ma_from};
+    ghost use Rattle.etcs_bodies.specs.PacketFormats.{packet_left};
+    ghost use Rattle.etcs_grouped.specs.Level1Mas.{IsLevel1Ma, level1_ma_packet};
     ghost use Rattle.etcs_grouped.specs.laws.Level1Mas.{level1_ma_codes};
 
     const NID: u8 = 12;
@@ -140,7 +141,7 @@ impl Body for Level1Ma {
 
     ghost is_value = { λ p. IsLevel1Ma p };
 
-    ghost read_from = { λ dir s. level1_ma_from dir s };
+    ghost read_from = { λ dir s. packet_left level1_ma_packet dir s };
 
     ghost codes = { level1_ma_codes };
 
@@ -148,7 +149,7 @@ impl Body for Level1Ma {
         self.dir
     }
 
-    #[tactic(auto, using(etcs_bodies::specs::laws::Takes::number_ok), unfolding(etcs_bodies::specs::PacketCodes::directed_from, crate::specs::Level1Mas::level1_ma_from))]
+    #[tactic(auto, using(etcs_bodies::specs::laws::Takes::number_ok), unfolding(etcs_bodies::specs::PacketCodes::directed_from))]
     fn take<L: Numbers>(
         alloc: Global,
         dir: u8,

@@ -115,7 +115,8 @@ impl Variables for Level23Ma {
 
 impl Body for Level23Ma {
     ghost use Rattle.etcs_tables.specs.declared.row.Way.TheVariants.{ToTrain};
-    ghost use Rattle.etcs_grouped.specs.Level23Mas.{IsLevel23Ma, level23_ma_from};
+    ghost use Rattle.etcs_bodies.specs.PacketFormats.{packet_left};
+    ghost use Rattle.etcs_grouped.specs.Level23Mas.{IsLevel23Ma, level23_ma_packet};
     ghost use Rattle.etcs_grouped.specs.laws.Level23Mas.{level23_ma_codes};
 
     const NID: u8 = 15;
@@ -130,7 +131,7 @@ impl Body for Level23Ma {
 
     ghost is_value = { λ p. IsLevel23Ma p };
 
-    ghost read_from = { λ dir s. level23_ma_from dir s };
+    ghost read_from = { λ dir s. packet_left level23_ma_packet dir s };
 
     ghost codes = { level23_ma_codes };
 
@@ -138,7 +139,7 @@ impl Body for Level23Ma {
         self.dir
     }
 
-    #[tactic(auto, using(etcs_bodies::specs::laws::Takes::number_ok), unfolding(etcs_bodies::specs::PacketCodes::directed_from, crate::specs::Level23Mas::level23_ma_from))]
+    #[tactic(auto, using(etcs_bodies::specs::laws::Takes::number_ok), unfolding(etcs_bodies::specs::PacketCodes::directed_from))]
     fn take<L: Numbers>(
         alloc: Global,
         dir: u8,

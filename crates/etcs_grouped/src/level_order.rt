@@ -117,7 +117,8 @@ impl Variables for LevelOrder {
 
 impl Body for LevelOrder {
     ghost use Rattle.etcs_tables.specs.declared.row.Way.TheVariants.{ToTrain};
-    ghost use Rattle.etcs_grouped.specs.LevelOrders.{IsLevelOrder, level_order_from};
+    ghost use Rattle.etcs_bodies.specs.PacketFormats.{packet_left};
+    ghost use Rattle.etcs_grouped.specs.LevelOrders.{IsLevelOrder, level_order_packet};
     ghost use Rattle.etcs_grouped.specs.laws.LevelOrders.{level_order_codes};
 
     const NID: u8 = 41;
@@ -132,7 +133,7 @@ impl Body for LevelOrder {
 
     ghost is_value = { λ p. IsLevelOrder p };
 
-    ghost read_from = { λ dir s. level_order_from dir s };
+    ghost read_from = { λ dir s. packet_left level_order_packet dir s };
 
     ghost codes = { level_order_codes };
 
@@ -140,7 +141,7 @@ impl Body for LevelOrder {
         self.dir
     }
 
-    #[tactic(auto, using(etcs_bodies::specs::laws::Takes::number_ok), unfolding(etcs_bodies::specs::PacketCodes::directed_from, crate::specs::LevelOrders::level_order_from))]
+    #[tactic(auto, using(etcs_bodies::specs::laws::Takes::number_ok), unfolding(etcs_bodies::specs::PacketCodes::directed_from))]
     fn take<L: Numbers>(
         alloc: Global,
         dir: u8,

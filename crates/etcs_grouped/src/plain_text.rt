@@ -1,11 +1,13 @@
 //! The plain text message.
 
 ghost use Rattle.std.specs.Prelude.{◌≡◌, None, Some, OnOk, OnErr, IfOk, IfErr, IfSome, IfNone, length, All};
+ghost use Rattle.std.specs.Prelude.{flat_map};
 ghost use Rattle.etcs_bodies.specs.Taking.{next_number, times_from};
+ghost use Rattle.etcs_bodies.specs.Formats.{number, Is, reading};
 ghost use Rattle.etcs_bodies.specs.Codecs.{list_from};
 ghost use Rattle.etcs_bodies.specs.Faults.{count_fault};
 ghost use Rattle.etcs_vars.specs.declared.var.Var.TheVariants.{L_TEXT, X_TEXT};
-ghost use Rattle.etcs_grouped.specs.PlainTexts.{plain_text_value, plain_text_fault, IsPlainText, IsByte, text_reading, bytes_reading};
+ghost use Rattle.etcs_grouped.specs.PlainTexts.{plain_text_value, plain_text_fault, IsPlainText, text_format};
 
 use etcs_bodies::laws::Exact;
 use etcs_bodies::{Body, ListOf, Numbers, Part, check, check_count, taken};
@@ -96,7 +98,7 @@ fn take_bytes<L: Numbers>(
     count: usize,
 ) -> Result<Option<Vec<u8>>, AllocError>
     ensures count { IfOk result (λ o. IfSome o (λ bytes. length bytes.items ≡ count)) }
-    ensures bytes { IfOk result (λ o. IfSome o (λ bytes. All IsByte bytes.items)) }
+    ensures bytes { IfOk result (λ o. IfSome o (λ bytes. All (Is (number X_TEXT)) bytes.items)) }
     ensures from { IfOk result (λ o. IfSome o (λ bytes. times_from (next_number X_TEXT) count (L.left numbers.old) ≡ Some (bytes.items, L.left numbers.new))) }
     ensures none { IfOk result (λ o. IfNone o (times_from (next_number X_TEXT) count (L.left numbers.old) ≡ None)) }
 {
@@ -114,7 +116,7 @@ fn take_bytes<L: Numbers>(
 #[tactic(auto, using(etcs_bodies::specs::laws::Repeats::list_is, etcs_bodies::specs::laws::Repeats::list_missing, etcs_bodies::specs::laws::Repeats::list_uncounted, etcs_bodies::specs::laws::Takes::counted_is))]
 fn take_text<L: Numbers>(alloc: Global, numbers: &mut L) -> Result<Option<Vec<u8>>, AllocError>
     ensures count { IfOk result (λ o. IfSome o (λ bytes. count_fault L_TEXT (length bytes.items) ≡ None)) }
-    ensures bytes { IfOk result (λ o. IfSome o (λ bytes. All IsByte bytes.items)) }
+    ensures bytes { IfOk result (λ o. IfSome o (λ bytes. All (Is (number X_TEXT)) bytes.items)) }
     ensures from { IfOk result (λ o. IfSome o (λ bytes. list_from L_TEXT (next_number X_TEXT) (L.left numbers.old) ≡ Some (bytes.items, L.left numbers.new))) }
     ensures none { IfOk result (λ o. IfNone o (list_from L_TEXT (next_number X_TEXT) (L.left numbers.old) ≡ None)) }
 {
@@ -124,7 +126,7 @@ fn take_text<L: Numbers>(alloc: Global, numbers: &mut L) -> Result<Option<Vec<u8
 
 /// Sends the bytes, in order.
 fn send_bytes<S: VarSink>(bytes: &[u8], out: &mut S) -> Result<(), AllocError>
-    ensures ok { OnOk result (out.new ≡ S.with out.old (bytes_reading bytes.now)) }
+    ensures ok { OnOk result (out.new ≡ S.with out.old (flat_map (reading (number X_TEXT)) bytes.now)) }
     ensures err { OnErr result (S.failed out.old out.new) }
 {
     for byte in bytes {
@@ -135,7 +137,7 @@ fn send_bytes<S: VarSink>(bytes: &[u8], out: &mut S) -> Result<(), AllocError>
 
 /// Sends the text after its count.
 fn send_text<S: VarSink>(text: &[u8], out: &mut S) -> Result<(), AllocError>
-    ensures ok { OnOk result (out.new ≡ S.with out.old (text_reading text.now)) }
+    ensures ok { OnOk result (out.new ≡ S.with out.old (reading text_format text.now)) }
     ensures err { OnErr result (S.failed out.old out.new) }
 {
     out.send(&[(Var::L_TEXT, text.len() as u64)])?;
@@ -160,7 +162,8 @@ impl Variables for PlainText {
 
 impl Body for PlainText {
     ghost use Rattle.etcs_tables.specs.declared.row.Way.TheVariants.{ToTrain};
-    ghost use Rattle.etcs_grouped.specs.PlainTexts.{IsPlainText, plain_text_from};
+    ghost use Rattle.etcs_bodies.specs.PacketFormats.{packet_left};
+    ghost use Rattle.etcs_grouped.specs.PlainTexts.{IsPlainText, plain_text_packet};
     ghost use Rattle.etcs_grouped.specs.laws.PlainTexts.{plain_text_codes};
 
     const NID: u8 = 72;
@@ -175,7 +178,7 @@ impl Body for PlainText {
 
     ghost is_value = { λ p. IsPlainText p };
 
-    ghost read_from = { λ dir s. plain_text_from dir s };
+    ghost read_from = { λ dir s. packet_left plain_text_packet dir s };
 
     ghost codes = { plain_text_codes };
 
@@ -183,7 +186,7 @@ impl Body for PlainText {
         self.dir
     }
 
-    #[tactic(auto, using(etcs_bodies::specs::laws::Takes::number_ok), unfolding(etcs_bodies::specs::PacketCodes::directed_from, crate::specs::PlainTexts::plain_text_from))]
+    #[tactic(auto, using(etcs_bodies::specs::laws::Takes::number_ok), unfolding(etcs_bodies::specs::PacketCodes::directed_from))]
     fn take<L: Numbers>(
         alloc: Global,
         dir: u8,

@@ -127,7 +127,8 @@ impl Variables for ReportParameters {
 
 impl Body for ReportParameters {
     ghost use Rattle.etcs_tables.specs.declared.row.Way.TheVariants.{ToTrain};
-    ghost use Rattle.etcs_grouped.specs.ReportParameters.{IsReportParameters, report_parameters_from};
+    ghost use Rattle.etcs_bodies.specs.PacketFormats.{packet_left};
+    ghost use Rattle.etcs_grouped.specs.ReportParameters.{IsReportParameters, report_parameters_packet};
     ghost use Rattle.etcs_grouped.specs.laws.ReportParameters.{report_parameters_codes};
 
     const NID: u8 = 58;
@@ -142,7 +143,7 @@ impl Body for ReportParameters {
 
     ghost is_value = { λ p. IsReportParameters p };
 
-    ghost read_from = { λ dir s. report_parameters_from dir s };
+    ghost read_from = { λ dir s. packet_left report_parameters_packet dir s };
 
     ghost codes = { report_parameters_codes };
 
@@ -150,7 +151,7 @@ impl Body for ReportParameters {
         self.dir
     }
 
-    #[tactic(auto, using(etcs_bodies::specs::laws::Takes::number_ok), unfolding(etcs_bodies::specs::PacketCodes::directed_from, crate::specs::ReportParameters::report_parameters_from))]
+    #[tactic(auto, using(etcs_bodies::specs::laws::Takes::number_ok), unfolding(etcs_bodies::specs::PacketCodes::directed_from))]
     fn take<L: Numbers>(
         alloc: Global,
         dir: u8,

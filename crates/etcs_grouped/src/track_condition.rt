@@ -2,7 +2,8 @@
 
 ghost use Rattle.std.specs.Prelude.{◌≡◌, None, Some, IfOk, IfErr};
 ghost use Rattle.std.specs.Cmp.{decided, partial_equiv_from_equiv};
-ghost use Rattle.etcs_grouped.specs.TrackConditions.{state_of, track_condition_value, track_condition_fault, IsTrackCondition, track_condition_eq};
+ghost use Rattle.etcs_grouped.specs.TrackConditions.{state_of, track_condition_value, track_condition_fault, IsTrackCondition, track_condition_packet};
+ghost use Rattle.etcs_bodies.specs.PacketFormats.{packet_equal};
 ghost use Rattle.etcs_grouped.specs.laws.TrackConditions.{track_condition_exact};
 
 use crate::track_state::{
@@ -85,9 +86,9 @@ impl TrackCondition {
 }
 
 impl PartialEq for TrackCondition {
-    ghost eq = { track_condition_eq };
+    ghost eq = { packet_equal track_condition_packet };
 
-    ghost laws = { partial_equiv_from_equiv (decided track_condition_eq track_condition_exact) };
+    ghost laws = { partial_equiv_from_equiv (decided (packet_equal track_condition_packet) track_condition_exact) };
 
     fn eq(&self, other: &TrackCondition) -> bool {
         self.dir == other.dir
@@ -97,7 +98,7 @@ impl PartialEq for TrackCondition {
 }
 
 impl Eq for TrackCondition {
-    ghost laws = { decided track_condition_eq track_condition_exact };
+    ghost laws = { decided (packet_equal track_condition_packet) track_condition_exact };
 }
 
 impl Variables for TrackCondition {
@@ -118,7 +119,8 @@ impl Variables for TrackCondition {
 
 impl Body for TrackCondition {
     ghost use Rattle.etcs_tables.specs.declared.row.Way.TheVariants.{ToTrain};
-    ghost use Rattle.etcs_grouped.specs.TrackConditions.{IsTrackCondition, track_condition_from};
+    ghost use Rattle.etcs_bodies.specs.PacketFormats.{packet_left};
+    ghost use Rattle.etcs_grouped.specs.TrackConditions.{IsTrackCondition, track_condition_packet};
     ghost use Rattle.etcs_grouped.specs.laws.TrackConditions.{track_condition_codes};
 
     const NID: u8 = 68;
@@ -133,7 +135,7 @@ impl Body for TrackCondition {
 
     ghost is_value = { λ p. IsTrackCondition p };
 
-    ghost read_from = { λ dir s. track_condition_from dir s };
+    ghost read_from = { λ dir s. packet_left track_condition_packet dir s };
 
     ghost codes = { track_condition_codes };
 
@@ -141,7 +143,7 @@ impl Body for TrackCondition {
         self.dir
     }
 
-    #[tactic(auto, using(etcs_bodies::specs::laws::Takes::number_ok), unfolding(etcs_bodies::specs::PacketCodes::directed_from, crate::specs::TrackConditions::track_condition_from))]
+    #[tactic(auto, using(etcs_bodies::specs::laws::Takes::number_ok), unfolding(etcs_bodies::specs::PacketCodes::directed_from))]
     fn take<L: Numbers>(
         alloc: Global,
         dir: u8,

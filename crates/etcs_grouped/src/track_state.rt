@@ -2,7 +2,8 @@
 
 ghost use Rattle.std.specs.Prelude.{◌≡◌, ◌≤◌, None, Some, length, OnOk, OnErr, IfOk, IfErr, IfSome, IfNone};
 ghost use Rattle.etcs_vars.specs.Reading.{spelled};
-ghost use Rattle.etcs_grouped.specs.TrackConditions.{state_of, state_fault, IsState, state_reading, state_from, state_eq};
+ghost use Rattle.etcs_bodies.specs.Formats.{fault, Is, reading, from, equal};
+ghost use Rattle.etcs_grouped.specs.TrackConditions.{state_of, state_format};
 
 use etcs_bodies::{
     Numbers, Part, check, check_count, clone_all, hold_all, send_list, take_list, taken,
@@ -23,9 +24,9 @@ pub enum TrackState {
 
 /// Refuses a distance that is too large, or too many conditions.
 pub(crate) fn check_state(state: &TrackState) -> Result<(), BuildFault>
-    ensures ok { OnOk result (IsState (state_of state.now)) }
-    ensures none { OnOk result (state_fault (state_of state.now) ≡ None) }
-    ensures fault { IfErr result (λ e. state_fault (state_of state.now) ≡ Some e) }
+    ensures ok { OnOk result (Is state_format (state_of state.now)) }
+    ensures none { OnOk result (fault state_format (state_of state.now) ≡ None) }
+    ensures fault { IfErr result (λ e. fault state_format (state_of state.now) ≡ Some e) }
 {
     match state {
         TrackState::Initial(distance) => check(Var::D_TRACKINIT, u64::from(*distance)),
@@ -41,8 +42,8 @@ pub(crate) fn check_state(state: &TrackState) -> Result<(), BuildFault>
 /// How many bits its variables take.
 #[tactic(auto, using(crate::specs::laws::TrackConditions::initial_bits, crate::specs::laws::TrackConditions::condition_bits, crate::specs::laws::TrackConditions::few_conditions))]
 pub(crate) fn state_bits(state: &TrackState) -> usize
-    requires { IsState (state_of state.now) }
-    ensures bits { result ≡ length (spelled (state_reading (state_of state.now))) }
+    requires { Is state_format (state_of state.now) }
+    ensures bits { result ≡ length (spelled (reading state_format (state_of state.now))) }
     ensures small { result ≤ 1094 }
 {
     match state {
@@ -53,7 +54,7 @@ pub(crate) fn state_bits(state: &TrackState) -> usize
 
 /// Sends its variables, in order.
 pub(crate) fn send_state<S: VarSink>(state: &TrackState, out: &mut S) -> Result<(), AllocError>
-    ensures ok { OnOk result (out.new ≡ S.with out.old (state_reading (state_of state.now))) }
+    ensures ok { OnOk result (out.new ≡ S.with out.old (reading state_format (state_of state.now))) }
     ensures err { OnErr result (S.failed out.old out.new) }
 {
     match state {
@@ -70,14 +71,13 @@ pub(crate) fn send_state<S: VarSink>(state: &TrackState, out: &mut S) -> Result<
 }
 
 /// Takes what the numbers begin with, if they begin with a state.
-#[tactic(auto, unfolding(crate::specs::TrackConditions::state_from))]
 pub(crate) fn take_state<L: Numbers>(
     alloc: Global,
     numbers: &mut L,
 ) -> Result<Option<TrackState>, AllocError>
-    ensures is { IfOk result (λ o. IfSome o (λ s. IsState (state_of s))) }
-    ensures from { IfOk result (λ o. IfSome o (λ s. state_from (L.left numbers.old) ≡ Some (state_of s, L.left numbers.new))) }
-    ensures none { IfOk result (λ o. IfNone o (state_from (L.left numbers.old) ≡ None)) }
+    ensures is { IfOk result (λ o. IfSome o (λ s. Is state_format (state_of s))) }
+    ensures from { IfOk result (λ o. IfSome o (λ s. from state_format (L.left numbers.old) ≡ Some (state_of s, L.left numbers.new))) }
+    ensures none { IfOk result (λ o. IfNone o (from state_format (L.left numbers.old) ≡ None)) }
 {
     let initial = taken!(numbers.flag(Var::Q_TRACKINIT));
     if initial {
@@ -103,7 +103,7 @@ pub(crate) fn copy_state(alloc: Global, state: &TrackState) -> Result<TrackState
 
 /// Whether both say the same.
 pub(crate) fn same_state(first: &TrackState, second: &TrackState) -> bool
-    ensures { result ≡ state_eq (state_of first.now) (state_of second.now) }
+    ensures { result ≡ equal state_format (state_of first.now) (state_of second.now) }
 {
     match (first, second) {
         (TrackState::Initial(a), TrackState::Initial(b)) => a == b,

@@ -3,7 +3,6 @@ pub mod BalisesAt
 pub mod Conditions
 pub mod Differings
 pub mod Displays
-pub mod Faults
 pub mod Flags
 pub mod Levels
 pub mod Links

@@ -1,8 +1,9 @@
 //! The sections of a movement authority, and what follows them.
 
-ghost use Rattle.std.specs.Prelude.{◌≡◌, ◌≤◌, ◌++◌, length, None, Some, IfOk, IfErr, OnOk};
+ghost use Rattle.std.specs.Prelude.{◌≡◌, ◌≤◌, length, None, Some, IfOk, IfErr, OnOk};
 ghost use Rattle.etcs_vars.specs.Reading.{spelled};
-ghost use Rattle.etcs_parts.specs.Authorities.{authority_value, authority_fault, IsAuthority, end_timer_reading, danger_reading, overlap_reading};
+ghost use Rattle.etcs_bodies.specs.Formats.{Is, reading};
+ghost use Rattle.etcs_parts.specs.Authorities.{authority_value, authority_fault, authority_format, groups_format};
 
 use crate::authority_groups::{
     check_danger_point, check_end_timer, check_overlap, send_danger_point, send_end_timer,
@@ -32,13 +33,14 @@ pub struct Authority {
 }
 
 impl Model for Authority {
-    ghost use Rattle.etcs_parts.specs.Authorities.{AuthorityValue, authority_value, IsAuthority};
+    ghost use Rattle.etcs_bodies.specs.Formats.{Is};
+    ghost use Rattle.etcs_parts.specs.Authorities.{AuthorityValue, authority_value, authority_format};
 
     ghost Value = { AuthorityValue };
 
     ghost view = { λ s. authority_value s.sections s.end s.end_timer s.danger_point s.overlap };
 
-    ghost invariant = { λ s. IsAuthority (authority_value s.sections s.end s.end_timer s.danger_point s.overlap) };
+    ghost invariant = { λ s. Is authority_format (authority_value s.sections s.end s.end_timer s.danger_point s.overlap) };
 
     ghost inverse = { λ s. record { end_timer = s.end_timer; danger_point = s.danger_point; overlap = s.overlap; end = s.end; sections = s.sections } };
 }
@@ -127,9 +129,8 @@ impl Authority {
     }
 
     /// How many bits its groups after flags take.
-    #[tactic(auto, using(crate::specs::laws::Authorities::groups_bits))]
     fn group_bits(&self) -> usize
-        ensures bits { result ≡ length (spelled (end_timer_reading self.now.end_timer ++ (danger_reading self.now.danger_point ++ overlap_reading self.now.overlap))) }
+        ensures bits { result ≡ length (spelled (reading groups_format (self.now.end_timer, (self.now.danger_point, self.now.overlap)))) }
         ensures small { result ≤ 97 }
     {
         let end_timer = if self.end_timer.is_some() { 26 } else { 1 };
@@ -147,7 +148,7 @@ fn faultless(
     danger_point: Option<(u16, u8)>,
     overlap: Option<(u16, u16, u16, u8)>,
 ) -> Result<(), BuildFault>
-    ensures ok { OnOk result (IsAuthority (authority_value sections.now end.now end_timer danger_point overlap)) }
+    ensures ok { OnOk result (Is authority_format (authority_value sections.now end.now end_timer danger_point overlap)) }
     ensures fits { OnOk result (authority_fault (authority_value sections.now end.now end_timer danger_point overlap) ≡ None) }
     ensures fault { IfErr result (λ e. authority_fault (authority_value sections.now end.now end_timer danger_point overlap) ≡ Some e) }
 {
@@ -161,9 +162,10 @@ fn faultless(
 }
 
 impl Variables for Authority {
-    ghost use Rattle.etcs_parts.specs.Authorities.{authority_reading};
+    ghost use Rattle.etcs_bodies.specs.Formats.{reading};
+    ghost use Rattle.etcs_parts.specs.Authorities.{authority_format};
 
-    ghost reading_of = { λ a. authority_reading a };
+    ghost reading_of = { λ a. reading authority_format a };
 
     #[tactic(auto, using(crate::specs::laws::Authorities::authority_bits))]
     fn bits(&self) -> usize {
@@ -180,22 +182,23 @@ impl Variables for Authority {
 }
 
 impl Part for Authority {
-    ghost use Rattle.etcs_parts.specs.Authorities.{IsAuthority, authority_from, authority_then};
-    ghost use Rattle.etcs_parts.specs.laws.Authorities.{authority_codes};
+    ghost use Rattle.etcs_bodies.specs.Formats.{from, Is};
+    ghost use Rattle.etcs_parts.specs.Authorities.{authority_format, authority_row};
+    ghost use Rattle.etcs_bodies.specs.laws.Formats.{codes_of};
+    ghost use Rattle.etcs_parts.specs.laws.Authorities.{authority_ok};
 
-    ghost row = { authority_then };
+    ghost row = { authority_row };
 
-    ghost read_from = { authority_from };
+    ghost read_from = { from authority_format };
 
-    ghost is_part = { λ a. IsAuthority a };
+    ghost is_part = { λ a. Is authority_format a };
 
-    ghost codes = { authority_codes };
+    ghost codes = { codes_of authority_format authority_ok };
 
     fn holds(&self) {
         let _ = &self.end_timer;
     }
 
-    #[tactic(auto, unfolding(crate::specs::Authorities::authority_from, crate::specs::Authorities::sections_from))]
     fn take<L: Numbers>(alloc: Global, numbers: &mut L) -> Result<Option<Authority>, AllocError> {
         let sections = taken!(take_list(alloc, Var::N_ITER, numbers)?);
         let end = taken!(Section::end_from_numbers(numbers));

@@ -2,7 +2,8 @@
 //! overlap.
 
 ghost use Rattle.std.specs.Prelude.{◌≡◌, None, Some, IfErr, IfSome, IfNone, OnOk, OnErr};
-ghost use Rattle.etcs_parts.specs.Authorities.{end_timer_fault, end_timer_reading, end_timer_from, danger_fault, danger_reading, danger_from, overlap_fault, overlap_reading, overlap_from};
+ghost use Rattle.etcs_bodies.specs.Formats.{fault, Is, reading, from};
+ghost use Rattle.etcs_parts.specs.Authorities.{end_timer_format, danger_format, overlap_format};
 
 use crate::groups::{check_group, send_group, take_group};
 use etcs_bodies::{Numbers, check};
@@ -34,8 +35,9 @@ macro_rules! overlap {
 
 /// Refuses a timer of the end section that has a fault.
 pub(crate) fn check_end_timer(end_timer: Option<(u16, u16)>) -> Result<(), BuildFault>
-    ensures ok { OnOk result (end_timer_fault end_timer ≡ None) }
-    ensures fault { IfErr result (λ e. end_timer_fault end_timer ≡ Some e) }
+    ensures is { OnOk result (Is end_timer_format end_timer) }
+    ensures ok { OnOk result (fault end_timer_format end_timer ≡ None) }
+    ensures fault { IfErr result (λ e. fault end_timer_format end_timer ≡ Some e) }
 {
     end_timer!(check_group: end_timer)
 }
@@ -45,26 +47,26 @@ pub(crate) fn send_end_timer<S: VarSink>(
     end_timer: Option<(u16, u16)>,
     out: &mut S,
 ) -> Result<(), AllocError>
-    ensures ok { OnOk result (out.new ≡ S.with out.old (end_timer_reading end_timer)) }
+    ensures ok { OnOk result (out.new ≡ S.with out.old (reading end_timer_format end_timer)) }
     ensures err { OnErr result (S.failed out.old out.new) }
 {
     end_timer!(send_group: end_timer, out)
 }
 
 /// The timer of the end section that the numbers begin with, after its flag.
-#[tactic(auto, unfolding(crate::specs::Authorities::end_timer_from))]
 pub(crate) fn take_end_timer<L: Numbers>(numbers: &mut L) -> Option<Option<(u16, u16)>>
-    ensures part { IfSome result (λ t. end_timer_fault t ≡ None) }
-    ensures from { IfSome result (λ t. end_timer_from (L.left numbers.old) ≡ Some (t, L.left numbers.new)) }
-    ensures none { IfNone result (end_timer_from (L.left numbers.old) ≡ None) }
+    ensures part { IfSome result (λ t. Is end_timer_format t) }
+    ensures from { IfSome result (λ t. from end_timer_format (L.left numbers.old) ≡ Some (t, L.left numbers.new)) }
+    ensures none { IfNone result (from end_timer_format (L.left numbers.old) ≡ None) }
 {
     end_timer!(take_group: numbers, numbers.flag(Var::Q_ENDTIMER)?)
 }
 
 /// Refuses a danger point that has a fault.
 pub(crate) fn check_danger_point(danger_point: Option<(u16, u8)>) -> Result<(), BuildFault>
-    ensures ok { OnOk result (danger_fault danger_point ≡ None) }
-    ensures fault { IfErr result (λ e. danger_fault danger_point ≡ Some e) }
+    ensures is { OnOk result (Is danger_format danger_point) }
+    ensures ok { OnOk result (fault danger_format danger_point ≡ None) }
+    ensures fault { IfErr result (λ e. fault danger_format danger_point ≡ Some e) }
 {
     danger_point!(check_group: danger_point)
 }
@@ -74,26 +76,26 @@ pub(crate) fn send_danger_point<S: VarSink>(
     danger_point: Option<(u16, u8)>,
     out: &mut S,
 ) -> Result<(), AllocError>
-    ensures ok { OnOk result (out.new ≡ S.with out.old (danger_reading danger_point)) }
+    ensures ok { OnOk result (out.new ≡ S.with out.old (reading danger_format danger_point)) }
     ensures err { OnErr result (S.failed out.old out.new) }
 {
     danger_point!(send_group: danger_point, out)
 }
 
 /// The danger point that the numbers begin with, after its flag.
-#[tactic(auto, unfolding(crate::specs::Authorities::danger_from))]
 pub(crate) fn take_danger_point<L: Numbers>(numbers: &mut L) -> Option<Option<(u16, u8)>>
-    ensures part { IfSome result (λ p. danger_fault p ≡ None) }
-    ensures from { IfSome result (λ p. danger_from (L.left numbers.old) ≡ Some (p, L.left numbers.new)) }
-    ensures none { IfNone result (danger_from (L.left numbers.old) ≡ None) }
+    ensures part { IfSome result (λ p. Is danger_format p) }
+    ensures from { IfSome result (λ p. from danger_format (L.left numbers.old) ≡ Some (p, L.left numbers.new)) }
+    ensures none { IfNone result (from danger_format (L.left numbers.old) ≡ None) }
 {
     danger_point!(take_group: numbers, numbers.flag(Var::Q_DANGERPOINT)?)
 }
 
 /// Refuses an overlap that has a fault.
 pub(crate) fn check_overlap(overlap: Option<(u16, u16, u16, u8)>) -> Result<(), BuildFault>
-    ensures ok { OnOk result (overlap_fault overlap ≡ None) }
-    ensures fault { IfErr result (λ e. overlap_fault overlap ≡ Some e) }
+    ensures is { OnOk result (Is overlap_format overlap) }
+    ensures ok { OnOk result (fault overlap_format overlap ≡ None) }
+    ensures fault { IfErr result (λ e. fault overlap_format overlap ≡ Some e) }
 {
     overlap!(check_group: overlap)
 }
@@ -103,18 +105,17 @@ pub(crate) fn send_overlap<S: VarSink>(
     overlap: Option<(u16, u16, u16, u8)>,
     out: &mut S,
 ) -> Result<(), AllocError>
-    ensures ok { OnOk result (out.new ≡ S.with out.old (overlap_reading overlap)) }
+    ensures ok { OnOk result (out.new ≡ S.with out.old (reading overlap_format overlap)) }
     ensures err { OnErr result (S.failed out.old out.new) }
 {
     overlap!(send_group: overlap, out)
 }
 
 /// The overlap that the numbers begin with, after its flag.
-#[tactic(auto, unfolding(crate::specs::Authorities::overlap_from))]
 pub(crate) fn take_overlap<L: Numbers>(numbers: &mut L) -> Option<Option<(u16, u16, u16, u8)>>
-    ensures part { IfSome result (λ o. overlap_fault o ≡ None) }
-    ensures from { IfSome result (λ o. overlap_from (L.left numbers.old) ≡ Some (o, L.left numbers.new)) }
-    ensures none { IfNone result (overlap_from (L.left numbers.old) ≡ None) }
+    ensures part { IfSome result (λ o. Is overlap_format o) }
+    ensures from { IfSome result (λ o. from overlap_format (L.left numbers.old) ≡ Some (o, L.left numbers.new)) }
+    ensures none { IfNone result (from overlap_format (L.left numbers.old) ≡ None) }
 {
     overlap!(take_group: numbers, numbers.flag(Var::Q_OVERLAP)?)
 }

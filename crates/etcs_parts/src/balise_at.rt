@@ -17,13 +17,14 @@ pub struct BaliseAt {
 }
 
 impl Model for BaliseAt {
-    ghost use Rattle.etcs_parts.specs.BalisesAt.{BaliseAtValue, balise_at_value, IsBaliseAt};
+    ghost use Rattle.etcs_bodies.specs.Formats.{Is};
+    ghost use Rattle.etcs_parts.specs.BalisesAt.{BaliseAtValue, balise_at_value, balise_at_format};
 
     ghost Value = { BaliseAtValue };
 
     ghost view = { λ s. balise_at_value s.nid_c s.nid_bg };
 
-    ghost invariant = { λ s. IsBaliseAt (balise_at_value s.nid_c s.nid_bg) };
+    ghost invariant = { λ s. Is balise_at_format (balise_at_value s.nid_c s.nid_bg) };
 
     ghost inverse = { λ s. record { nid_c = s.nid_c; nid_bg = s.nid_bg } };
 }
@@ -73,9 +74,10 @@ impl BaliseAt {
 }
 
 impl Variables for BaliseAt {
-    ghost use Rattle.etcs_parts.specs.BalisesAt.{balise_at_reading};
+    ghost use Rattle.etcs_bodies.specs.Formats.{reading};
+    ghost use Rattle.etcs_parts.specs.BalisesAt.{balise_at_format};
 
-    ghost reading_of = { λ p. balise_at_reading p };
+    ghost reading_of = { λ p. reading balise_at_format p };
 
     #[tactic(auto, using(crate::specs::laws::BalisesAt::balise_at_bits))]
     fn bits(&self) -> usize {
@@ -99,22 +101,23 @@ impl Variables for BaliseAt {
 
 impl Part for BaliseAt {
     ghost use Rattle.etcs_tables.specs.Rows.{balise_at};
-    ghost use Rattle.etcs_parts.specs.BalisesAt.{balise_at_from, IsBaliseAt};
-    ghost use Rattle.etcs_parts.specs.laws.BalisesAt.{balise_at_codes};
+    ghost use Rattle.etcs_bodies.specs.Formats.{from, Is};
+    ghost use Rattle.etcs_parts.specs.BalisesAt.{balise_at_format};
+    ghost use Rattle.etcs_bodies.specs.laws.Formats.{codes_of};
+    ghost use Rattle.etcs_parts.specs.laws.BalisesAt.{balise_at_ok};
 
     ghost row = { balise_at };
 
-    ghost read_from = { balise_at_from };
+    ghost read_from = { from balise_at_format };
 
-    ghost is_part = { λ p. IsBaliseAt p };
+    ghost is_part = { λ p. Is balise_at_format p };
 
-    ghost codes = { balise_at_codes };
+    ghost codes = { codes_of balise_at_format balise_at_ok };
 
     fn holds(&self) {
         let _ = &self.nid_bg;
     }
 
-    #[tactic(auto, unfolding(crate::specs::BalisesAt::balise_at_from))]
     #[inline(always)]
     fn take<L: Numbers>(_alloc: Global, numbers: &mut L) -> Result<Option<BaliseAt>, AllocError> {
         let (nid_c, nid_bg) = if taken!(numbers.flag(Var::Q_NEWCOUNTRY)) {
@@ -133,19 +136,22 @@ impl Part for BaliseAt {
 
 impl Entry for BaliseAt {
     ghost use Rattle.std.specs.Prelude.{refl};
-    ghost use Rattle.etcs_parts.specs.laws.BalisesAt.{balise_at_most};
+    ghost use Rattle.etcs_bodies.specs.laws.Formats.{at_most};
+    ghost use Rattle.etcs_parts.specs.BalisesAt.{balise_at_format};
 
     const MOST: usize = 25;
 
     ghost MOST = { 25 };
 
-    ghost most = { λ p h. balise_at_most p };
+    ghost most = { λ p h. at_most balise_at_format p h };
 
     ghost short = { refl };
 }
 
 impl Exact for BaliseAt {
-    ghost use Rattle.etcs_parts.specs.laws.BalisesAt.{balise_at_exact};
+    ghost use Rattle.etcs_bodies.specs.laws.Formats.{exact_of};
+    ghost use Rattle.etcs_parts.specs.BalisesAt.{balise_at_format};
+    ghost use Rattle.etcs_parts.specs.laws.BalisesAt.{balise_at_ok};
 
-    ghost exact = { balise_at_exact };
+    ghost exact = { exact_of balise_at_format balise_at_ok };
 }

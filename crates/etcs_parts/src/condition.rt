@@ -27,13 +27,14 @@ pub struct Condition {
 }
 
 impl Model for Condition {
-    ghost use Rattle.etcs_parts.specs.Conditions.{ConditionValue, condition_value, IsCondition};
+    ghost use Rattle.etcs_bodies.specs.Formats.{Is};
+    ghost use Rattle.etcs_parts.specs.Conditions.{ConditionValue, condition_value, condition_format};
 
     ghost Value = { ConditionValue };
 
     ghost view = { λ s. condition_value s.d_trackcond s.l_trackcond s.m_trackcond };
 
-    ghost invariant = { λ s. IsCondition (condition_value s.d_trackcond s.l_trackcond s.m_trackcond) };
+    ghost invariant = { λ s. Is condition_format (condition_value s.d_trackcond s.l_trackcond s.m_trackcond) };
 
     ghost inverse = { λ s. record { d_trackcond = s.d_trackcond; l_trackcond = s.l_trackcond; m_trackcond = s.m_trackcond } };
 }
@@ -78,9 +79,10 @@ impl Condition {
 }
 
 impl Variables for Condition {
-    ghost use Rattle.etcs_parts.specs.Conditions.{condition_reading};
+    ghost use Rattle.etcs_bodies.specs.Formats.{reading};
+    ghost use Rattle.etcs_parts.specs.Conditions.{condition_format};
 
-    ghost reading_of = { λ p. condition_reading p };
+    ghost reading_of = { λ p. reading condition_format p };
 
     #[tactic(auto, using(crate::specs::laws::Conditions::condition_bits))]
     fn bits(&self) -> usize {
@@ -94,22 +96,23 @@ impl Variables for Condition {
 
 impl Part for Condition {
     ghost use Rattle.etcs_tables.specs.Rows.{condition};
-    ghost use Rattle.etcs_parts.specs.Conditions.{condition_from, IsCondition};
-    ghost use Rattle.etcs_parts.specs.laws.Conditions.{condition_codes};
+    ghost use Rattle.etcs_bodies.specs.Formats.{from, Is};
+    ghost use Rattle.etcs_parts.specs.Conditions.{condition_format};
+    ghost use Rattle.etcs_bodies.specs.laws.Formats.{codes_of};
+    ghost use Rattle.etcs_parts.specs.laws.Conditions.{condition_ok};
 
     ghost row = { condition };
 
-    ghost read_from = { condition_from };
+    ghost read_from = { from condition_format };
 
-    ghost is_part = { λ p. IsCondition p };
+    ghost is_part = { λ p. Is condition_format p };
 
-    ghost codes = { condition_codes };
+    ghost codes = { codes_of condition_format condition_ok };
 
     fn holds(&self) {
         let _ = &self.d_trackcond;
     }
 
-    #[tactic(auto, unfolding(crate::specs::Conditions::condition_from))]
     fn take<L: Numbers>(_alloc: Global, numbers: &mut L) -> Result<Option<Condition>, AllocError> {
         fields!(take_fields: _alloc, numbers)
     }
@@ -121,19 +124,22 @@ impl Part for Condition {
 
 impl Entry for Condition {
     ghost use Rattle.std.specs.Prelude.{refl};
-    ghost use Rattle.etcs_parts.specs.laws.Conditions.{condition_most};
+    ghost use Rattle.etcs_bodies.specs.laws.Formats.{at_most};
+    ghost use Rattle.etcs_parts.specs.Conditions.{condition_format};
 
     const MOST: usize = 34;
 
     ghost MOST = { 34 };
 
-    ghost most = { λ p h. condition_most p };
+    ghost most = { λ p h. at_most condition_format p h };
 
     ghost short = { refl };
 }
 
 impl Exact for Condition {
-    ghost use Rattle.etcs_parts.specs.laws.Conditions.{condition_exact};
+    ghost use Rattle.etcs_bodies.specs.laws.Formats.{exact_of};
+    ghost use Rattle.etcs_parts.specs.Conditions.{condition_format};
+    ghost use Rattle.etcs_parts.specs.laws.Conditions.{condition_ok};
 
-    ghost exact = { condition_exact };
+    ghost exact = { exact_of condition_format condition_ok };
 }

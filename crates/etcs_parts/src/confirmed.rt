@@ -1,7 +1,8 @@
 //! How a text is confirmed.
 
 ghost use Rattle.std.specs.Prelude.{◌≡◌, None, Some, IfOk, IfErr, IfSome, IfNone, OnOk, OnErr, ◌≤◌};
-ghost use Rattle.etcs_parts.specs.TextFrames.{IsReport, report_from, IsConfirm, confirm_from, confirmed_fault, confirmed_reading, confirmed_count, confirmed_from};
+ghost use Rattle.etcs_bodies.specs.Formats.{fault, Is, reading, from};
+ghost use Rattle.etcs_parts.specs.TextFrames.{report_format, confirm_format, confirmed_format, confirmed_count};
 
 use etcs_bodies::{Flag, Numbers, check, check_guard, taken};
 use etcs_vars::inner::VarSink;
@@ -23,8 +24,9 @@ impl Confirmed {
     ) -> Result<Confirmed, BuildFault>
         ensures number { IfOk result (λ c. c.q_textconfirm ≡ q_textconfirm) }
         ensures confirm { IfOk result (λ c. c.confirm ≡ confirm) }
-        ensures ok { OnOk result (confirmed_fault q_textconfirm confirm ≡ None) }
-        ensures fault { IfErr result (λ e. confirmed_fault q_textconfirm confirm ≡ Some e) }
+        ensures is { OnOk result (Is confirmed_format (q_textconfirm, confirm)) }
+        ensures ok { OnOk result (fault confirmed_format (q_textconfirm, confirm) ≡ None) }
+        ensures fault { IfErr result (λ e. fault confirmed_format (q_textconfirm, confirm) ≡ Some e) }
     {
         check(Var::Q_TEXTCONFIRM, u64::from(q_textconfirm))?;
         check_guard(Var::Q_TEXTCONFIRM, q_textconfirm > 0, confirm.is_some())?;
@@ -43,14 +45,14 @@ impl Confirmed {
     pub(crate) fn holds(&self) {}
 
     /// Takes what the numbers begin with.
-    #[tactic(auto, using(etcs_bodies::specs::laws::Guards::guard_ok), unfolding(crate::specs::TextFrames::confirmed_from, etcs_bodies::specs::Guards::guard_fault))]
+    #[tactic(auto, using(etcs_bodies::specs::laws::Guards::guard_ok), unfolding(etcs_bodies::specs::Guards::guard_fault))]
     pub(crate) fn take<L: Numbers>(
         _alloc: Global,
         numbers: &mut L,
     ) -> Result<Option<Confirmed>, AllocError>
-        ensures part { IfOk result (λ o. IfSome o (λ c. confirmed_fault c.q_textconfirm c.confirm ≡ None)) }
-        ensures from { IfOk result (λ o. IfSome o (λ c. confirmed_from (L.left numbers.old) ≡ Some ((c.q_textconfirm, c.confirm), L.left numbers.new))) }
-        ensures none { IfOk result (λ o. IfNone o (confirmed_from (L.left numbers.old) ≡ None)) }
+        ensures part { IfOk result (λ o. IfSome o (λ c. Is confirmed_format (c.q_textconfirm, c.confirm))) }
+        ensures from { IfOk result (λ o. IfSome o (λ c. from confirmed_format (L.left numbers.old) ≡ Some ((c.q_textconfirm, c.confirm), L.left numbers.new))) }
+        ensures none { IfOk result (λ o. IfNone o (from confirmed_format (L.left numbers.old) ≡ None)) }
     {
         let q_textconfirm = taken!(numbers.next(Var::Q_TEXTCONFIRM)) as u8;
         let confirm = if q_textconfirm > 0 {
@@ -66,7 +68,7 @@ impl Confirmed {
 
     /// Sends its variables.
     pub(crate) fn send<S: VarSink>(&self, out: &mut S) -> Result<(), AllocError>
-        ensures ok { OnOk result (out.new ≡ S.with out.old (confirmed_reading self.now.q_textconfirm self.now.confirm)) }
+        ensures ok { OnOk result (out.new ≡ S.with out.old (reading confirmed_format (self.now.q_textconfirm, self.now.confirm))) }
         ensures err { OnErr result (S.failed out.old out.new) }
     {
         match self.confirm {
@@ -101,11 +103,10 @@ impl Confirmed {
 }
 
 /// The report that the numbers begin with.
-#[tactic(auto, unfolding(crate::specs::TextFrames::report_from))]
 fn next_report<L: Numbers>(numbers: &mut L) -> Option<(u8, u16, u16)>
-    ensures part { IfSome result (λ r. IsReport r) }
-    ensures from { IfSome result (λ r. report_from (L.left numbers.old) ≡ Some (r, L.left numbers.new)) }
-    ensures none { IfNone result (report_from (L.left numbers.old) ≡ None) }
+    ensures part { IfSome result (λ r. Is report_format r) }
+    ensures from { IfSome result (λ r. from report_format (L.left numbers.old) ≡ Some (r, L.left numbers.new)) }
+    ensures none { IfNone result (from report_format (L.left numbers.old) ≡ None) }
 {
     let (message, (country, centre)) = numbers.run((
         Var::NID_TEXTMESSAGE,
@@ -115,11 +116,10 @@ fn next_report<L: Numbers>(numbers: &mut L) -> Option<(u8, u16, u16)>
 }
 
 /// The confirmation that the numbers begin with.
-#[tactic(auto, unfolding(crate::specs::TextFrames::confirm_from))]
 fn next_confirm<L: Numbers>(numbers: &mut L) -> Option<(bool, Option<(u8, u16, u16)>)>
-    ensures part { IfSome result (λ c. IsConfirm c) }
-    ensures from { IfSome result (λ c. confirm_from (L.left numbers.old) ≡ Some (c, L.left numbers.new)) }
-    ensures none { IfNone result (confirm_from (L.left numbers.old) ≡ None) }
+    ensures part { IfSome result (λ c. Is confirm_format c) }
+    ensures from { IfSome result (λ c. from confirm_format (L.left numbers.old) ≡ Some (c, L.left numbers.new)) }
+    ensures none { IfNone result (from confirm_format (L.left numbers.old) ≡ None) }
 {
     let (q_conftextdisplay, reported) = numbers.run((
         Flag(Var::Q_CONFTEXTDISPLAY),

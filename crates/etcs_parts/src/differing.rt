@@ -19,13 +19,14 @@ pub struct Differing {
 }
 
 impl Model for Differing {
-    ghost use Rattle.etcs_parts.specs.Differings.{DifferingValue, differing_value, IsDiffering};
+    ghost use Rattle.etcs_bodies.specs.Formats.{Is};
+    ghost use Rattle.etcs_parts.specs.Differings.{DifferingValue, differing_value, differing_format};
 
     ghost Value = { DifferingValue };
 
     ghost view = { λ s. differing_value s.q_diff s.category s.v_diff };
 
-    ghost invariant = { λ s. IsDiffering (differing_value s.q_diff s.category s.v_diff) };
+    ghost invariant = { λ s. Is differing_format (differing_value s.q_diff s.category s.v_diff) };
 
     ghost inverse = { λ s. record { q_diff = s.q_diff; category = s.category; v_diff = s.v_diff } };
 }
@@ -93,9 +94,10 @@ fn category_var(q_diff: u8) -> Var
 }
 
 impl Variables for Differing {
-    ghost use Rattle.etcs_parts.specs.Differings.{differing_reading};
+    ghost use Rattle.etcs_bodies.specs.Formats.{reading};
+    ghost use Rattle.etcs_parts.specs.Differings.{differing_format};
 
-    ghost reading_of = { λ d. differing_reading d };
+    ghost reading_of = { λ d. reading differing_format d };
 
     #[tactic(auto, using(crate::specs::laws::Differings::differing_spelled))]
     fn bits(&self) -> usize {
@@ -112,22 +114,23 @@ impl Variables for Differing {
 }
 
 impl Part for Differing {
-    ghost use Rattle.etcs_parts.specs.Differings.{differing_from, IsDiffering, differing_row};
-    ghost use Rattle.etcs_parts.specs.laws.Differings.{differing_codes};
+    ghost use Rattle.etcs_bodies.specs.Formats.{from, Is};
+    ghost use Rattle.etcs_parts.specs.Differings.{differing_format, differing_row};
+    ghost use Rattle.etcs_bodies.specs.laws.Formats.{codes_of};
+    ghost use Rattle.etcs_parts.specs.laws.Differings.{differing_ok};
 
     ghost row = { differing_row };
 
-    ghost read_from = { differing_from };
+    ghost read_from = { from differing_format };
 
-    ghost is_part = { λ d. IsDiffering d };
+    ghost is_part = { λ d. Is differing_format d };
 
-    ghost codes = { differing_codes };
+    ghost codes = { codes_of differing_format differing_ok };
 
     fn holds(&self) {
         let _ = &self.q_diff;
     }
 
-    #[tactic(auto, unfolding(crate::specs::Differings::differing_from))]
     fn take<L: Numbers>(_alloc: Global, numbers: &mut L) -> Result<Option<Differing>, AllocError> {
         let q_diff = taken!(numbers.next(Var::Q_DIFF)) as u8;
         let (category, v_diff) = taken!(numbers.run((category_var(q_diff), Var::V_DIFF)));
@@ -145,13 +148,14 @@ impl Part for Differing {
 
 impl Entry for Differing {
     ghost use Rattle.std.specs.Prelude.{refl};
-    ghost use Rattle.etcs_parts.specs.laws.Differings.{differing_most};
+    ghost use Rattle.etcs_bodies.specs.laws.Formats.{at_most};
+    ghost use Rattle.etcs_parts.specs.Differings.{differing_format};
 
     const MOST: usize = 13;
 
     ghost MOST = { 13 };
 
-    ghost most = { λ d h. differing_most d };
+    ghost most = { λ d h. at_most differing_format d h };
 
     ghost short = { refl };
 }

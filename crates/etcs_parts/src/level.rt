@@ -17,13 +17,14 @@ pub struct Level {
 }
 
 impl Model for Level {
-    ghost use Rattle.etcs_parts.specs.Levels.{LevelValue, level_value, IsLevel};
+    ghost use Rattle.etcs_bodies.specs.Formats.{Is};
+    ghost use Rattle.etcs_parts.specs.Levels.{LevelValue, level_value, level_format};
 
     ghost Value = { LevelValue };
 
     ghost view = { λ s. level_value s.m_leveltr s.nid_ntc };
 
-    ghost invariant = { λ s. IsLevel (level_value s.m_leveltr s.nid_ntc) };
+    ghost invariant = { λ s. Is level_format (level_value s.m_leveltr s.nid_ntc) };
 
     ghost inverse = { λ s. record { m_leveltr = s.m_leveltr; nid_ntc = s.nid_ntc } };
 }
@@ -70,9 +71,10 @@ impl Level {
 }
 
 impl Variables for Level {
-    ghost use Rattle.etcs_parts.specs.Levels.{level_reading};
+    ghost use Rattle.etcs_bodies.specs.Formats.{reading};
+    ghost use Rattle.etcs_parts.specs.Levels.{level_format};
 
-    ghost reading_of = { λ p. level_reading p };
+    ghost reading_of = { λ p. reading level_format p };
 
     #[tactic(auto, using(crate::specs::laws::Levels::level_bits))]
     fn bits(&self) -> usize {
@@ -92,22 +94,24 @@ impl Variables for Level {
 
 impl Part for Level {
     ghost use Rattle.etcs_tables.specs.Rows.{level};
-    ghost use Rattle.etcs_parts.specs.Levels.{level_from, IsLevel};
-    ghost use Rattle.etcs_parts.specs.laws.Levels.{level_codes};
+    ghost use Rattle.etcs_bodies.specs.Formats.{from, Is};
+    ghost use Rattle.etcs_parts.specs.Levels.{level_format};
+    ghost use Rattle.etcs_bodies.specs.laws.Formats.{codes_of};
+    ghost use Rattle.etcs_parts.specs.laws.Levels.{level_ok};
 
     ghost row = { level };
 
-    ghost read_from = { level_from };
+    ghost read_from = { from level_format };
 
-    ghost is_part = { λ p. IsLevel p };
+    ghost is_part = { λ p. Is level_format p };
 
-    ghost codes = { level_codes };
+    ghost codes = { codes_of level_format level_ok };
 
     fn holds(&self) {
         let _ = &self.m_leveltr;
     }
 
-    #[tactic(auto, using(etcs_bodies::specs::laws::Guards::guard_ok), unfolding(crate::specs::Levels::level_from, etcs_bodies::specs::Guards::guard_fault))]
+    #[tactic(auto, using(etcs_bodies::specs::laws::Guards::guard_ok), unfolding(etcs_bodies::specs::Guards::guard_fault))]
     fn take<L: Numbers>(_alloc: Global, numbers: &mut L) -> Result<Option<Level>, AllocError> {
         let m_leveltr = taken!(numbers.next(Var::M_LEVELTR)) as u8;
         let nid_ntc = if m_leveltr == 1 {
@@ -125,19 +129,22 @@ impl Part for Level {
 
 impl Entry for Level {
     ghost use Rattle.std.specs.Prelude.{refl};
-    ghost use Rattle.etcs_parts.specs.laws.Levels.{level_most};
+    ghost use Rattle.etcs_bodies.specs.laws.Formats.{at_most};
+    ghost use Rattle.etcs_parts.specs.Levels.{level_format};
 
     const MOST: usize = 11;
 
     ghost MOST = { 11 };
 
-    ghost most = { λ p h. level_most p };
+    ghost most = { λ p h. at_most level_format p h };
 
     ghost short = { refl };
 }
 
 impl Exact for Level {
-    ghost use Rattle.etcs_parts.specs.laws.Levels.{level_exact};
+    ghost use Rattle.etcs_bodies.specs.laws.Formats.{exact_of};
+    ghost use Rattle.etcs_parts.specs.Levels.{level_format};
+    ghost use Rattle.etcs_parts.specs.laws.Levels.{level_ok};
 
-    ghost exact = { level_exact };
+    ghost exact = { exact_of level_format level_ok };
 }

@@ -25,13 +25,14 @@ pub struct LevelAck {
 }
 
 impl Model for LevelAck {
-    ghost use Rattle.etcs_parts.specs.Levels.{LevelAckValue, level_ack_of, IsLevelAck};
+    ghost use Rattle.etcs_bodies.specs.Formats.{Is};
+    ghost use Rattle.etcs_parts.specs.Levels.{LevelAckValue, level_ack_of, level_ack_format};
 
     ghost Value = { LevelAckValue };
 
     ghost view = { λ s. level_ack_of (s.level, s.l_ackleveltr) };
 
-    ghost invariant = { λ s. IsLevelAck (level_ack_of (s.level, s.l_ackleveltr)) };
+    ghost invariant = { λ s. Is level_ack_format (level_ack_of (s.level, s.l_ackleveltr)) };
 
     ghost inverse = { λ s. record { l_ackleveltr = s.l_ackleveltr; level = s.level } };
 }
@@ -89,9 +90,10 @@ impl LevelAck {
 }
 
 impl Variables for LevelAck {
-    ghost use Rattle.etcs_parts.specs.Levels.{level_ack_reading};
+    ghost use Rattle.etcs_bodies.specs.Formats.{reading};
+    ghost use Rattle.etcs_parts.specs.Levels.{level_ack_format};
 
-    ghost reading_of = { λ p. level_ack_reading p };
+    ghost reading_of = { λ p. reading level_ack_format p };
 
     #[tactic(auto, using(etcs_bodies::specs::laws::Repeats::bit_count_is))]
     fn bits(&self) -> usize {
@@ -105,22 +107,23 @@ impl Variables for LevelAck {
 
 impl Part for LevelAck {
     ghost use Rattle.etcs_tables.specs.Rows.{level_ack};
-    ghost use Rattle.etcs_parts.specs.Levels.{level_ack_from, IsLevelAck};
-    ghost use Rattle.etcs_parts.specs.laws.Levels.{level_ack_codes};
+    ghost use Rattle.etcs_bodies.specs.Formats.{from, Is};
+    ghost use Rattle.etcs_parts.specs.Levels.{level_ack_format};
+    ghost use Rattle.etcs_bodies.specs.laws.Formats.{codes_of};
+    ghost use Rattle.etcs_parts.specs.laws.Levels.{level_ack_ok};
 
     ghost row = { level_ack };
 
-    ghost read_from = { level_ack_from };
+    ghost read_from = { from level_ack_format };
 
-    ghost is_part = { λ p. IsLevelAck p };
+    ghost is_part = { λ p. Is level_ack_format p };
 
-    ghost codes = { level_ack_codes };
+    ghost codes = { codes_of level_ack_format level_ack_ok };
 
     fn holds(&self) {
         let _ = &self.l_ackleveltr;
     }
 
-    #[tactic(auto, unfolding(crate::specs::Levels::level_ack_from))]
     fn take<L: Numbers>(alloc: Global, numbers: &mut L) -> Result<Option<LevelAck>, AllocError> {
         fields!(take_fields: alloc, numbers)
     }
@@ -132,13 +135,14 @@ impl Part for LevelAck {
 
 impl Entry for LevelAck {
     ghost use Rattle.std.specs.Prelude.{refl};
-    ghost use Rattle.etcs_parts.specs.laws.Levels.{level_ack_most};
+    ghost use Rattle.etcs_bodies.specs.laws.Formats.{at_most};
+    ghost use Rattle.etcs_parts.specs.Levels.{level_ack_format};
 
     const MOST: usize = 26;
 
     ghost MOST = { 26 };
 
-    ghost most = { λ p h. level_ack_most p };
+    ghost most = { λ p h. at_most level_ack_format p h };
 
     ghost short = { refl };
 }

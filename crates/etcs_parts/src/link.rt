@@ -30,14 +30,15 @@ pub struct Link {
 }
 
 impl Model for Link {
-    ghost use Rattle.etcs_parts.specs.Links.{LinkValue, link_value, IsLink};
+    ghost use Rattle.etcs_bodies.specs.Formats.{Is};
+    ghost use Rattle.etcs_parts.specs.Links.{LinkValue, link_value, link_format};
     ghost use Rattle.etcs_parts.specs.BalisesAt.{balise_at_value};
 
     ghost Value = { LinkValue };
 
     ghost view = { λ s. link_value s.d_link s.balise.nid_c s.balise.nid_bg s.q_linkorientation s.q_linkreaction s.q_locacc };
 
-    ghost invariant = { λ s. IsLink (link_value s.d_link s.balise.nid_c s.balise.nid_bg s.q_linkorientation s.q_linkreaction s.q_locacc) };
+    ghost invariant = { λ s. Is link_format (link_value s.d_link s.balise.nid_c s.balise.nid_bg s.q_linkorientation s.q_linkreaction s.q_locacc) };
 
     ghost inverse = { λ s. record { d_link = s.d_link; balise = balise_at_value s.nid_c s.nid_bg; q_linkorientation = s.q_linkorientation; q_linkreaction = s.q_linkreaction; q_locacc = s.q_locacc } };
 }
@@ -111,9 +112,10 @@ impl Link {
 }
 
 impl Variables for Link {
-    ghost use Rattle.etcs_parts.specs.Links.{link_reading};
+    ghost use Rattle.etcs_bodies.specs.Formats.{reading};
+    ghost use Rattle.etcs_parts.specs.Links.{link_format};
 
-    ghost reading_of = { λ l. link_reading l };
+    ghost reading_of = { λ l. reading link_format l };
 
     #[tactic(auto, using(crate::specs::laws::Links::link_bits, crate::specs::laws::BalisesAt::balise_at_bits, crate::specs::laws::Flags::at_most_one))]
     fn bits(&self) -> usize {
@@ -127,22 +129,23 @@ impl Variables for Link {
 
 impl Part for Link {
     ghost use Rattle.etcs_tables.specs.Rows.{link};
-    ghost use Rattle.etcs_parts.specs.Links.{link_from, IsLink};
-    ghost use Rattle.etcs_parts.specs.laws.Links.{link_codes};
+    ghost use Rattle.etcs_bodies.specs.Formats.{from, Is};
+    ghost use Rattle.etcs_parts.specs.Links.{link_format};
+    ghost use Rattle.etcs_bodies.specs.laws.Formats.{codes_of};
+    ghost use Rattle.etcs_parts.specs.laws.Links.{link_ok};
 
     ghost row = { link };
 
-    ghost read_from = { link_from };
+    ghost read_from = { from link_format };
 
-    ghost is_part = { λ l. IsLink l };
+    ghost is_part = { λ l. Is link_format l };
 
-    ghost codes = { link_codes };
+    ghost codes = { codes_of link_format link_ok };
 
     fn holds(&self) {
         let _ = &self.d_link;
     }
 
-    #[tactic(auto, unfolding(crate::specs::Links::link_from, crate::specs::BalisesAt::balise_at_from))]
     #[inline(always)]
     fn take<L: Numbers>(_alloc: Global, numbers: &mut L) -> Result<Option<Link>, AllocError> {
         let (d_link, far) = taken!(numbers.run((Var::D_LINK, Flag(Var::Q_NEWCOUNTRY))));
@@ -172,13 +175,14 @@ impl Part for Link {
 
 impl Entry for Link {
     ghost use Rattle.std.specs.Prelude.{refl};
-    ghost use Rattle.etcs_parts.specs.laws.Links.{link_most};
+    ghost use Rattle.etcs_bodies.specs.laws.Formats.{at_most};
+    ghost use Rattle.etcs_parts.specs.Links.{link_format};
 
     const MOST: usize = 49;
 
     ghost MOST = { 49 };
 
-    ghost most = { λ p h. link_most p };
+    ghost most = { λ p h. at_most link_format p h };
 
     ghost short = { refl };
 }

@@ -32,13 +32,14 @@ pub struct ModeSection {
 }
 
 impl Model for ModeSection {
-    ghost use Rattle.etcs_parts.specs.ModeSections.{ModeSectionValue, mode_section_value, IsModeSection};
+    ghost use Rattle.etcs_bodies.specs.Formats.{Is};
+    ghost use Rattle.etcs_parts.specs.ModeSections.{ModeSectionValue, mode_section_value, mode_section_format};
 
     ghost Value = { ModeSectionValue };
 
     ghost view = { λ s. mode_section_value s.d_mamode s.m_mamode s.v_mamode s.l_mamode s.l_ackmamode s.q_mamode };
 
-    ghost invariant = { λ s. IsModeSection (mode_section_value s.d_mamode s.m_mamode s.v_mamode s.l_mamode s.l_ackmamode s.q_mamode) };
+    ghost invariant = { λ s. Is mode_section_format (mode_section_value s.d_mamode s.m_mamode s.v_mamode s.l_mamode s.l_ackmamode s.q_mamode) };
 
     ghost inverse = { λ s. record { d_mamode = s.d_mamode; m_mamode = s.m_mamode; v_mamode = s.v_mamode; l_mamode = s.l_mamode; l_ackmamode = s.l_ackmamode; q_mamode = s.q_mamode } };
 }
@@ -113,9 +114,10 @@ impl ModeSection {
 }
 
 impl Variables for ModeSection {
-    ghost use Rattle.etcs_parts.specs.ModeSections.{mode_section_reading};
+    ghost use Rattle.etcs_bodies.specs.Formats.{reading};
+    ghost use Rattle.etcs_parts.specs.ModeSections.{mode_section_format};
 
-    ghost reading_of = { λ p. mode_section_reading p };
+    ghost reading_of = { λ p. reading mode_section_format p };
 
     #[tactic(auto, using(crate::specs::laws::ModeSections::mode_section_bits))]
     fn bits(&self) -> usize {
@@ -129,22 +131,23 @@ impl Variables for ModeSection {
 
 impl Part for ModeSection {
     ghost use Rattle.etcs_tables.specs.Rows.{mode_section};
-    ghost use Rattle.etcs_parts.specs.ModeSections.{mode_section_from, IsModeSection};
-    ghost use Rattle.etcs_parts.specs.laws.ModeSections.{mode_section_codes};
+    ghost use Rattle.etcs_bodies.specs.Formats.{from, Is};
+    ghost use Rattle.etcs_parts.specs.ModeSections.{mode_section_format};
+    ghost use Rattle.etcs_bodies.specs.laws.Formats.{codes_of};
+    ghost use Rattle.etcs_parts.specs.laws.ModeSections.{mode_section_ok};
 
     ghost row = { mode_section };
 
-    ghost read_from = { mode_section_from };
+    ghost read_from = { from mode_section_format };
 
-    ghost is_part = { λ p. IsModeSection p };
+    ghost is_part = { λ p. Is mode_section_format p };
 
-    ghost codes = { mode_section_codes };
+    ghost codes = { codes_of mode_section_format mode_section_ok };
 
     fn holds(&self) {
         let _ = &self.d_mamode;
     }
 
-    #[tactic(auto, unfolding(crate::specs::ModeSections::mode_section_from))]
     fn take<L: Numbers>(
         _alloc: Global,
         numbers: &mut L,
@@ -159,13 +162,14 @@ impl Part for ModeSection {
 
 impl Entry for ModeSection {
     ghost use Rattle.std.specs.Prelude.{refl};
-    ghost use Rattle.etcs_parts.specs.laws.ModeSections.{mode_section_most};
+    ghost use Rattle.etcs_bodies.specs.laws.Formats.{at_most};
+    ghost use Rattle.etcs_parts.specs.ModeSections.{mode_section_format};
 
     const MOST: usize = 55;
 
     ghost MOST = { 55 };
 
-    ghost most = { λ p h. mode_section_most p };
+    ghost most = { λ p h. at_most mode_section_format p h };
 
     ghost short = { refl };
 }

@@ -22,13 +22,14 @@ pub struct ReportAt {
 }
 
 impl Model for ReportAt {
-    ghost use Rattle.etcs_parts.specs.ReportsAt.{ReportAtValue, report_at_value, IsReportAt};
+    ghost use Rattle.etcs_bodies.specs.Formats.{Is};
+    ghost use Rattle.etcs_parts.specs.ReportsAt.{ReportAtValue, report_at_value, report_at_format};
 
     ghost Value = { ReportAtValue };
 
     ghost view = { λ s. report_at_value s.d_loc s.q_lgtloc };
 
-    ghost invariant = { λ s. IsReportAt (report_at_value s.d_loc s.q_lgtloc) };
+    ghost invariant = { λ s. Is report_at_format (report_at_value s.d_loc s.q_lgtloc) };
 
     ghost inverse = { λ s. record { d_loc = s.d_loc; q_lgtloc = s.q_lgtloc } };
 }
@@ -66,9 +67,10 @@ impl ReportAt {
 }
 
 impl Variables for ReportAt {
-    ghost use Rattle.etcs_parts.specs.ReportsAt.{report_at_reading};
+    ghost use Rattle.etcs_bodies.specs.Formats.{reading};
+    ghost use Rattle.etcs_parts.specs.ReportsAt.{report_at_format};
 
-    ghost reading_of = { λ p. report_at_reading p };
+    ghost reading_of = { λ p. reading report_at_format p };
 
     #[tactic(auto, using(crate::specs::laws::ReportsAt::report_at_bits))]
     fn bits(&self) -> usize {
@@ -82,22 +84,23 @@ impl Variables for ReportAt {
 
 impl Part for ReportAt {
     ghost use Rattle.etcs_tables.specs.Rows.{report_at};
-    ghost use Rattle.etcs_parts.specs.ReportsAt.{report_at_from, IsReportAt};
-    ghost use Rattle.etcs_parts.specs.laws.ReportsAt.{report_at_codes};
+    ghost use Rattle.etcs_bodies.specs.Formats.{from, Is};
+    ghost use Rattle.etcs_parts.specs.ReportsAt.{report_at_format};
+    ghost use Rattle.etcs_bodies.specs.laws.Formats.{codes_of};
+    ghost use Rattle.etcs_parts.specs.laws.ReportsAt.{report_at_ok};
 
     ghost row = { report_at };
 
-    ghost read_from = { report_at_from };
+    ghost read_from = { from report_at_format };
 
-    ghost is_part = { λ p. IsReportAt p };
+    ghost is_part = { λ p. Is report_at_format p };
 
-    ghost codes = { report_at_codes };
+    ghost codes = { codes_of report_at_format report_at_ok };
 
     fn holds(&self) {
         let _ = &self.d_loc;
     }
 
-    #[tactic(auto, unfolding(crate::specs::ReportsAt::report_at_from))]
     fn take<L: Numbers>(_alloc: Global, numbers: &mut L) -> Result<Option<ReportAt>, AllocError> {
         fields!(take_fields: _alloc, numbers)
     }
@@ -109,19 +112,22 @@ impl Part for ReportAt {
 
 impl Entry for ReportAt {
     ghost use Rattle.std.specs.Prelude.{refl};
-    ghost use Rattle.etcs_parts.specs.laws.ReportsAt.{report_at_most};
+    ghost use Rattle.etcs_bodies.specs.laws.Formats.{at_most};
+    ghost use Rattle.etcs_parts.specs.ReportsAt.{report_at_format};
 
     const MOST: usize = 16;
 
     ghost MOST = { 16 };
 
-    ghost most = { λ p h. report_at_most p };
+    ghost most = { λ p h. at_most report_at_format p h };
 
     ghost short = { refl };
 }
 
 impl Exact for ReportAt {
-    ghost use Rattle.etcs_parts.specs.laws.ReportsAt.{report_at_exact};
+    ghost use Rattle.etcs_bodies.specs.laws.Formats.{exact_of};
+    ghost use Rattle.etcs_parts.specs.ReportsAt.{report_at_format};
+    ghost use Rattle.etcs_parts.specs.laws.ReportsAt.{report_at_ok};
 
-    ghost exact = { report_at_exact };
+    ghost exact = { exact_of report_at_format report_at_ok };
 }

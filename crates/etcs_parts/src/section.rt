@@ -1,10 +1,9 @@
 //! A section of a movement authority.
 
 ghost use Rattle.std.specs.Prelude.{◌≡◌, None, Some, IfOk, IfErr, IfSome, IfNone, OnOk, OnErr};
-ghost use Rattle.etcs_parts.specs.Sections.{timer_fault, timer_reading};
+ghost use Rattle.etcs_bodies.specs.Formats.{fault, Is, reading, from};
+ghost use Rattle.etcs_parts.specs.Sections.{timer_format, times_format};
 ghost use Rattle.etcs_bodies.specs.Codecs.{opened};
-ghost use Rattle.etcs_bodies.specs.Groups.{pair_from};
-ghost use Rattle.etcs_vars.specs.declared.var.Var.TheVariants.{T_SECTIONTIMER, D_SECTIONTIMERSTOPLOC};
 
 use crate::groups::{check_group, send_group, take_group};
 use etcs_bodies::laws::Exact;
@@ -33,19 +32,21 @@ pub struct Section {
 }
 
 impl Model for Section {
-    ghost use Rattle.etcs_parts.specs.Sections.{SectionValue, section_value, IsSection};
+    ghost use Rattle.etcs_bodies.specs.Formats.{Is};
+    ghost use Rattle.etcs_parts.specs.Sections.{SectionValue, section_value, section_format};
 
     ghost Value = { SectionValue };
 
     ghost view = { λ s. section_value s.length s.timer };
 
-    ghost invariant = { λ s. IsSection (section_value s.length s.timer) };
+    ghost invariant = { λ s. Is section_format (section_value s.length s.timer) };
 
     ghost inverse = { λ s. record { length = s.length; timer = s.timer } };
 }
 
 impl Section {
-    ghost use Rattle.etcs_parts.specs.Sections.{section_value, section_fault, IsSection, end_reading, end_from};
+    ghost use Rattle.etcs_bodies.specs.Formats.{Is};
+    ghost use Rattle.etcs_parts.specs.Sections.{section_value, section_fault, section_format, end_format};
 
     /// A section of this length, in steps of Q_SCALE.
     ///
@@ -86,11 +87,11 @@ impl Section {
     }
 
     /// The end section that the numbers begin with.
-    #[tactic(auto, unfolding(crate::specs::Sections::end_from, crate::specs::Sections::timer_from), using(crate::specs::laws::Sections::same_length))]
+    #[tactic(auto, using(etcs_bodies::specs::laws::Formats::same_number))]
     pub(crate) fn end_from_numbers<L: Numbers>(numbers: &mut L) -> Option<Section>
-        ensures part { IfSome result (λ s. IsSection s) }
-        ensures from { IfSome result (λ s. end_from (L.left numbers.old) ≡ Some (s, L.left numbers.new)) }
-        ensures none { IfNone result (end_from (L.left numbers.old) ≡ None) }
+        ensures part { IfSome result (λ s. Is section_format s) }
+        ensures from { IfSome result (λ s. from end_format (L.left numbers.old) ≡ Some (s, L.left numbers.new)) }
+        ensures none { IfNone result (from end_format (L.left numbers.old) ≡ None) }
     {
         let (length, timed) = numbers.run((Var::L_ENDSECTION, Flag(Var::Q_SECTIONTIMER)))?;
         let timer = timer_behind(timed, numbers)?;
@@ -102,7 +103,7 @@ impl Section {
 
     /// Sends its variables as those of the end section.
     pub(crate) fn send_end<S: VarSink>(&self, out: &mut S) -> Result<(), AllocError>
-        ensures ok { OnOk result (out.new ≡ S.with out.old (end_reading self.now)) }
+        ensures ok { OnOk result (out.new ≡ S.with out.old (reading end_format self.now)) }
         ensures err { OnErr result (S.failed out.old out.new) }
     {
         out.send(&[(Var::L_ENDSECTION, u64::from(self.length))])?;
@@ -112,15 +113,16 @@ impl Section {
 
 /// Refuses a timer that has a fault.
 fn check_timer(timer: Option<(u16, u16)>) -> Result<(), BuildFault>
-    ensures ok { OnOk result (timer_fault timer ≡ None) }
-    ensures fault { IfErr result (λ e. timer_fault timer ≡ Some e) }
+    ensures is { OnOk result (Is timer_format timer) }
+    ensures ok { OnOk result (fault timer_format timer ≡ None) }
+    ensures fault { IfErr result (λ e. fault timer_format timer ≡ Some e) }
 {
     timer!(check_group: timer)
 }
 
 /// Sends the timer of a section, after its flag.
 fn send_timer<S: VarSink>(timer: Option<(u16, u16)>, out: &mut S) -> Result<(), AllocError>
-    ensures ok { OnOk result (out.new ≡ S.with out.old (timer_reading timer)) }
+    ensures ok { OnOk result (out.new ≡ S.with out.old (reading timer_format timer)) }
     ensures err { OnErr result (S.failed out.old out.new) }
 {
     timer!(send_group: timer, out)
@@ -129,17 +131,18 @@ fn send_timer<S: VarSink>(timer: Option<(u16, u16)>, out: &mut S) -> Result<(), 
 /// The timer that the numbers begin with, where its flag is set.
 #[inline(always)]
 fn timer_behind<L: Numbers>(timed: bool, numbers: &mut L) -> Option<Option<(u16, u16)>>
-    ensures part { IfSome result (λ t. timer_fault t ≡ None) }
-    ensures from { IfSome result (λ t. opened (pair_from T_SECTIONTIMER D_SECTIONTIMERSTOPLOC) timed (L.left numbers.old) ≡ Some (t, L.left numbers.new)) }
-    ensures none { IfNone result (opened (pair_from T_SECTIONTIMER D_SECTIONTIMERSTOPLOC) timed (L.left numbers.old) ≡ None) }
+    ensures part { IfSome result (λ t. Is timer_format t) }
+    ensures from { IfSome result (λ t. opened (from times_format) timed (L.left numbers.old) ≡ Some (t, L.left numbers.new)) }
+    ensures none { IfNone result (opened (from times_format) timed (L.left numbers.old) ≡ None) }
 {
     timer!(take_group: numbers, timed)
 }
 
 impl Variables for Section {
-    ghost use Rattle.etcs_parts.specs.Sections.{section_reading};
+    ghost use Rattle.etcs_bodies.specs.Formats.{reading};
+    ghost use Rattle.etcs_parts.specs.Sections.{section_format};
 
-    ghost reading_of = { λ p. section_reading p };
+    ghost reading_of = { λ p. reading section_format p };
 
     #[tactic(auto, using(crate::specs::laws::Sections::section_bits))]
     fn bits(&self) -> usize {
@@ -155,22 +158,23 @@ impl Variables for Section {
 impl Part for Section {
     ghost use Rattle.etcs_vars.specs.declared.var.Var.TheVariants.{L_SECTION};
     ghost use Rattle.etcs_tables.specs.Rows.{section_timer, ◌▸◌};
-    ghost use Rattle.etcs_parts.specs.Sections.{section_from, IsSection};
-    ghost use Rattle.etcs_parts.specs.laws.Sections.{section_codes};
+    ghost use Rattle.etcs_bodies.specs.Formats.{from, Is};
+    ghost use Rattle.etcs_parts.specs.Sections.{section_format};
+    ghost use Rattle.etcs_bodies.specs.laws.Formats.{codes_of};
+    ghost use Rattle.etcs_parts.specs.laws.Sections.{section_ok};
 
     ghost row = { λ rest. L_SECTION ▸ section_timer rest };
 
-    ghost read_from = { section_from };
+    ghost read_from = { from section_format };
 
-    ghost is_part = { λ p. IsSection p };
+    ghost is_part = { λ p. Is section_format p };
 
-    ghost codes = { section_codes };
+    ghost codes = { codes_of section_format section_ok };
 
     fn holds(&self) {
         let _ = &self.length;
     }
 
-    #[tactic(auto, unfolding(crate::specs::Sections::section_from, crate::specs::Sections::timer_from))]
     fn take<L: Numbers>(_alloc: Global, numbers: &mut L) -> Result<Option<Section>, AllocError> {
         let (length, timed) = taken!(numbers.run((Var::L_SECTION, Flag(Var::Q_SECTIONTIMER))));
         let timer = taken!(timer_behind(timed, numbers));
@@ -186,7 +190,9 @@ impl Part for Section {
 }
 
 impl Exact for Section {
-    ghost use Rattle.etcs_parts.specs.laws.Sections.{section_exact};
+    ghost use Rattle.etcs_bodies.specs.laws.Formats.{exact_of};
+    ghost use Rattle.etcs_parts.specs.Sections.{section_format};
+    ghost use Rattle.etcs_parts.specs.laws.Sections.{section_ok};
 
-    ghost exact = { section_exact };
+    ghost exact = { exact_of section_format section_ok };
 }

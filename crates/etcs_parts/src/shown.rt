@@ -18,13 +18,14 @@ pub struct Shown {
 }
 
 impl Model for Shown {
-    ghost use Rattle.etcs_parts.specs.Displays.{ShownValue, shown_value, IsShown};
+    ghost use Rattle.etcs_bodies.specs.Formats.{Is};
+    ghost use Rattle.etcs_parts.specs.Displays.{ShownValue, shown_value, shown_format};
 
     ghost Value = { ShownValue };
 
     ghost view = { λ s. shown_value s.m_modetextdisplay s.m_leveltextdisplay s.nid_ntc };
 
-    ghost invariant = { λ s. IsShown (shown_value s.m_modetextdisplay s.m_leveltextdisplay s.nid_ntc) };
+    ghost invariant = { λ s. Is shown_format (shown_value s.m_modetextdisplay s.m_leveltextdisplay s.nid_ntc) };
 
     ghost inverse = { λ s. record { m_modetextdisplay = s.m_modetextdisplay; m_leveltextdisplay = s.m_leveltextdisplay; nid_ntc = s.nid_ntc } };
 }
@@ -88,9 +89,10 @@ impl Shown {
 }
 
 impl Variables for Shown {
-    ghost use Rattle.etcs_parts.specs.Displays.{shown_reading};
+    ghost use Rattle.etcs_bodies.specs.Formats.{reading};
+    ghost use Rattle.etcs_parts.specs.Displays.{shown_format};
 
-    ghost reading_of = { λ p. shown_reading p };
+    ghost reading_of = { λ p. reading shown_format p };
 
     #[tactic(auto, using(crate::specs::laws::Displays::shown_bits))]
     fn bits(&self) -> usize {
@@ -114,22 +116,24 @@ impl Variables for Shown {
 
 impl Part for Shown {
     ghost use Rattle.etcs_tables.specs.Rows.{shown};
-    ghost use Rattle.etcs_parts.specs.Displays.{shown_from, IsShown};
-    ghost use Rattle.etcs_parts.specs.laws.Displays.{shown_codes};
+    ghost use Rattle.etcs_bodies.specs.Formats.{from, Is};
+    ghost use Rattle.etcs_parts.specs.Displays.{shown_format};
+    ghost use Rattle.etcs_bodies.specs.laws.Formats.{codes_of};
+    ghost use Rattle.etcs_parts.specs.laws.Displays.{shown_ok};
 
     ghost row = { shown };
 
-    ghost read_from = { shown_from };
+    ghost read_from = { from shown_format };
 
-    ghost is_part = { λ p. IsShown p };
+    ghost is_part = { λ p. Is shown_format p };
 
-    ghost codes = { shown_codes };
+    ghost codes = { codes_of shown_format shown_ok };
 
     fn holds(&self) {
         let _ = &self.m_modetextdisplay;
     }
 
-    #[tactic(auto, using(etcs_bodies::specs::laws::Guards::guard_ok), unfolding(crate::specs::Displays::shown_from, etcs_bodies::specs::Guards::guard_fault))]
+    #[tactic(auto, using(etcs_bodies::specs::laws::Guards::guard_ok), unfolding(etcs_bodies::specs::Guards::guard_fault))]
     fn take<L: Numbers>(_alloc: Global, numbers: &mut L) -> Result<Option<Shown>, AllocError> {
         let (mode, level) = taken!(numbers.run((Var::M_MODETEXTDISPLAY, Var::M_LEVELTEXTDISPLAY)));
         let m_modetextdisplay = mode as u8;
@@ -152,7 +156,9 @@ impl Part for Shown {
 }
 
 impl Exact for Shown {
-    ghost use Rattle.etcs_parts.specs.laws.Displays.{shown_exact};
+    ghost use Rattle.etcs_bodies.specs.laws.Formats.{exact_of};
+    ghost use Rattle.etcs_parts.specs.Displays.{shown_format};
+    ghost use Rattle.etcs_parts.specs.laws.Displays.{shown_ok};
 
-    ghost exact = { shown_exact };
+    ghost exact = { exact_of shown_format shown_ok };
 }

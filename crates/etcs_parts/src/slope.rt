@@ -25,13 +25,14 @@ pub struct Slope {
 }
 
 impl Model for Slope {
-    ghost use Rattle.etcs_parts.specs.Slopes.{SlopeValue, slope_value, IsSlope};
+    ghost use Rattle.etcs_bodies.specs.Formats.{Is};
+    ghost use Rattle.etcs_parts.specs.Slopes.{SlopeValue, slope_value, slope_format};
 
     ghost Value = { SlopeValue };
 
     ghost view = { λ s. slope_value s.d_gradient s.q_gdir s.g_a };
 
-    ghost invariant = { λ s. IsSlope (slope_value s.d_gradient s.q_gdir s.g_a) };
+    ghost invariant = { λ s. Is slope_format (slope_value s.d_gradient s.q_gdir s.g_a) };
 
     ghost inverse = { λ s. record { d_gradient = s.d_gradient; q_gdir = s.q_gdir; g_a = s.g_a } };
 }
@@ -78,9 +79,10 @@ impl Slope {
 }
 
 impl Variables for Slope {
-    ghost use Rattle.etcs_parts.specs.Slopes.{slope_reading};
+    ghost use Rattle.etcs_bodies.specs.Formats.{reading};
+    ghost use Rattle.etcs_parts.specs.Slopes.{slope_format};
 
-    ghost reading_of = { λ p. slope_reading p };
+    ghost reading_of = { λ p. reading slope_format p };
 
     #[tactic(auto, using(crate::specs::laws::Slopes::slope_bits))]
     fn bits(&self) -> usize {
@@ -94,22 +96,23 @@ impl Variables for Slope {
 
 impl Part for Slope {
     ghost use Rattle.etcs_tables.specs.Rows.{slope};
-    ghost use Rattle.etcs_parts.specs.Slopes.{slope_from, IsSlope};
-    ghost use Rattle.etcs_parts.specs.laws.Slopes.{slope_codes};
+    ghost use Rattle.etcs_bodies.specs.Formats.{from, Is};
+    ghost use Rattle.etcs_parts.specs.Slopes.{slope_format};
+    ghost use Rattle.etcs_bodies.specs.laws.Formats.{codes_of};
+    ghost use Rattle.etcs_parts.specs.laws.Slopes.{slope_ok};
 
     ghost row = { slope };
 
-    ghost read_from = { slope_from };
+    ghost read_from = { from slope_format };
 
-    ghost is_part = { λ p. IsSlope p };
+    ghost is_part = { λ p. Is slope_format p };
 
-    ghost codes = { slope_codes };
+    ghost codes = { codes_of slope_format slope_ok };
 
     fn holds(&self) {
         let _ = &self.d_gradient;
     }
 
-    #[tactic(auto, unfolding(crate::specs::Slopes::slope_from))]
     #[inline(always)]
     fn take<L: Numbers>(_alloc: Global, numbers: &mut L) -> Result<Option<Slope>, AllocError> {
         fields!(take_fields: _alloc, numbers)
@@ -122,13 +125,14 @@ impl Part for Slope {
 
 impl Entry for Slope {
     ghost use Rattle.std.specs.Prelude.{refl};
-    ghost use Rattle.etcs_parts.specs.laws.Slopes.{slope_most};
+    ghost use Rattle.etcs_bodies.specs.laws.Formats.{at_most};
+    ghost use Rattle.etcs_parts.specs.Slopes.{slope_format};
 
     const MOST: usize = 24;
 
     ghost MOST = { 24 };
 
-    ghost most = { λ p h. slope_most p };
+    ghost most = { λ p h. at_most slope_format p h };
 
     ghost short = { refl };
 }

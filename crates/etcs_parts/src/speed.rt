@@ -30,13 +30,14 @@ pub struct Speed {
 }
 
 impl Model for Speed {
-    ghost use Rattle.etcs_parts.specs.Speeds.{SpeedValue, speed_value, IsSpeed};
+    ghost use Rattle.etcs_bodies.specs.Formats.{Is};
+    ghost use Rattle.etcs_parts.specs.Speeds.{SpeedValue, speed_value, speed_format};
 
     ghost Value = { SpeedValue };
 
     ghost view = { λ s. speed_value s.d_static s.v_static s.q_front s.differing };
 
-    ghost invariant = { λ s. IsSpeed (speed_value s.d_static s.v_static s.q_front s.differing) };
+    ghost invariant = { λ s. Is speed_format (speed_value s.d_static s.v_static s.q_front s.differing) };
 
     ghost inverse = { λ s. record { d_static = s.d_static; v_static = s.v_static; q_front = s.q_front; differing = s.differing } };
 }
@@ -101,9 +102,10 @@ impl Speed {
 }
 
 impl Variables for Speed {
-    ghost use Rattle.etcs_parts.specs.Speeds.{speed_reading};
+    ghost use Rattle.etcs_bodies.specs.Formats.{reading};
+    ghost use Rattle.etcs_parts.specs.Speeds.{speed_format};
 
-    ghost reading_of = { λ s. speed_reading s };
+    ghost reading_of = { λ s. reading speed_format s };
 
     #[tactic(auto, using(crate::specs::laws::Speeds::speed_spelled, crate::specs::laws::Speeds::few_entries))]
     fn bits(&self) -> usize {
@@ -117,22 +119,23 @@ impl Variables for Speed {
 
 impl Part for Speed {
     ghost use Rattle.etcs_tables.specs.Rows.{speed};
-    ghost use Rattle.etcs_parts.specs.Speeds.{IsSpeed, speed_from};
-    ghost use Rattle.etcs_parts.specs.laws.Speeds.{speed_codes};
+    ghost use Rattle.etcs_bodies.specs.Formats.{from, Is};
+    ghost use Rattle.etcs_parts.specs.Speeds.{speed_format};
+    ghost use Rattle.etcs_bodies.specs.laws.Formats.{codes_of};
+    ghost use Rattle.etcs_parts.specs.laws.Speeds.{speed_ok};
 
     ghost row = { speed };
 
-    ghost read_from = { speed_from };
+    ghost read_from = { from speed_format };
 
-    ghost is_part = { λ s. IsSpeed s };
+    ghost is_part = { λ s. Is speed_format s };
 
-    ghost codes = { speed_codes };
+    ghost codes = { codes_of speed_format speed_ok };
 
     fn holds(&self) {
         let _ = &self.d_static;
     }
 
-    #[tactic(auto, unfolding(crate::specs::Speeds::speed_from))]
     fn take<L: Numbers>(alloc: Global, numbers: &mut L) -> Result<Option<Speed>, AllocError> {
         fields!(take_fields: alloc, numbers)
     }
@@ -144,13 +147,14 @@ impl Part for Speed {
 
 impl Entry for Speed {
     ghost use Rattle.std.specs.Prelude.{refl};
-    ghost use Rattle.etcs_parts.specs.laws.Speeds.{speed_most};
+    ghost use Rattle.etcs_bodies.specs.laws.Formats.{at_most};
+    ghost use Rattle.etcs_parts.specs.Speeds.{speed_format};
 
     const MOST: usize = 431;
 
     ghost MOST = { 431 };
 
-    ghost most = { speed_most };
+    ghost most = { λ s h. at_most speed_format s h };
 
     ghost short = { refl };
 }

@@ -36,13 +36,14 @@ pub struct TextFrame {
 }
 
 impl Model for TextFrame {
-    ghost use Rattle.etcs_parts.specs.TextFrames.{TextFrameValue, text_frame_value, IsTextFrame};
+    ghost use Rattle.etcs_bodies.specs.Formats.{Is};
+    ghost use Rattle.etcs_parts.specs.TextFrames.{TextFrameValue, text_frame_value, text_frame_format};
 
     ghost Value = { TextFrameValue };
 
     ghost view = { λ s. text_frame_value s.q_scale s.q_textclass s.q_textdisplay s.d_textdisplay s.start s.l_textdisplay s.t_textdisplay s.end s.confirmed.q_textconfirm s.confirmed.confirm };
 
-    ghost invariant = { λ s. IsTextFrame (text_frame_value s.q_scale s.q_textclass s.q_textdisplay s.d_textdisplay s.start s.l_textdisplay s.t_textdisplay s.end s.confirmed.q_textconfirm s.confirmed.confirm) };
+    ghost invariant = { λ s. Is text_frame_format (text_frame_value s.q_scale s.q_textclass s.q_textdisplay s.d_textdisplay s.start s.l_textdisplay s.t_textdisplay s.end s.confirmed.q_textconfirm s.confirmed.confirm) };
 
     ghost inverse = { λ s. record { q_scale = s.q_scale; q_textclass = s.q_textclass; q_textdisplay = s.q_textdisplay; d_textdisplay = s.d_textdisplay; l_textdisplay = s.l_textdisplay; t_textdisplay = s.t_textdisplay; confirmed = record { q_textconfirm = s.q_textconfirm; confirm = s.confirm }; start = s.start; end = s.end } };
 }
@@ -162,9 +163,10 @@ impl TextFrame {
 }
 
 impl Variables for TextFrame {
-    ghost use Rattle.etcs_parts.specs.TextFrames.{text_frame_reading};
+    ghost use Rattle.etcs_bodies.specs.Formats.{reading};
+    ghost use Rattle.etcs_parts.specs.TextFrames.{text_frame_format};
 
-    ghost reading_of = { λ t. text_frame_reading t };
+    ghost reading_of = { λ t. reading text_frame_format t };
 
     #[tactic(auto, using(crate::specs::laws::TextFrames::text_frame_bits, crate::specs::laws::Displays::shown_small))]
     fn bits(&self) -> usize {
@@ -178,22 +180,23 @@ impl Variables for TextFrame {
 
 impl Part for TextFrame {
     ghost use Rattle.etcs_tables.specs.Rows.{text_frame};
-    ghost use Rattle.etcs_parts.specs.TextFrames.{IsTextFrame, text_frame_from};
-    ghost use Rattle.etcs_parts.specs.laws.TextFrames.{text_frame_codes};
+    ghost use Rattle.etcs_bodies.specs.Formats.{from, Is};
+    ghost use Rattle.etcs_parts.specs.TextFrames.{text_frame_format};
+    ghost use Rattle.etcs_bodies.specs.laws.Formats.{codes_of};
+    ghost use Rattle.etcs_parts.specs.laws.TextFrames.{text_frame_ok};
 
     ghost row = { text_frame };
 
-    ghost read_from = { text_frame_from };
+    ghost read_from = { from text_frame_format };
 
-    ghost is_part = { λ t. IsTextFrame t };
+    ghost is_part = { λ t. Is text_frame_format t };
 
-    ghost codes = { text_frame_codes };
+    ghost codes = { codes_of text_frame_format text_frame_ok };
 
     fn holds(&self) {
         let _ = &self.q_scale;
     }
 
-    #[tactic(auto, unfolding(crate::specs::TextFrames::text_frame_from))]
     fn take<L: Numbers>(alloc: Global, numbers: &mut L) -> Result<Option<TextFrame>, AllocError> {
         fields!(take_fields: alloc, numbers)
     }

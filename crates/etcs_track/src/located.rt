@@ -1,7 +1,8 @@
 //! Where a train is, and what it does.
 
 ghost use Rattle.std.specs.Prelude.{◌≡◌, None, Some, IfOk, IfErr, IfSome, IfNone, OnOk, OnErr};
-ghost use Rattle.etcs_track.specs.Locations.{integrity_fault, integrity_reading, integrity_from, level_fault, level_reading, level_from};
+ghost use Rattle.etcs_bodies.specs.Formats.{fault, Is, reading, from};
+ghost use Rattle.etcs_track.specs.Locations.{integrity_format, level_format};
 
 use etcs_bodies::{Numbers, Part, check, check_guard, send_run, take_run, taken};
 use etcs_vars::inner::{VarSink, Variables};
@@ -70,7 +71,7 @@ impl Located {
     /// - `Guard(Q_LENGTH)`, before L_TRAININT, where that is missing and Q_LENGTH is 1 or 2, or is given and Q_LENGTH
     ///   is another.
     /// - `Guard(M_LEVEL)`, where NID_NTC is missing and M_LEVEL is 1, or is given and M_LEVEL is another.
-    #[tactic(auto, unfolding(crate::specs::Locations::located_fault))]
+    #[tactic(auto, unfolding(crate::specs::Locations::located_fault, crate::specs::Locations::IsLocated))]
     pub fn new(
         d_lrbg: u16,
         q_dirlrbg: u8,
@@ -203,8 +204,9 @@ impl Located {
 
 /// Refuses a Q_LENGTH that isn't admitted, and a length that can't follow it.
 fn check_integrity(q_length: u8, l_trainint: Option<u16>) -> Result<(), BuildFault>
-    ensures ok { OnOk result (integrity_fault q_length l_trainint ≡ None) }
-    ensures fault { IfErr result (λ e. integrity_fault q_length l_trainint ≡ Some e) }
+    ensures is { OnOk result (Is integrity_format (q_length, l_trainint)) }
+    ensures ok { OnOk result (fault integrity_format (q_length, l_trainint) ≡ None) }
+    ensures fault { IfErr result (λ e. fault integrity_format (q_length, l_trainint) ≡ Some e) }
 {
     check(Var::Q_LENGTH, u64::from(q_length))?;
     check_guard(
@@ -220,8 +222,9 @@ fn check_integrity(q_length: u8, l_trainint: Option<u16>) -> Result<(), BuildFau
 
 /// Refuses an M_LEVEL that isn't admitted, and a national system that can't follow it.
 fn check_level(m_level: u8, nid_ntc: Option<u8>) -> Result<(), BuildFault>
-    ensures ok { OnOk result (level_fault m_level nid_ntc ≡ None) }
-    ensures fault { IfErr result (λ e. level_fault m_level nid_ntc ≡ Some e) }
+    ensures is { OnOk result (Is level_format (m_level, nid_ntc)) }
+    ensures ok { OnOk result (fault level_format (m_level, nid_ntc) ≡ None) }
+    ensures fault { IfErr result (λ e. fault level_format (m_level, nid_ntc) ≡ Some e) }
 {
     check(Var::M_LEVEL, u64::from(m_level))?;
     check_guard(Var::M_LEVEL, m_level == 1, nid_ntc.is_some())?;
@@ -232,11 +235,11 @@ fn check_level(m_level: u8, nid_ntc: Option<u8>) -> Result<(), BuildFault>
 }
 
 /// Q_LENGTH, and where it is 1 or 2 the length, that the numbers begin with.
-#[tactic(auto, using(etcs_bodies::specs::laws::Guards::guard_ok), unfolding(crate::specs::Locations::integrity_from, etcs_bodies::specs::Guards::guard_fault))]
+#[tactic(auto, using(etcs_bodies::specs::laws::Guards::guard_ok), unfolding(etcs_bodies::specs::Guards::guard_fault))]
 fn take_integrity<L: Numbers>(numbers: &mut L) -> Option<(u8, Option<u16>)>
-    ensures part { IfSome result (λ p. integrity_fault p.0 p.1 ≡ None) }
-    ensures from { IfSome result (λ p. integrity_from (L.left numbers.old) ≡ Some ((p.0, p.1), L.left numbers.new)) }
-    ensures none { IfNone result (integrity_from (L.left numbers.old) ≡ None) }
+    ensures part { IfSome result (λ p. Is integrity_format (p.0, p.1)) }
+    ensures from { IfSome result (λ p. from integrity_format (L.left numbers.old) ≡ Some ((p.0, p.1), L.left numbers.new)) }
+    ensures none { IfNone result (from integrity_format (L.left numbers.old) ≡ None) }
 {
     let q_length = numbers.next(Var::Q_LENGTH)? as u8;
     let l_trainint = if q_length == 1 || q_length == 2 {
@@ -248,11 +251,11 @@ fn take_integrity<L: Numbers>(numbers: &mut L) -> Option<(u8, Option<u16>)>
 }
 
 /// M_LEVEL, and where it is 1 the national system, that the numbers begin with.
-#[tactic(auto, using(etcs_bodies::specs::laws::Guards::guard_ok), unfolding(crate::specs::Locations::level_from, etcs_bodies::specs::Guards::guard_fault))]
+#[tactic(auto, using(etcs_bodies::specs::laws::Guards::guard_ok), unfolding(etcs_bodies::specs::Guards::guard_fault))]
 fn take_level<L: Numbers>(numbers: &mut L) -> Option<(u8, Option<u8>)>
-    ensures part { IfSome result (λ p. level_fault p.0 p.1 ≡ None) }
-    ensures from { IfSome result (λ p. level_from (L.left numbers.old) ≡ Some ((p.0, p.1), L.left numbers.new)) }
-    ensures none { IfNone result (level_from (L.left numbers.old) ≡ None) }
+    ensures part { IfSome result (λ p. Is level_format (p.0, p.1)) }
+    ensures from { IfSome result (λ p. from level_format (L.left numbers.old) ≡ Some ((p.0, p.1), L.left numbers.new)) }
+    ensures none { IfNone result (from level_format (L.left numbers.old) ≡ None) }
 {
     let m_level = numbers.next(Var::M_LEVEL)? as u8;
     let nid_ntc = if m_level == 1 {
@@ -269,7 +272,7 @@ fn send_integrity<S: VarSink>(
     l_trainint: Option<u16>,
     out: &mut S,
 ) -> Result<(), AllocError>
-    ensures ok { OnOk result (out.new ≡ S.with out.old (integrity_reading q_length l_trainint)) }
+    ensures ok { OnOk result (out.new ≡ S.with out.old (reading integrity_format (q_length, l_trainint))) }
     ensures err { OnErr result (S.failed out.old out.new) }
 {
     match l_trainint {
@@ -283,7 +286,7 @@ fn send_integrity<S: VarSink>(
 
 /// Sends M_LEVEL and the national system.
 fn send_level<S: VarSink>(m_level: u8, nid_ntc: Option<u8>, out: &mut S) -> Result<(), AllocError>
-    ensures ok { OnOk result (out.new ≡ S.with out.old (level_reading m_level nid_ntc)) }
+    ensures ok { OnOk result (out.new ≡ S.with out.old (reading level_format (m_level, nid_ntc))) }
     ensures err { OnErr result (S.failed out.old out.new) }
 {
     match nid_ntc {
@@ -296,9 +299,10 @@ fn send_level<S: VarSink>(m_level: u8, nid_ntc: Option<u8>, out: &mut S) -> Resu
 }
 
 impl Variables for Located {
-    ghost use Rattle.etcs_track.specs.Locations.{located_reading};
+    ghost use Rattle.etcs_bodies.specs.Formats.{reading};
+    ghost use Rattle.etcs_track.specs.Locations.{located_format};
 
-    ghost reading_of = { λ p. located_reading p };
+    ghost reading_of = { λ p. reading located_format p };
 
     #[tactic(auto, using(crate::specs::laws::Locations::located_bits))]
     fn bits(&self) -> usize {
@@ -316,12 +320,13 @@ impl Variables for Located {
 
 impl Part for Located {
     ghost use Rattle.etcs_tables.specs.Rows.{located};
-    ghost use Rattle.etcs_track.specs.Locations.{located_from, IsLocated};
+    ghost use Rattle.etcs_bodies.specs.Formats.{from};
+    ghost use Rattle.etcs_track.specs.Locations.{located_format, IsLocated};
     ghost use Rattle.etcs_track.specs.laws.Locations.{located_codes};
 
     ghost row = { located };
 
-    ghost read_from = { located_from };
+    ghost read_from = { from located_format };
 
     ghost is_part = { λ p. IsLocated p };
 
@@ -331,7 +336,7 @@ impl Part for Located {
         let _ = &self.d_lrbg;
     }
 
-    #[tactic(auto, unfolding(crate::specs::Locations::located_fault, crate::specs::Locations::located_from))]
+    #[tactic(auto, unfolding(crate::specs::Locations::IsLocated))]
     fn take<L: Numbers>(_alloc: Global, numbers: &mut L) -> Result<Option<Located>, AllocError> {
         take_run!(_alloc numbers d_lrbg: D_LRBG u16, q_dirlrbg: Q_DIRLRBG u8, q_dlrbg: Q_DLRBG u8);
         take_run!(_alloc numbers l_doubtover: L_DOUBTOVER u16, l_doubtunder: L_DOUBTUNDER u16);

@@ -49,6 +49,7 @@ impl PositionReport {
     /// # Errors
     ///
     /// The first of these: [`BuildFault::NotAdmitted`] with Q_SCALE, above 2, or with NID_LRBG, above 16,777,215.
+    #[tactic(auto, unfolding(crate::specs::Locations::IsLocated))]
     pub fn new(q_scale: u8, nid_lrbg: u32, located: Located) -> Result<PositionReport, BuildFault>
         ensures ok { IfOk result (λ p. p ≡ position_report_value q_scale nid_lrbg located) }
         ensures none { IfOk result (λ p. position_report_fault (position_report_value q_scale nid_lrbg located) ≡ None) }
@@ -96,7 +97,9 @@ impl Variables for PositionReport {
 
 impl Body for PositionReport {
     ghost use Rattle.etcs_tables.specs.declared.row.Way.TheVariants.{ToTrack};
-    ghost use Rattle.etcs_track.specs.Reports.{IsPositionReport, position_report_from};
+    ghost use Rattle.etcs_bodies.specs.PacketCodes.{directed_from, never};
+    ghost use Rattle.etcs_bodies.specs.Formats.{from};
+    ghost use Rattle.etcs_track.specs.Reports.{IsPositionReport, position_report_format};
     ghost use Rattle.etcs_track.specs.laws.Reports.{position_report_codes};
 
     const NID: u8 = 0;
@@ -111,7 +114,7 @@ impl Body for PositionReport {
 
     ghost is_value = { λ p. IsPositionReport p };
 
-    ghost read_from = { λ dir s. position_report_from dir s };
+    ghost read_from = { λ dir s. directed_from (from position_report_format) never (λ d p. p) dir s };
 
     ghost codes = { position_report_codes };
 
@@ -120,7 +123,7 @@ impl Body for PositionReport {
         0
     }
 
-    #[tactic(auto, unfolding(etcs_bodies::specs::PacketCodes::directed_from, crate::specs::Reports::position_report_from))]
+    #[tactic(auto, unfolding(etcs_bodies::specs::PacketCodes::directed_from, crate::specs::Locations::IsLocated))]
     fn take<L: Numbers>(
         alloc: Global,
         _dir: u8,

@@ -53,6 +53,7 @@ impl PositionReportTwo {
     ///
     /// The first of these: [`BuildFault::NotAdmitted`] with Q_SCALE, above 2, with NID_LRBG, or with NID_PRVLRBG, above
     /// 16,777,215.
+    #[tactic(auto, unfolding(crate::specs::Locations::IsLocated))]
     pub fn new(
         q_scale: u8,
         nid_lrbg: u32,
@@ -112,7 +113,9 @@ impl Variables for PositionReportTwo {
 
 impl Body for PositionReportTwo {
     ghost use Rattle.etcs_tables.specs.declared.row.Way.TheVariants.{ToTrack};
-    ghost use Rattle.etcs_track.specs.Reports.{IsPositionReportTwo, position_report_two_from};
+    ghost use Rattle.etcs_bodies.specs.PacketCodes.{directed_from, never};
+    ghost use Rattle.etcs_bodies.specs.Formats.{from};
+    ghost use Rattle.etcs_track.specs.Reports.{IsPositionReportTwo, position_report_two_format};
     ghost use Rattle.etcs_track.specs.laws.Reports.{position_report_two_codes};
 
     const NID: u8 = 1;
@@ -127,7 +130,7 @@ impl Body for PositionReportTwo {
 
     ghost is_value = { λ p. IsPositionReportTwo p };
 
-    ghost read_from = { λ dir s. position_report_two_from dir s };
+    ghost read_from = { λ dir s. directed_from (from position_report_two_format) never (λ d p. p) dir s };
 
     ghost codes = { position_report_two_codes };
 
@@ -136,7 +139,7 @@ impl Body for PositionReportTwo {
         0
     }
 
-    #[tactic(auto, unfolding(etcs_bodies::specs::PacketCodes::directed_from, crate::specs::Reports::position_report_two_from))]
+    #[tactic(auto, unfolding(etcs_bodies::specs::PacketCodes::directed_from, crate::specs::Locations::IsLocated))]
     fn take<L: Numbers>(
         alloc: Global,
         _dir: u8,

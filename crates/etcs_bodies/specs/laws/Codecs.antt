@@ -11,7 +11,6 @@ use Rattle.etcs_vars.specs.Reading.{Reading, Then}
 use Rattle.etcs_tables.specs.declared.item.Test.{Test}
 use Rattle.etcs_tables.specs.declared.item.Test.TheVariants.{IsOne}
 use Rattle.etcs_tables.specs.Layouts.{Layout, whole, one, counted, Scope, Reads, holds, nearest, passes}
-use Rattle.etcs_bodies.specs.Faults.{option_fault}
 use Rattle.etcs_bodies.specs.Taking.{Left, ahead, ◌and_then◌, next_number, next_flag, times_from}
 use Rattle.etcs_bodies.specs.laws.Takes.{admitted, number_ok, ahead_both, taken, some_pair, next_is, next_sound, count_ok, counted_admitted, flag_is, flag_sound, as_bit, in_width}
 use Rattle.etcs_bodies.specs.laws.Repeats.{times_in, times_out, times_complete, times_sound}
@@ -199,14 +198,18 @@ module _ {W : Type 0} (v : Var) (is : IsFlag v) {row : Layout → Layout} {IsW :
         found rest r a.1 a.2 a.0 b.0 b.1 a.3 a.4 a.5;
   }
 
--- a number that need not be there
-pub option_is : (v : Var) (o : Option ℕ) → option_fault v o ≡ None → IsOptional (λ (n : ℕ). number_fault v n ≡ None) o
-option_is v None h = tt
-option_is v (Some n) h = h
+-- ---- The same values and numbers by another account of what is a value, with the reading written out.
 
-pub option_none : (v : Var) (o : Option ℕ) → IsOptional (λ (n : ℕ). number_fault v n ≡ None) o → option_fault v o ≡ None
-option_none v None h = refl
-option_none v (Some n) h = h
+pub renamed : {V : Type 0} {row : Layout → Layout} {IsV IsW : V → Type 0} {reading shown : V → Reading} {from : Left → Option (V × Left)}
+    → Codes row IsV reading from → ((v : V) → IsW v → IsV v) → ((v : V) → IsV v → IsW v) → ((v : V) → reading v ≡ shown v) → Codes row IsW shown from
+renamed {reading = reading} codes is so same = record {
+  complete = λ v s h. rw (← same v) (codes.complete v s (is v h));
+  sound = λ v s t e. let a = codes.sound v s t e in (so v a.0, a.1 ∙ ap (λ r. ahead r t) (same v));
+  into = λ v rest s x h k. rw (← same v) (codes.into v rest s x (is v h) k);
+  out = λ rest s r reads.
+      let a = codes.out rest s r reads in
+      (a.0, a.1, a.2, so a.0 a.3, a.4 ∙ ap (λ (t : Reading). t ++ a.1) (same a.0), a.5);
+}
 
 -- ---- The same value in another form, with its reading written out.
 

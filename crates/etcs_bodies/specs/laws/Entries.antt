@@ -21,7 +21,7 @@ module _ {V : Type 0} {row : Layout → Layout} {IsV : V → Type 0} {reading : 
 -- ---- Their bits.
 
 module _ {V : Type 0} (IsV : V → Type 0) (reading : V → Reading) (most : ℕ) (each : (v : V) → IsV v → bit_count (reading v) ≤ most) where
-  all_most : (vs : List V) → All IsV vs → bit_count (flat_map reading vs) ≤ length vs * most
+  pub all_most : (vs : List V) → All IsV vs → bit_count (flat_map reading vs) ≤ length vs * most
   all_most [] h = omega arith
   all_most (v ∷ vs) h =
       let both = bit_count-append (reading v) (flat_map reading vs) in

@@ -1,14 +1,13 @@
 -- Lemmas about specs/Guards.antt.
-use Rattle.std.proofs.Common.{◌≡◌, ℕ, Bool, true, false, ◌∷◌, Option, Some, None, refl}
+use Rattle.std.proofs.Common.{◌≡◌, ℕ, Bool, true, false, Option, Some, None, refl}
 use Rattle.std.specs.Option.{is_some}
 use Rattle.etcs_vars.specs.declared.var.Var.{Var}
 use Rattle.etcs_vars.specs.declared.fault.BuildFault.TheVariants.{Guard}
 use Rattle.etcs_vars.specs.Faults.{number_fault}
-use Rattle.etcs_vars.specs.Reading.{Reading}
 use Rattle.etcs_tables.specs.declared.item.Test.{Test}
 use Rattle.etcs_tables.specs.Layouts.{passes}
-use Rattle.etcs_bodies.specs.Codecs.{IsGroup, IsOptional, group_reading}
-use Rattle.etcs_bodies.specs.Guards.{guard_fault, Group, optional_group}
+use Rattle.etcs_bodies.specs.Codecs.{IsGroup, IsOptional}
+use Rattle.etcs_bodies.specs.Guards.{guard_fault, Group}
 
 pub guard_ok : (v : Var) (wanted : Bool) → guard_fault v wanted wanted ≡ None
 unfolding guard_fault
@@ -41,7 +40,3 @@ pub group_gives : {W : Type 0} (v : Var) (test : Test) (IsW : W → Type 0) (n :
 unfolding guard_fault
 group_gives v test IsW n None h = record { number = h.0; guard = rw h.1 refl; is = tt }
 group_gives v test IsW n (Some w) h = record { number = h.0; guard = rw h.1 refl; is = h.2 }
-
-pub group_reading_is : {W : Type 0} (v : Var) (reading : W → Reading) (n : ℕ) (o : Option W) → group_reading v reading (n, o) ≡ (v, n) ∷ optional_group reading o
-group_reading_is v reading n None = refl
-group_reading_is v reading n (Some w) = refl

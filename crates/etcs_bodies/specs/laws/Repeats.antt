@@ -1,5 +1,5 @@
 -- Lemmas about specs/Repeats.antt.
-use Rattle.std.proofs.Common.{◌≡◌, ℕ, zero, suc, ◌+◌, ◌*◌, ◌≤◌, List, [], ◌∷◌, ◌++◌, length, Option, Some, None, refl, sym, ap, ◌∙◌, append_assoc, subst, arith}
+use Rattle.std.proofs.Common.{◌≡◌, ℕ, zero, suc, ◌+◌, List, [], ◌∷◌, ◌++◌, length, Option, Some, None, refl, sym, ap, ◌∙◌, append_assoc, subst, arith}
 use Rattle.std.specs.Prelude.{All, flat_map}
 use Rattle.std.proofs.lemmas.List.Elements.{All-nil, All-cons, All-head, All-tail}
 use Rattle.std.proofs.lemmas.List.{length-append}
@@ -77,11 +77,3 @@ bit_count_is (p ∷ r) = length-append (num (width p.0) p.1) (spelled r) ∙ rw 
 pub bit_count-append : (a b : Reading) → bit_count (a ++ b) ≡ bit_count a + bit_count b
 bit_count-append [] b = omega arith
 bit_count-append (p ∷ a) b = let e = bit_count-append a b in omega arith
-
-pub bit_count-flat : {V : Type 0} (reading : V → Reading) (most : ℕ) → ((v : V) → bit_count (reading v) ≤ most) → (vs : List V) → bit_count (flat_map reading vs) ≤ length vs * most
-bit_count-flat reading most h [] = omega arith
-bit_count-flat reading most h (v ∷ vs) =
-    let e = bit_count-append (reading v) (flat_map reading vs) in
-    let one = h v in
-    let more = bit_count-flat reading most h vs in
-    omega arith

@@ -15,14 +15,9 @@ use Rattle.etcs_vars.specs.Reading.{Sent, Reading, numbers, spelled}
 use Rattle.etcs_vars.specs.laws.Spellings.{spelled-append}
 use Rattle.etcs_vars.specs.declared.fault.BuildFault.{BuildFault}
 use Rattle.etcs_vars.specs.declared.fault.BuildFault.TheVariants.{NotAdmitted, TooMany}
-use Rattle.etcs_vars.specs.Faults.{◌or_else◌, number_fault}
+use Rattle.etcs_vars.specs.Faults.{number_fault}
 use Rattle.etcs_bodies.specs.Faults.{count_fault}
 use Rattle.etcs_bodies.specs.Taking.{Named, in_hexadecimal, named_as, is_of, Left, listed, in_bits, named, ahead, ◌and_then◌, admitted_of, next_number, flag_of, next_flag}
-
--- the two causes in a row
-pub none_of : (a b : Option BuildFault) → a or_else b ≡ None → (a ≡ None) × (b ≡ None)
-none_of None b h = (refl, h)
-none_of (Some e) b h = absurd cc
 
 by_test : (b : Bool) (e : BuildFault) → ◌≡◌ {A = Option BuildFault} (if b then None else Some e) None → b ≡ true
 by_test true e h = refl

@@ -1,34 +1,32 @@
 -- Lemmas about specs/FixedTexts.antt.
-use Rattle.std.proofs.Common.{◌≡◌, ◌+◌, ◌≤◌, [], ◌∷◌, length, refl, arith, Decides}
+use Rattle.std.proofs.Common.{◌≡◌, ◌+◌, [], ◌∷◌, length, refl, arith, Decides}
 use Rattle.etcs_vars.specs.declared.var.Var.TheVariants.{Q_TEXT}
 use Rattle.etcs_vars.specs.Reading.{spelled}
 use Rattle.etcs_tables.specs.declared.row.Way.TheVariants.{ToTrain}
-use Rattle.etcs_bodies.specs.laws.Repeats.{bit_count_is, bit_count-append}
-use Rattle.etcs_bodies.specs.laws.Codecs.{number, both}
 use Rattle.etcs_bodies.specs.Packets.{packet_from}
 use Rattle.etcs_bodies.specs.PacketCodes.{PacketCodes}
-use Rattle.etcs_bodies.specs.laws.PacketCodes.{packet_codes, never_long}
-use Rattle.etcs_parts.specs.TextFrames.{text_frame_reading}
-use Rattle.etcs_parts.specs.laws.TextFrames.{text_frame_codes, text_frame_small, text_frame_exact}
-use Rattle.etcs_grouped.specs.FixedTexts.{FixedTextValue, fixed_text_reading, body_of, IsFixedText, fixed_text_from, fixed_text_value}
+use Rattle.etcs_bodies.specs.PacketFormats.{packet_left}
+use Rattle.etcs_bodies.specs.Formats.{reading}
+use Rattle.etcs_bodies.specs.laws.Repeats.{bit_count_is, bit_count-append}
+use Rattle.etcs_bodies.specs.laws.PacketFormats.{IsPacketFormat, codes_of_packet}
 use Rattle.etcs_bodies.specs.laws.Equality.{number_exact, both_exact, fields_exact}
+use Rattle.etcs_parts.specs.TextFrames.{text_frame_format}
+use Rattle.etcs_parts.specs.laws.TextFrames.{text_frame_ok, text_frame_exact}
+use Rattle.etcs_grouped.specs.FixedTexts.{FixedTextValue, fixed_text_value, fixed_text_packet, IsFixedText, fixed_text_reading}
 use Rattle.etcs_grouped.specs.contracts.fixed_text.FixedTextPartialEq.TheImpl as fixed_text_eq
+
+fixed_text_ok : IsPacketFormat fixed_text_packet
+fixed_text_ok = record { again = λ p. refl; dir_is = λ dir b. refl; rest_is = λ dir b. refl; body = (text_frame_ok, tt); short = refl }
+
+pub fixed_text_codes : PacketCodes ToTrain 76 (λ (p : FixedTextValue). p.dir) IsFixedText fixed_text_reading (packet_from (packet_left fixed_text_packet))
+fixed_text_codes = codes_of_packet fixed_text_packet fixed_text_ok 76 refl
 
 -- ---- Its bits.
 
-pub fixed_text_length : (p : FixedTextValue) → length (spelled (fixed_text_reading p)) ≡ length (spelled (text_frame_reading p.frame)) + 8
+pub fixed_text_length : (p : FixedTextValue) → length (spelled (fixed_text_reading p)) ≡ length (spelled (reading text_frame_format p.frame)) + 8
 fixed_text_length p =
-    let both = bit_count-append (text_frame_reading p.frame) ((Q_TEXT, p.q_text) ∷ []) in
-    rw (bit_count_is (fixed_text_reading p), bit_count_is (text_frame_reading p.frame)) (omega arith)
-
-pub fixed_text_small : (p : FixedTextValue) → length (spelled (fixed_text_reading p)) ≤ 119
-fixed_text_small p = omega (arith, fixed_text_length p, text_frame_small p.frame)
-
-pub fixed_text_codes : PacketCodes ToTrain 76 (λ (p : FixedTextValue). p.dir) IsFixedText fixed_text_reading (packet_from fixed_text_from)
-unfolding fixed_text_from
-fixed_text_codes =
-    packet_codes (both text_frame_codes (number Q_TEXT)) ToTrain 76 refl
-    (never_long body_of (λ p. refl) (λ dir b. refl) (λ dir b. refl) (λ dir b. refl) (λ p h. omega (arith, fixed_text_small p)))
+    let both = bit_count-append (reading text_frame_format p.frame) ((Q_TEXT, p.q_text) ∷ []) in
+    rw (bit_count_is (fixed_text_reading p), bit_count_is (reading text_frame_format p.frame)) (omega arith)
 
 -- ---- Its `==`.
 

@@ -1,29 +1,29 @@
 -- Lemmas about specs/Level23Mas.antt.
 use Rattle.std.proofs.Common.{◌≡◌, ℕ, ◌+◌, length, refl, arith, Decides}
-use Rattle.etcs_vars.specs.declared.var.Var.TheVariants.{Q_SCALE, V_LOA, T_LOA}
 use Rattle.etcs_vars.specs.Reading.{spelled}
 use Rattle.etcs_tables.specs.declared.row.Way.TheVariants.{ToTrain}
-use Rattle.etcs_bodies.specs.laws.Codecs.{number, both}
 use Rattle.etcs_bodies.specs.Packets.{packet_from}
 use Rattle.etcs_bodies.specs.PacketCodes.{PacketCodes}
-use Rattle.etcs_bodies.specs.laws.PacketCodes.{packet_codes, never_long}
-use Rattle.etcs_parts.specs.Authorities.{authority_reading}
-use Rattle.etcs_parts.specs.laws.Authorities.{authority_codes, authority_small, authority_exact}
-use Rattle.etcs_grouped.specs.laws.Fronts.{after_front}
-use Rattle.etcs_grouped.specs.Level23Mas.{Level23MaValue, level23_ma_reading, body_of, IsLevel23Ma, level23_ma_from, level23_ma_value}
+use Rattle.etcs_bodies.specs.PacketFormats.{packet_left}
+use Rattle.etcs_bodies.specs.Formats.{reading}
+use Rattle.etcs_bodies.specs.laws.PacketFormats.{IsPacketFormat, codes_of_packet}
 use Rattle.etcs_bodies.specs.laws.Equality.{number_exact, both_exact, fields_exact}
+use Rattle.etcs_parts.specs.Authorities.{authority_format}
+use Rattle.etcs_parts.specs.laws.Authorities.{authority_ok, authority_exact}
+use Rattle.etcs_grouped.specs.laws.Fronts.{after_front}
+use Rattle.etcs_grouped.specs.Level23Mas.{Level23MaValue, level23_ma_value, level23_ma_packet, IsLevel23Ma, level23_ma_reading}
 use Rattle.etcs_grouped.specs.contracts.level23_ma.Level23MaPartialEq.TheImpl as level23_ma_eq
+
+level23_ma_ok : IsPacketFormat level23_ma_packet
+level23_ma_ok = record { again = λ p. refl; dir_is = λ dir b. refl; rest_is = λ dir b. refl; body = (tt, (tt, (tt, authority_ok))); short = refl }
+
+pub level23_ma_codes : PacketCodes ToTrain 15 (λ (p : Level23MaValue). p.dir) IsLevel23Ma level23_ma_reading (packet_from (packet_left level23_ma_packet))
+level23_ma_codes = codes_of_packet level23_ma_packet level23_ma_ok 15 refl
 
 -- ---- Its bits.
 
-pub level23_ma_length : (p : Level23MaValue) (a : ℕ) → a ≡ length (spelled (authority_reading p.authority)) → 19 + a ≡ length (spelled (level23_ma_reading p))
-level23_ma_length p a h = after_front (level23_ma_reading p) (authority_reading p.authority) 19 a (omega arith) h
-
-pub level23_ma_codes : PacketCodes ToTrain 15 (λ (p : Level23MaValue). p.dir) IsLevel23Ma level23_ma_reading (packet_from level23_ma_from)
-unfolding level23_ma_from
-level23_ma_codes =
-    packet_codes (both (number Q_SCALE) (both (number V_LOA) (both (number T_LOA) authority_codes))) ToTrain 15 refl
-    (never_long body_of (λ p. refl) (λ dir b. refl) (λ dir b. refl) (λ dir b. refl) (λ p h. omega (arith, level23_ma_length p _ refl, authority_small p.authority h.1.1.1.1)))
+pub level23_ma_length : (p : Level23MaValue) (a : ℕ) → a ≡ length (spelled (reading authority_format p.authority)) → 19 + a ≡ length (spelled (level23_ma_reading p))
+level23_ma_length p a h = after_front (level23_ma_reading p) (reading authority_format p.authority) 19 a (omega arith) h
 
 -- ---- Its `==`.
 

@@ -1,23 +1,19 @@
 -- Lemmas about specs/Differings.antt.
-use Rattle.std.proofs.Common.{◌≡◌, ℕ, zero, suc, ◌<◌, ◌≤◌, Bool, true, false, length, refl, arith, Decides}
+use Rattle.std.proofs.Common.{◌≡◌, ℕ, zero, suc, ◌<◌, Bool, true, false, length, refl, arith, Decides}
 use Rattle.std.specs.Prelude.{◌==◌, not}
-use Rattle.etcs_vars.specs.declared.var.Var.TheVariants.{Q_DIFF, V_DIFF}
+use Rattle.etcs_vars.specs.declared.var.Var.TheVariants.{Q_DIFF}
 use Rattle.etcs_vars.specs.Vars.{width, admits}
 use Rattle.etcs_vars.specs.Reading.{spelled}
 use Rattle.etcs_tables.specs.declared.item.Test.TheVariants.{IsZero, IsOneOrTwo}
 use Rattle.etcs_tables.specs.Layouts.{passes}
-use Rattle.etcs_bodies.specs.laws.Takes.{none_of, in_width}
+use Rattle.etcs_bodies.specs.laws.Takes.{in_width}
+use Rattle.etcs_bodies.specs.Formats.{reading}
+use Rattle.etcs_bodies.specs.laws.Formats.{IsFormat}
 use Rattle.etcs_bodies.specs.Repeats.{bit_count}
 use Rattle.etcs_bodies.specs.laws.Repeats.{bit_count_is}
-use Rattle.etcs_bodies.specs.Codecs.{Codes}
-use Rattle.etcs_bodies.specs.laws.Codecs.{number, both, form}
-use Rattle.etcs_bodies.specs.laws.Choices.{choice}
-use Rattle.etcs_parts.specs.laws.Faults.{fine}
-use Rattle.etcs_parts.specs.Differings.{DifferingValue, category_var, IsDiffering, differing_reading, differing_row, differing_from, differing_value}
+use Rattle.etcs_parts.specs.Differings.{DifferingValue, category_var, differing_format, differing_value}
 use Rattle.etcs_bodies.specs.laws.Equality.{number_exact, fields_exact, both_exact, numbers_exact}
 use Rattle.etcs_parts.specs.contracts.differing.DifferingPartialEq.TheImpl as differing_eq
-
--- ---- An entry is what its row spells.
 
 -- where Q_DIFF isn't 0, it is 1 or 2
 small_apart : (n : ℕ) → n < 4 → admits Q_DIFF n ≡ true → passes IsOneOrTwo n ≡ not (passes IsZero n)
@@ -27,25 +23,8 @@ small_apart (suc (suc zero)) lt h = refl
 small_apart (suc (suc (suc zero))) lt h = absurd cc
 small_apart (suc (suc (suc (suc n)))) lt h = absurd (omega arith)
 
-apart : (n : ℕ) → admits Q_DIFF n ≡ true → passes IsOneOrTwo n ≡ not (passes IsZero n)
-apart n h = small_apart n (in_width Q_DIFF n h) h
-
-pub differing_codes : Codes differing_row IsDiffering differing_reading differing_from
-unfolding differing_from
-differing_codes =
-    form (
-    both (choice Q_DIFF IsZero IsOneOrTwo apart (λ b. number (category_var b))) (
-    number V_DIFF))
-    (record {
-      back = λ d. ((d.q_diff, d.category), d.v_diff);
-      there = λ d. refl;
-      again = λ v. refl;
-      is = λ d h.
-          let (q_diff, (category, v_diff)) = fine (none_of _ _) h in
-          ((q_diff, category), v_diff);
-      so = λ v h. rw (h.0.0, h.0.1, h.1) refl;
-      same = λ d. refl;
-    })
+pub differing_ok : IsFormat differing_format
+differing_ok = (λ d. refl, λ v. refl, (λ n h. small_apart n (in_width Q_DIFF n h) h, tt))
 
 -- ---- Its bits.
 
@@ -53,14 +32,11 @@ category_bits : (b : Bool) → width (category_var b) ≡ 4
 category_bits true = refl
 category_bits false = refl
 
-pub differing_bits : (d : DifferingValue) → bit_count (differing_reading d) ≡ 13
+pub differing_bits : (d : DifferingValue) → bit_count (reading differing_format d) ≡ 13
 differing_bits d = rw (category_bits (d.q_diff == 0)) refl
 
-pub differing_spelled : (d : DifferingValue) → 13 ≡ length (spelled (differing_reading d))
-differing_spelled d = rw (bit_count_is (differing_reading d), differing_bits d) refl
-
-pub differing_most : (d : DifferingValue) → bit_count (differing_reading d) ≤ 13
-differing_most d = omega (arith, differing_bits d)
+pub differing_spelled : (d : DifferingValue) → 13 ≡ length (spelled (reading differing_format d))
+differing_spelled d = rw (bit_count_is (reading differing_format d), differing_bits d) refl
 
 -- ---- Its `==`.
 

@@ -1,57 +1,66 @@
 -- Lemmas about specs/Reports.antt.
-use Rattle.std.proofs.Common.{◌≡◌, ℕ, ◌+◌, ◌≤◌, [], ◌∷◌, ◌++◌, length, refl, ◌∙◌, arith}
+use Rattle.std.proofs.Common.{◌≡◌, ℕ, ◌+◌, ◌≤◌, [], ◌∷◌, ◌++◌, length, Some, refl, ◌∙◌, arith}
+use Rattle.std.specs.Prelude.{IsTrue, nat_le}
+use Rattle.std.proofs.lemmas.Bool.{leb-true}
 use Rattle.etcs_vars.specs.declared.var.Var.TheVariants.{Q_SCALE, NID_LRBG, NID_PRVLRBG}
 use Rattle.etcs_vars.specs.Reading.{Reading, spelled}
 use Rattle.etcs_tables.specs.declared.row.Way.TheVariants.{ToTrack}
-use Rattle.etcs_tables.specs.Layouts.{ROW_LIMIT}
+use Rattle.etcs_tables.specs.Layouts.{whole, ROW_LIMIT}
+use Rattle.etcs_tables.specs.Rows.{row_to}
 use Rattle.etcs_bodies.specs.Repeats.{bit_count}
-use Rattle.etcs_bodies.specs.laws.Repeats.{bit_count_is, bit_count-append}
-use Rattle.etcs_bodies.specs.laws.Codecs.{number, both}
 use Rattle.etcs_bodies.specs.Packets.{packet_to}
-use Rattle.etcs_bodies.specs.PacketCodes.{PacketCodes, Directed, never}
+use Rattle.etcs_bodies.specs.PacketCodes.{PacketCodes, directed_from, never}
+use Rattle.etcs_bodies.specs.Formats.{Format, Is, reading, row, from, most}
+use Rattle.etcs_bodies.specs.laws.Repeats.{bit_count_is, bit_count-append}
 use Rattle.etcs_bodies.specs.laws.PacketCodes.{packet_codes}
-use Rattle.etcs_track.specs.Locations.{LocatedValue, located_reading}
-use Rattle.etcs_track.specs.laws.Locations.{located_codes, located_small}
-use Rattle.etcs_track.specs.Reports.{PositionReportValue, position_report_reading, report_body, IsPositionReport, position_report_from, PositionReportTwoValue, position_report_two_reading, report_two_body, IsPositionReportTwo, position_report_two_from}
+use Rattle.etcs_bodies.specs.laws.Formats.{IsFormat, codes_of, at_most}
+use Rattle.etcs_track.specs.Locations.{LocatedValue, located_format}
+use Rattle.etcs_track.specs.laws.Locations.{located_ok}
+use Rattle.etcs_track.specs.Reports.{PositionReportValue, position_report_format, position_report_reading, PositionReportTwoValue, position_report_two_format, position_report_two_reading}
 
--- ---- A packet made of a body, with no direction of its own.
+-- ---- A packet of a format, with no direction of its own.
 
-undirected : {B P : Type 0} {IsBody : B → Type 0} {body_reading : B → Reading} {reading : P → Reading} {make : ℕ → B → P} (body : P → B)
-    → ((p : P) → make 0 (body p) ≡ p) → ((dir : ℕ) (b : B) → body (make dir b) ≡ b) → ((dir : ℕ) (b : B) → body_reading b ≡ reading (make dir b)) → ((p : P) → length (spelled (reading p)) ≤ ROW_LIMIT)
-    → Directed ToTrack IsBody body_reading never (λ p. 0) (λ p. IsBody (body p)) reading make
-undirected body again body_is same short = record {
-  body = body;
-  again = again;
-  dir_is = λ dir b. refl;
-  same = same;
-  is = λ p h. (h, refl, short p);
-  so = λ dir b h ok fits. rw (body_is dir b) h;
-  fits = λ dir b short. refl;
-}
+module _ {P : Type 0} (f : Format P) (short : IsTrue (nat_le (most f) ROW_LIMIT)) where
+  fits_length : (p : P) → Is f p → length (spelled (reading f p)) ≤ ROW_LIMIT
+  fits_length p h =
+      let few = leb-true (most f) ROW_LIMIT short in
+      let all = at_most f p h in
+      rw (bit_count_is (reading f p)) (omega arith)
+
+  undirected : IsFormat f → (nid : ℕ) → row_to ToTrack nid ≡ Some (row f whole) → PacketCodes ToTrack nid (λ (p : P). 0) (Is f) (reading f) (packet_to ToTrack (directed_from (from f) never (λ dir p. p)))
+  undirected ok nid is =
+      packet_codes (codes_of f ok) ToTrack nid is
+      (record {
+        body = λ p. p;
+        again = λ p. refl;
+        dir_is = λ dir p. refl;
+        same = λ dir p. refl;
+        is = λ p h. (h, refl, fits_length p h);
+        so = λ dir p h ok fits. h;
+        fits = λ dir p short. refl;
+      })
+
+pub position_report_ok : IsFormat position_report_format
+position_report_ok = (λ p. refl, λ v. refl, (tt, (tt, located_ok)))
+
+pub position_report_codes : PacketCodes ToTrack 0 (λ (p : PositionReportValue). 0) (Is position_report_format) position_report_reading (packet_to ToTrack (directed_from (from position_report_format) never (λ dir p. p)))
+position_report_codes = undirected position_report_format refl position_report_ok 0 refl
+
+pub position_report_two_ok : IsFormat position_report_two_format
+position_report_two_ok = (λ p. refl, λ v. refl, (tt, (tt, (tt, located_ok))))
+
+pub position_report_two_codes : PacketCodes ToTrack 1 (λ (p : PositionReportTwoValue). 0) (Is position_report_two_format) position_report_two_reading (packet_to ToTrack (directed_from (from position_report_two_format) never (λ dir p. p)))
+position_report_two_codes = undirected position_report_two_format refl position_report_two_ok 1 refl
 
 -- ---- Their bits: some before, and where the train is.
 
-after_front : (front : Reading) (l : LocatedValue) (n a : ℕ) → bit_count front ≡ n → a ≡ length (spelled (located_reading l)) → n + a ≡ length (spelled (front ++ located_reading l))
+after_front : (front : Reading) (l : LocatedValue) (n a : ℕ) → bit_count front ≡ n → a ≡ length (spelled (reading located_format l)) → n + a ≡ length (spelled (front ++ reading located_format l))
 after_front front l n a is h =
-    let both = bit_count-append front (located_reading l) in
-    rw (bit_count_is (front ++ located_reading l)) (omega (arith, h ∙ bit_count_is (located_reading l)))
+    let both = bit_count-append front (reading located_format l) in
+    rw (bit_count_is (front ++ reading located_format l)) (omega (arith, h ∙ bit_count_is (reading located_format l)))
 
-pub report_length : (p : PositionReportValue) (a : ℕ) → a ≡ length (spelled (located_reading p.located)) → 26 + a ≡ length (spelled (position_report_reading p))
+pub report_length : (p : PositionReportValue) (a : ℕ) → a ≡ length (spelled (reading located_format p.located)) → 26 + a ≡ length (spelled (position_report_reading p))
 report_length p a h = after_front ((Q_SCALE, p.q_scale) ∷ (NID_LRBG, p.nid_lrbg) ∷ []) p.located 26 a refl h
 
-pub report_two_length : (p : PositionReportTwoValue) (a : ℕ) → a ≡ length (spelled (located_reading p.located)) → 50 + a ≡ length (spelled (position_report_two_reading p))
+pub report_two_length : (p : PositionReportTwoValue) (a : ℕ) → a ≡ length (spelled (reading located_format p.located)) → 50 + a ≡ length (spelled (position_report_two_reading p))
 report_two_length p a h = after_front ((Q_SCALE, p.q_scale) ∷ (NID_LRBG, p.nid_lrbg) ∷ (NID_PRVLRBG, p.nid_prvlrbg) ∷ []) p.located 50 a refl h
-
--- ---- They are what their rows spell.
-
-pub position_report_codes : PacketCodes ToTrack 0 (λ (p : PositionReportValue). 0) IsPositionReport position_report_reading (packet_to ToTrack position_report_from)
-unfolding position_report_from
-position_report_codes =
-    packet_codes (both (number Q_SCALE) (both (number NID_LRBG) located_codes)) ToTrack 0 refl
-    (undirected report_body (λ p. refl) (λ dir b. refl) (λ dir b. refl) (λ p. omega (arith, report_length p _ refl, located_small p.located)))
-
-pub position_report_two_codes : PacketCodes ToTrack 1 (λ (p : PositionReportTwoValue). 0) IsPositionReportTwo position_report_two_reading (packet_to ToTrack position_report_two_from)
-unfolding position_report_two_from
-position_report_two_codes =
-    packet_codes (both (number Q_SCALE) (both (number NID_LRBG) (both (number NID_PRVLRBG) located_codes))) ToTrack 1 refl
-    (undirected report_two_body (λ p. refl) (λ dir b. refl) (λ dir b. refl) (λ p. omega (arith, report_two_length p _ refl, located_small p.located)))

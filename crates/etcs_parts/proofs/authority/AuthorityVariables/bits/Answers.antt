@@ -6,7 +6,7 @@ use Rattle.etcs_parts.proofs.authority.AuthorityVariables.bits.Goals as goal
 pub bits_of_all-requires : goal.bits_of_all-requires
 bits_of_all-requires c =
     let i = c.self.inside in
-    let few = few_sections (authority_value i.sections i.end i.end_timer i.danger_point i.overlap) c.self.invariant.faultless in
+    let few = few_sections (authority_value i.sections i.end i.end_timer i.danger_point i.overlap) c.self.invariant in
     rw c.as_slice.ensures (omega arith)
 
 pub returns-clause-small : goal.returns-clause-small

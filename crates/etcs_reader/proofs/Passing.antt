@@ -12,7 +12,7 @@ use Rattle.etcs_reader.specs.declared.reader.Halt.{Halt}
 use Rattle.etcs_reader.specs.declared.reader.Halt.TheVariants.{Refused, Memory}
 use Rattle.etcs_reader.specs.declared.reader.Reader.{Reader}
 use Rattle.etcs_reader.specs.Rests.{Goes, BeginsWith, Ended}
-use Rattle.etcs_reader.specs.Readers.{Passed, Takes, RefusesAt, StarvesAt, IsReader, part_of, Halts, HaltsIn}
+use Rattle.etcs_reader.specs.Readers.{Passed, Takes, RefusesAt, StarvesAt, IsReader, part_of, Halts, HaltsIn, place_of}
 use Rattle.etcs_reader.proofs.Lifts.{lift_viable, lift_blocked, lift_owner}
 use Rattle.std.specs.Prelude.{Ok, Err}
 use Rattle.etcs_reader.specs.declared.feeder.Stop.TheVariants as stop
@@ -149,27 +149,31 @@ module _ {R : Type 0} (left : R → Reading → Type 0) (follows : R → Reading
       }
 
 -- why no more is taken, of all bits
-pub halts_behind : {R : Type 0} (left : R → Reading → Type 0) → ((s : R) → Regular (left s)) → (follows : R → Reading → R → Type 0) → ((s t : R) (p : Reading) → follows s p t → Residual (left s) p (left t)) → ((s t u : R) (p q : Reading) → follows s p t → follows t q u → follows s (p ++ q) u) → (fails : R → Type 0) (s m t : Reader R) (xs : List Bool) (at : ℕ)
-    → Passed (λ p. follows s.rest p m.rest) (part_of s ++ take at xs) (part_of m) → at ≤ length xs → (h : Halt) → Halts R left follows fails m xs at h t → HaltsIn R left follows fails s xs h t
-halts_behind {R} left regular follows residual both fails s m t xs at f le (Refused i x) (n, i_is, h) =
-    let l = refuses_behind left regular follows residual both s.rest m.rest (part_of s ++ take at xs) (part_of m) f (drop at xs) n x t.rest (part_of t) h in
-    subst (λ k. RefusesAt R left follows s.rest (part_of s) xs k x t.rest (part_of t)) (sym i_is) (refuses_further left follows s.rest (part_of s) xs at n x t.rest (part_of t) le l)
-halts_behind {R} left regular follows residual both fails s m t xs at f le (Memory i) (n, i_is, h) =
-    let l = starves_behind left regular follows residual both s.rest m.rest (part_of s ++ take at xs) (part_of m) f (drop at xs) n fails h in
-    subst (λ k. StarvesAt R left follows fails s.rest (part_of s) xs k) (sym i_is) (starves_further left follows s.rest (part_of s) xs at n fails le l)
+pub halts_behind : {R : Type 0} (left : R → Reading → Type 0) → ((s : R) → Regular (left s)) → (follows : R → Reading → R → Type 0) → ((s t : R) (p : Reading) → follows s p t → Residual (left s) p (left t)) → ((s t u : R) (p q : Reading) → follows s p t → follows t q u → follows s (p ++ q) u) → (fails : R → Type 0) (s : R) (b : List Bool) (m t : Reader R) (xs : List Bool) (at : ℕ)
+    → Passed (λ p. follows s p m.rest) (b ++ take at xs) (part_of m) → at ≤ length xs → (h : Halt) → Halts R left follows fails m xs at h t → HaltsIn R left follows fails s b xs h t
+halts_behind {R} left regular follows residual both fails s b m t xs at f le (Refused i x) (n, i_is, h) =
+    let l = refuses_behind left regular follows residual both s m.rest (b ++ take at xs) (part_of m) f (drop at xs) n x t.rest (part_of t) h in
+    subst (λ k. RefusesAt R left follows s b xs k x t.rest (part_of t)) (sym i_is) (refuses_further left follows s b xs at n x t.rest (part_of t) le l)
+halts_behind {R} left regular follows residual both fails s b m t xs at f le (Memory i) (n, i_is, h) =
+    let l = starves_behind left regular follows residual both s m.rest (b ++ take at xs) (part_of m) f (drop at xs) n fails h in
+    subst (λ k. StarvesAt R left follows fails s b xs k) (sym i_is) (starves_further left follows s b xs at n fails le l)
+
+pub halts_within : {R : Type 0} (left : R → Reading → Type 0) (follows : R → Reading → R → Type 0) (fails : R → Type 0) (m t : Reader R) (xs : List Bool) (at : ℕ) → at ≤ length xs → (h : Halt) → Halts R left follows fails m xs at h t → place_of h ≤ length xs
+halts_within left follows fails m t xs at le (Refused i x) (n, i_is, h) = omega (arith, i_is, h.refuses.within, le, length-append (part_of m) (drop at xs), length-drop at xs)
+halts_within left follows fails m t xs at le (Memory i) (n, i_is, h) = omega (arith, i_is, h.within, le, length-drop at xs)
 
 -- what is taken, of all bits
-pub takes_all : {R : Type 0} (left : R → Reading → Type 0) → ((s : R) → Regular (left s)) → (next : R → Option Var) → ((s : R) (x : Var) → next s ≡ Some x → BeginsWith (left s) x) → ((s : R) → next s ≡ None → Ended (left s)) → (follows : R → Reading → R → Type 0) → ((s t : R) (p : Reading) → follows s p t → Residual (left s) p (left t)) → (s t : Reader R) (xs : List Bool) (n : ℕ)
-    → Passed (λ p. follows s.rest p t.rest) (part_of s ++ take n xs) (part_of t) → IsReader R left next t → n ≤ length xs → ((x : Var) → next t.rest ≡ Some x → n ≡ length xs) → Takes R left next follows s.rest (part_of s) xs n t.rest (part_of t)
-takes_all {R} left regular next begins_with ended follows residual s t xs n f u within all = record {
+pub takes_all : {R : Type 0} (left : R → Reading → Type 0) → ((s : R) → Regular (left s)) → (next : R → Option Var) → ((s : R) (x : Var) → next s ≡ Some x → BeginsWith (left s) x) → ((s : R) → next s ≡ None → Ended (left s)) → (follows : R → Reading → R → Type 0) → ((s t : R) (p : Reading) → follows s p t → Residual (left s) p (left t)) → (s : R) (b : List Bool) (t : Reader R) (xs : List Bool) (n : ℕ)
+    → Passed (λ p. follows s p t.rest) (b ++ take n xs) (part_of t) → IsReader R left next t → n ≤ length xs → ((x : Var) → next t.rest ≡ Some x → n ≡ length xs) → Takes R left next follows s b xs n t.rest (part_of t)
+takes_all {R} left regular next begins_with ended follows residual s b t xs n f u within all = record {
   within = within;
   passed = f;
   done = λ e.
       let (none, l) = unfinished_ended (left t.rest) (next t.rest) (ended t.rest) t.number t.taken u e in
-      passed_done (left s.rest) (regular s.rest) (left t.rest) (λ p. follows s.rest p t.rest) (residual s.rest t.rest) (part_of s ++ take n xs) (part_of t) f none l;
+      passed_done (left s) (regular s) (left t.rest) (λ p. follows s p t.rest) (residual s t.rest) (b ++ take n xs) (part_of t) f none l;
   more = λ x e.
       let o = unfinished_owner (left t.rest) (regular t.rest) (next t.rest) (begins_with t.rest) t.number t.taken u x e in
-      (all x e, passed_owner (left s.rest) (regular s.rest) (left t.rest) (λ p. follows s.rest p t.rest) (residual s.rest t.rest) (part_of s ++ take n xs) (part_of t) f u.goes x o);
+      (all x e, passed_owner (left s) (regular s) (left t.rest) (λ p. follows s p t.rest) (residual s t.rest) (b ++ take n xs) (part_of t) f u.goes x o);
 }
 
 -- what a feeder answers, of all bits

@@ -15,6 +15,10 @@ pub record FeederValue (R : Type 0) : Type 0 where
   pub count : ℕ
   pub stop : Option Stop
 
+-- nothing is taken yet
+abbrev pub all_of : {R : Type 0} → R → FeederValue R
+all_of s = record { rest = s; part = []; count = 0; stop = None }
+
 -- the new bits xs are taken, all or up to the language's end; or the first with which nothing continues is refused, and
 -- those in front of it are taken; or memory is refused, and nothing is said of what is left
 abbrev pub Feeds : (R : Type 0) → (R → Reading → Type 0) → (R → Option Var) → (R → Reading → R → Type 0) → (R → Type 0) → FeederValue R → List Bool → Result ℕ Stop → FeederValue R → Type 0

@@ -74,7 +74,12 @@ abbrev pub Halts : (R : Type 0) → (R → Reading → Type 0) → (R → Readin
 Halts R left follows fails old xs at (Refused i x) new = (n : ℕ) × (i ≡ at + n) × RefusesAt R left follows old.rest (part_of old) (drop at xs) n x new.rest (part_of new)
 Halts R left follows fails old xs at (Memory i) new = (n : ℕ) × (i ≡ at + n) × StarvesAt R left follows fails old.rest (part_of old) (drop at xs) n
 
--- and from the first of them on
-abbrev pub HaltsIn : (R : Type 0) → (R → Reading → Type 0) → (R → Reading → R → Type 0) → (R → Type 0) → Reader R → List Bool → Halt → Reader R → Type 0
-HaltsIn R left follows fails old xs (Refused i x) new = RefusesAt R left follows old.rest (part_of old) xs i x new.rest (part_of new)
-HaltsIn R left follows fails old xs (Memory i) new = StarvesAt R left follows fails old.rest (part_of old) xs i
+-- how many bits are in front
+abbrev pub place_of : Halt → ℕ
+place_of (Refused i x) = i
+place_of (Memory i) = i
+
+-- and of all of them, after the bits b of the variable that comes next in s
+abbrev pub HaltsIn : (R : Type 0) → (R → Reading → Type 0) → (R → Reading → R → Type 0) → (R → Type 0) → R → List Bool → List Bool → Halt → Reader R → Type 0
+HaltsIn R left follows fails s b xs (Refused i x) new = RefusesAt R left follows s b xs i x new.rest (part_of new)
+HaltsIn R left follows fails s b xs (Memory i) new = StarvesAt R left follows fails s b xs i

@@ -1,11 +1,12 @@
 //! A reader of pieces of any length.
 
-ghost use Rattle.std.specs.Prelude.{◌≡◌, ◌+◌, ◌*◌, ◌^◌, ◌<◌, [], None, Err, length, IsSome, IfSome, IsNone};
+ghost use Rattle.std.specs.Prelude.{◌≡◌, ◌+◌, ◌*◌, ◌^◌, ◌<◌, ◌≤◌, ◌++◌, Bool, List, [], None, Err, length, take, IsSome, IfSome, IsNone};
 ghost use Rattle.etcs_bits.specs.Bits.{bits, num};
 ghost use Rattle.etcs_vars.specs.Vars.{width};
 ghost use Rattle.etcs_vars.specs.Reading.{Owner};
-ghost use Rattle.etcs_reader.specs.Rests.{Goes};
-ghost use Rattle.etcs_reader.specs.Feeders.{stop_at};
+ghost use Rattle.etcs_reader.specs.Rests.{Goes, LeapsBy};
+ghost use Rattle.etcs_reader.specs.Readers.{Passed};
+ghost use Rattle.etcs_reader.specs.Feeders.{stop_at, all_of};
 
 use crate::reader::{Halt, Reader};
 use crate::rest::Rest;
@@ -78,23 +79,29 @@ impl<R: Rest> Feeder<R> {
         }
     }
 
-    /// Takes the bits of a piece, up to the language's end, and says how many it was. All are taken where
-    /// more are wanted.
-    ///
-    /// # Errors
-    ///
-    /// `Refused` with the first bit, counted from 0 over all pieces, with which nothing continues, and the
-    /// variable that holds it; `Memory` where memory is refused at a bit that continues. The same again for
-    /// each later piece.
-    pub fn feed(&mut self, piece: &[u8]) -> Result<usize, Stop>
-        requires { self.old.count + 8 * length piece.now < 2 ^ 64 }
-        ensures going { self.old.stop ≡ None → Feeds R R.left R.next R.follows R.fails self.old (bits piece.now) result self.new }
-        ensures stopped { IfSome self.old.stop (λ stop. (result ≡ Err stop) × (self.new ≡ self.old)) }
+    /// A reader that has taken the first `at` bits of a piece, after which this is left, and takes the others; and what
+    /// [`Feeder::feed`] answers of the piece.
+    pub fn after(rest: R, at: usize, piece: &[u8]) -> (Feeder<R>, Result<usize, Stop>)
+        requires goes { Goes (R.left rest) }
+        requires inside { at ≤ length (bits piece.now) }
+        requires room { 8 * length piece.now < 2 ^ 64 }
+        ensures { (s : R) → LeapsBy (R.left rest) (λ p. R.follows s p rest) (bits piece.now) 0 at → Feeds R R.left R.next R.follows R.fails (all_of s) (bits piece.now) result.1 result.0 }
     {
-        if let Some(stop) = self.stop {
-            return Err(stop);
-        }
-        match self.reader.push(piece) {
+        let mut feeder = Feeder::new(rest);
+        let fed = feeder.take(piece, at);
+        (feeder, fed)
+    }
+
+    /// Takes the bits of a piece from the bit `at` on, up to the language's end, and says how many it was with those in
+    /// front.
+    #[inline(always)]
+    fn take(&mut self, piece: &[u8], at: usize) -> Result<usize, Stop>
+        requires going { self.old.stop ≡ None }
+        requires inside { at ≤ length (bits piece.now) }
+        requires room { self.old.count + 8 * length piece.now < 2 ^ 64 }
+        ensures { (s : R) (b : List Bool) → Passed (λ p. R.follows s p self.old.rest) (b ++ take at (bits piece.now)) self.old.part → Feeds R R.left R.next R.follows R.fails (record self.old { rest = s; part = b }) (bits piece.now) result self.new }
+    {
+        match self.reader.push(piece, at) {
             Ok(taken) => {
                 self.count += taken;
                 Ok(taken)
@@ -113,6 +120,25 @@ impl<R: Rest> Feeder<R> {
                 self.stop = Some(Stop::Memory);
                 Err(Stop::Memory)
             }
+        }
+    }
+
+    /// Takes the bits of a piece, up to the language's end, and says how many it was. All are taken where
+    /// more are wanted.
+    ///
+    /// # Errors
+    ///
+    /// `Refused` with the first bit, counted from 0 over all pieces, with which nothing continues, and the
+    /// variable that holds it; `Memory` where memory is refused at a bit that continues. The same again for
+    /// each later piece.
+    pub fn feed(&mut self, piece: &[u8]) -> Result<usize, Stop>
+        requires { self.old.count + 8 * length piece.now < 2 ^ 64 }
+        ensures going { self.old.stop ≡ None → Feeds R R.left R.next R.follows R.fails self.old (bits piece.now) result self.new }
+        ensures stopped { IfSome self.old.stop (λ stop. (result ≡ Err stop) × (self.new ≡ self.old)) }
+    {
+        match self.stop {
+            Some(stop) => Err(stop),
+            None => self.take(piece, 0),
         }
     }
 

@@ -7,6 +7,7 @@
 
 mod feeder;
 mod fields;
+pub mod inner;
 pub mod laws;
 mod reader;
 mod rest;

@@ -1,6 +1,6 @@
 //! Bits of a piece, after what is left of a language.
 
-ghost use Rattle.std.specs.Prelude.{◌≡◌, ℕ, ◌+◌, ◌-◌, ◌*◌, ◌/◌, ◌^◌, ◌<◌, ◌≤◌, ◌++◌, length, Some, IfOk, IfErr};
+ghost use Rattle.std.specs.Prelude.{◌≡◌, ℕ, ◌+◌, ◌-◌, ◌*◌, ◌/◌, ◌^◌, ◌<◌, ◌≤◌, ◌++◌, Bool, List, length, take, Some, MatchResult, IfOk, IfErr};
 ghost use Rattle.etcs_bits.specs.Bits.{bits, part, num};
 ghost use Rattle.etcs_vars.specs.Vars.{width};
 ghost use Rattle.etcs_vars.specs.Walking.{Refuses};
@@ -31,7 +31,7 @@ pub(crate) struct Reader<R> {
 
 /// This many bits of a piece, which holds them, as a number.
 #[inline(always)]
-fn number_at(piece: &[u8], at: usize, count: usize) -> u64
+pub(crate) fn number_at(piece: &[u8], at: usize, count: usize) -> u64
     requires width { count ≤ 64 }
     requires inside { at + count ≤ length (bits piece.now) }
     ensures bits { num count result ≡ part at count (bits piece.now) }
@@ -59,7 +59,7 @@ fn joined(high: u64, taken: usize, low: u64, count: usize) -> u64
 }
 
 impl<R: Rest> Reader<R> {
-    ghost use Rattle.etcs_reader.specs.Readers.{IsReader, Takes, Advances, Halts, HaltsIn};
+    ghost use Rattle.etcs_reader.specs.Readers.{IsReader, Passed, part_of, Takes, Advances, Halts, HaltsIn, place_of};
 
     /// A reader of what is left, of which no bit is taken.
     pub(crate) fn new(rest: R) -> Reader<R>
@@ -190,22 +190,25 @@ impl<R: Rest> Reader<R> {
         }
     }
 
-    /// Takes bits of a piece, up to the language's end, and says how many it was.
+    /// Takes the bits of a piece from the bit `at` on, up to the language's end, and says how many it was with those in
+    /// front.
     ///
     /// # Errors
     ///
     /// `Refused` with the first bit with which nothing continues; those in front of it are taken. `Memory`
     /// with a bit that continues; nothing is said then of what is left.
-    pub(crate) fn push(&mut self, piece: &[u8]) -> Result<usize, Halt>
+    pub(crate) fn push(&mut self, piece: &[u8], at: usize) -> Result<usize, Halt>
         requires reader { IsReader R R.left R.next self.old }
+        requires inside { at ≤ length (bits piece.now) }
         requires small { length (bits piece.now) < 2 ^ 64 }
         ensures reader { IfOk result (λ _. IsReader R R.left R.next self.new) }
-        ensures ok { IfOk result (λ n. Takes R R.left R.next R.follows self.old.rest (num self.old.taken self.old.number) (bits piece.now) n self.new.rest (num self.new.taken self.new.number)) }
-        ensures err { IfErr result (λ h. HaltsIn R R.left R.follows R.fails self.old (bits piece.now) h self.new) }
+        ensures ok { IfOk result (λ n. (s : R) (b : List Bool) → Passed (λ p. R.follows s p self.old.rest) (b ++ take at (bits piece.now)) (part_of self.old) → Takes R R.left R.next R.follows s b (bits piece.now) n self.new.rest (part_of self.new)) }
+        ensures err { IfErr result (λ h. (s : R) (b : List Bool) → Passed (λ p. R.follows s p self.old.rest) (b ++ take at (bits piece.now)) (part_of self.old) → HaltsIn R R.left R.follows R.fails s b (bits piece.now) h self.new) }
+        ensures within { MatchResult result (λ n. n ≤ length (bits piece.now)) (λ h. place_of h ≤ length (bits piece.now)) }
         ensures fits { self.new.number < 2 ^ self.new.taken }
     {
         let end = piece.len() * 8;
-        let mut at = 0;
+        let mut at = at;
         while at < end {
             let Some(var) = self.rest.var() else {
                 return Ok(at);

@@ -1,10 +1,12 @@
 //! A rest whose variables are sent to a sink.
 
-ghost use Rattle.std.specs.Prelude.{◌≡◌, ⊤};
+ghost use Rattle.std.specs.Prelude.{◌≡◌, ⊤, OnOk};
 ghost use Rattle.std.proofs.Common.{sym};
+ghost use Rattle.etcs_vars.specs.Reading.{kept};
 ghost use Rattle.etcs_reader.specs.laws.StoredLaws.{with_along};
 
 use crate::rest::Rest;
+use etcs_bits::BitSlice;
 use etcs_vars::Var;
 use etcs_vars::inner::VarSink;
 use std::alloc::AllocError;
@@ -15,6 +17,20 @@ use std::alloc::AllocError;
 pub struct Stored<R, S> {
     pub rest: R,
     pub store: S,
+}
+
+/// Sends bits, each as a variable.
+fn send_bits<S: VarSink>(store: &mut S, var: Var, bits: &BitSlice<'_>) -> Result<(), AllocError>
+    ensures ok { OnOk result (store.new ≡ S.with store.old (kept var bits.now)) }
+{
+    for i in 0..bits.len() {
+        let number = match bits.bit(i) {
+            Some(true) => 1,
+            _ => 0,
+        };
+        store.send(&[(var, number)])?;
+    }
+    Ok(())
 }
 
 impl<R: Rest, S: VarSink> Rest for Stored<R, S> {
@@ -45,6 +61,25 @@ impl<R: Rest, S: VarSink> Rest for Stored<R, S> {
             },
             Err(error) => Err(error),
         }
+    }
+
+    fn leap(&mut self, piece: &[u8], at: usize) -> Result<Option<usize>, AllocError> {
+        let Some(var) = self.rest.var() else {
+            return Ok(None);
+        };
+        let end = piece.len().min(at.saturating_add(self.rest.run()) / 8);
+        if end * 8 <= at {
+            return Ok(None);
+        }
+        let piece = &piece[..end];
+        let Some(count) = self.rest.leap(piece, at)? else {
+            return Ok(None);
+        };
+        let Some(bits) = BitSlice::new(piece, at, count) else {
+            unreachable!()
+        };
+        send_bits(&mut self.store, var, &bits)?;
+        Ok(Some(count))
     }
 
     ghost regular = { λ s. R.regular s.rest };

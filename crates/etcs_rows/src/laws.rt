@@ -30,7 +30,7 @@ pub fn walks()
 ///
 /// # Errors
 ///
-/// Where memory was refused, and for no other cause.
+/// Where memory was refused.
 pub fn read_back<P: Packetlike + Drop>(alloc: Global, packet: &P) -> Result<Option<P>, AllocError>
     ensures { IfOk result (λ again. again ≡ Some packet.now) }
 {

@@ -24,7 +24,7 @@ pub struct RowRun {
 
 impl RowRun {
     /// The variable that comes next with its number, where the piece has it whole from `at` on, the number is admitted and
-    /// the row has room for it. `None` says nothing.
+    /// the row has room for it. It may always return `None`.
     #[inline(always)]
     fn next(&self, piece: &[u8], at: usize) -> Option<(Var, u64)>
         requires inside { at ≤ length (bits piece.now) }
@@ -48,7 +48,7 @@ impl RowRun {
     }
 
     /// The next variables of a row as far as the piece has them whole from `at` on, where the row can end in its bits after
-    /// them. `None` says nothing.
+    /// them. It may always return `None`.
     #[inline(always)]
     pub fn ahead(row: &RowRest, piece: &[u8], at: usize) -> Option<RowRun>
         requires inside { at ≤ length (bits piece.now) }

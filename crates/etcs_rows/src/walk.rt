@@ -17,7 +17,7 @@ use std::error::Error;
 use std::fmt;
 use std::marker::Model;
 
-/// What bits did that were taken.
+/// What the bits that were taken completed.
 #[derive(Clone, Copy, Debug, PartialEq, Eq)]
 pub enum Step {
     /// The variable isn't whole yet.

@@ -2,6 +2,7 @@ use Rattle.std.proofs.Common.{◌≡◌, [], ◌∷◌, Some, None, Err, refl, s
 use Rattle.etcs_bits.specs.Bits.{bits}
 use Rattle.etcs_bits.proofs.Positions.{length-bits}
 use Rattle.etcs_reader.specs.Feeders.{FeederValue, Feeds}
+use Rattle.etcs_reader.specs.Readers.{part_of}
 use Rattle.etcs_reader.proofs.Passing.{takes_all}
 use Rattle.etcs_reader.proofs.Single.{last_bit, value, bit_halts}
 use Rattle.etcs_reader.proofs.feeder.Feeder.bit.Goals as goal
@@ -24,7 +25,7 @@ returns-in-Ok-clause-going g c =
     let last = last_bit c.args.bit c.from.result c.from.ensures in
     let passed = rw (one, last) at a.passed in
     rw (← c.self.view_is)
-    (λ going. (going, refl, takes_all R.left g.met.R.Rest.regular R.next g.met.R.Rest.begins_with g.met.R.Rest.ended R.follows g.met.R.Rest.residual s t (c.args.bit ∷ []) 1 passed a.reader (omega arith) (λ x e. refl)))
+    (λ going. (going, refl, takes_all R.left g.met.R.Rest.regular R.next g.met.R.Rest.begins_with g.met.R.Rest.ended R.follows g.met.R.Rest.residual s.rest (part_of s) t (c.args.bit ∷ []) 1 passed a.reader (omega arith) (λ x e. refl)))
 
 pub returns-in-Err-clause-going : goal.returns-in-Err-clause-going
 returns-in-Err-clause-going g c =

@@ -1,14 +1,14 @@
-use Rattle.std.proofs.Common.{◌-◌, ◌≤◌, ◌++◌, take}
-use Rattle.etcs_bits.specs.Bits.{bits, num}
-use Rattle.etcs_reader.specs.Readers.{Unfinished, Passed}
+use Rattle.std.proofs.Common.{◌-◌, ◌≤◌, ◌++◌, Bool, List, take}
+use Rattle.etcs_bits.specs.Bits.{bits}
+use Rattle.etcs_reader.specs.Readers.{Passed, IsReader, part_of}
 use Rattle.etcs_reader.proofs.reader.Reader.push.Given as goal
 
 abbrev pub invariant-loop-at : goal.invariant-loop-at
 invariant-loop-at g l =
     record {
-      reader : Unfinished (g.R.Rest.left l.self.rest) (g.R.Rest.next l.self.rest) l.self.number l.self.taken;
+      reader : IsReader g.row.R.Denot g.R.Rest.left g.R.Rest.next l.self;
       within : l.at ≤ l.end;
-      passed : Passed (λ p. g.R.Rest.follows l.fn.self.rest p l.self.rest) (num l.fn.self.taken l.fn.self.number ++ take l.at (bits l.piece)) (num l.self.taken l.self.number);
+      passed : (s : g.row.R.Denot) (b : List Bool) → Passed (λ p. g.R.Rest.follows s p l.fn.self.rest) (b ++ take l.fn.at (bits l.piece)) (part_of l.fn.self) → Passed (λ p. g.R.Rest.follows s p l.self.rest) (b ++ take l.at (bits l.piece)) (part_of l.self);
     }
 
 abbrev pub decreases-loop-at : goal.decreases-loop-at

@@ -1,0 +1,1 @@
+use Rattle.etcs_reader.proofs.stored.send_bits.Goals as goal

@@ -77,8 +77,8 @@ pub trait ItemRest: Rest + Drop {
         ensures left { Same (Self.left result) (readings_of (Reads size)) }
         ensures holds { holds size result [] };
 
-    /// The item of this size that a piece begins with, where it lies whole in it, and how many bytes it has. `None`
-    /// says nothing: where the piece begins with no such item, and where memory is refused.
+    /// The item of this size that a piece begins with, where it lies whole in it, and how many bytes it has. It may
+    /// always return `None`, as where the piece begins with no such item, and where memory is refused.
     fn whole(
         room: &mut Room<Self::Packet>,
         size: Self::Size,

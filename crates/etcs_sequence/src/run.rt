@@ -130,7 +130,7 @@ pub(crate) fn put_packet<S: PacketStore>(
 }
 
 /// Takes packet 0, the marker, of a telegram that has this many bits left, of which the word has the first, and says how
-/// many bits it has. `None` says nothing.
+/// many bits it has. It may always return `None`.
 #[inline(never)]
 fn take_marker<S: PacketStore>(store: &mut S, room: usize, word: u64) -> Option<usize>
     requires way { ToTrain ≡ S.WAY }
@@ -149,7 +149,7 @@ fn take_marker<S: PacketStore>(store: &mut S, room: usize, word: u64) -> Option<
 }
 
 /// Takes the packet that begins at `at`, where it lies whole in the room, and says how many bits it has. The word has its
-/// first bits. `None` says nothing.
+/// first bits. It may always return `None`.
 #[inline(always)]
 fn take_packet<S: PacketStore>(
     store: &mut S,
@@ -191,7 +191,7 @@ fn take_packet<S: PacketStore>(
 }
 
 /// Takes all packets of a room, which begins at `at`, with what closes them, and says how many bits of it are left.
-/// `None` says nothing, neither of the piece nor of what the store holds then: where the bits aren't those of packets,
+/// It may always return `None`, and then nothing is said of what the store holds: as where the bits aren't those of packets,
 /// and where memory is refused.
 pub fn take_run<S: PacketStore>(
     store: &mut S,

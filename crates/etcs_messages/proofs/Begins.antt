@@ -13,20 +13,20 @@ use Rattle.etcs_tables.specs.Frames.{frame_bits}
 use Rattle.etcs_rows.specs.declared.frames.Carrier.TheVariants.{Message}
 use Rattle.etcs_rows.specs.Frames.{may_be_left}
 use Rattle.etcs_sequence.proofs.Fits.{run_some}
-use Rattle.etcs_reader.specs.Rests.{Starts, Goes}
+use Rattle.etcs_reader.specs.Rests.{AreBits, Starts, Goes}
 use Rattle.etcs_reader.proofs.FieldLaws.{some_fields}
-use Rattle.etcs_sequence.specs.declared.state.PacketsState.{PacketsState}
 use Rattle.etcs_sequence.specs.laws.BitLaws.{some_bits, bits_start, bits_number}
-use Rattle.etcs_sequence.specs.Lefts.{left_of}
+use Rattle.etcs_sequence.specs.Lefts.{ahead, left_of, next_of}
+use Rattle.etcs_sequence.proofs.LeapLemmas.{chain_bits, kept_bits}
 use Rattle.etcs_rows.specs.laws.RestLaws.{head_of}
 use Rattle.etcs_sequence.proofs.StageLaws.{message_run}
-use Rattle.etcs_messages.specs.declared.phase.Phase.{Phase}
 use Rattle.etcs_messages.specs.declared.phase.Phase.TheVariants as phase
-use Rattle.etcs_messages.specs.Lefts.{front_row, front_bits, Behind, LengthLeft, NumberLeft, left_at, next_at}
+use Rattle.etcs_messages.specs.Lefts.{PaddedBy, front_row, front_bits, Behind, LengthLeft, NumberLeft, next_at, MessageState, Left, next_var}
 use Rattle.etcs_messages.specs.laws.RestLaws.{length_opens}
 use Rattle.etcs_messages.proofs.Ways.{frame_few}
 use Rattle.etcs_messages.proofs.Fronts.{front_small}
 use Rattle.etcs_messages.proofs.RestSteps.{front_tested, packets_start}
+use Rattle.etcs_messages.proofs.RestStands.{padding_parts, data_parts}
 
 -- ---- The lengths with which some message continues.
 
@@ -88,48 +88,59 @@ number_start way rest bits lt fits =
     let (r, h) = some_length way n in
     (n, r, (n, r, small, refl, h), q)
 
-pub begins_number : (way : Way) (nid : ℕ) (here : Phase) (l : PacketsState) (x : Var) (rest bits : ℕ) → here ≡ phase.Number → next_at way nid here l ≡ Some x → rest < width x → bits < 2 ^ (width x - rest) → Starts (left_at way nid here l) x rest bits
-begins_number way nid here l x rest bits e next lt fits =
-    let next' : next_at way nid phase.Number l ≡ Some x = rw e at next in
-    let same : NID_MESSAGE ≡ x = cc in
-    rw (e, ← same) (number_start way rest bits (rw (← same) at lt) (rw (← same) at fits))
+-- ---- All phases.
 
-pub begins_length : (way : Way) (nid : ℕ) (rs : List (ℕ × ℕ)) (here : Phase) (l : PacketsState) (x : Var) (rest bits : ℕ) → ordered rs ≡ true → ((n : ℕ) → IsTrue (inside rs n) ↔ Goes (Behind way (front_row way nid) n)) → here ≡ phase.Length → next_at way nid here l ≡ Some x
-    → IsTrue (begins rs rest bits) ↔ Starts (left_at way nid here l) x rest bits
-begins_length way nid rs here l x rest bits order fits e next =
-    let next' : next_at way nid phase.Length l ≡ Some x = rw e at next in
-    let same : L_MESSAGE ≡ x = cc in
-    rw (e, ← same) (length_tested way nid rs rest bits order fits)
+module _ {S : Type 0} (s : MessageState S) (x : Var) (rest bits : ℕ) (next : next_var s ≡ Some x) where
+  pub begins_number : s.phase ≡ phase.Number → rest < width x → bits < 2 ^ (width x - rest) → Starts (Left s) x rest bits
+  begins_number e lt fits =
+      let next' : next_at s.way s.nid phase.Number s.left ≡ Some x = rw e at next in
+      let same : NID_MESSAGE ≡ x = cc in
+      rw (e, ← same) (number_start s.way rest bits (rw (← same) at lt) (rw (← same) at fits))
 
--- ---- The others.
+  pub begins_length : (rs : List (ℕ × ℕ)) → s.phase ≡ phase.Length → ordered rs ≡ true → ((n : ℕ) → IsTrue (inside rs n) ↔ Goes (Behind s.way (front_row s.way s.nid) n)) → IsTrue (begins rs rest bits) ↔ Starts (Left s) x rest bits
+  begins_length rs e order fits =
+      let next' : next_at s.way s.nid phase.Length s.left ≡ Some x = rw e at next in
+      let same : L_MESSAGE ≡ x = cc in
+      rw (e, ← same) (length_tested s.way s.nid rs rest bits order fits)
 
-pub begins_front : (way : Way) (nid : ℕ) (here : Phase) (at : ℕ) (l : PacketsState) (x : Var) (rest bits : ℕ) → here ≡ phase.Front at → next_at way nid here l ≡ Some x → rest < width x → bits < 2 ^ (width x - rest) → Goes (left_at way nid here l) → IsTrue (begins (ranges x) rest bits) ↔ Starts (left_at way nid here l) x rest bits
-begins_front way nid here at l x rest bits e next lt fits g = rw e (front_tested way nid at l x rest bits (rw e at next) lt fits (rw e at g))
+  pub begins_front : (at : ℕ) → s.phase ≡ phase.Front at → rest < width x → bits < 2 ^ (width x - rest) → Goes (Left s) → IsTrue (begins (ranges x) rest bits) ↔ Starts (Left s) x rest bits
+  begins_front at e lt fits g = rw e (front_tested s.way s.nid at s.left x rest bits (rw e at next) lt fits (rw e at g))
 
-pub begins_packets : (way : Way) (nid : ℕ) (here : Phase) (l : PacketsState) (x : Var) (rest bits : ℕ) → here ≡ phase.Packets → next_at way nid here l ≡ Some x → Starts (left_of l.carrier l.room l.stage) x rest bits ↔ Starts (left_at way nid here l) x rest bits
-begins_packets way nid here l x rest bits e next = rw e (packets_start way nid l x rest bits (rw e at next))
+  pub begins_packets : s.phase ≡ phase.Packets → Starts (left_of s.left.carrier s.left.room s.left.stage) x rest bits ↔ Starts (Left s) x rest bits
+  begins_packets e = rw e (packets_start s.way s.nid s.left x rest bits (rw e at next))
 
-pub begins_padding : (way : Way) (nid : ℕ) (here : Phase) (left : ℕ) (l : PacketsState) (x : Var) (rest bits : ℕ) → here ≡ phase.Padding left → 0 < left → next_at way nid here l ≡ Some x → rest < width x → bits < 2 ^ (width x - rest) → Starts (left_at way nid here l) x rest bits
-begins_padding way nid here left l x rest bits e pos next lt fits =
-    let next' : next_at way nid (phase.Padding left) l ≡ Some x = rw e at next in
-    let same : PADDING ≡ x = cc in
-    rw (e, ← same) (bits_start PADDING refl left rest bits pos (rw (← same) at lt) (rw (← same) at fits))
+  pub begins_padding : (left : ℕ) → s.phase ≡ phase.Padding left → rest < width x → bits < 2 ^ (width x - rest) → Starts (Left s) x rest bits
+  begins_padding left e lt fits =
+      let next' : next_at s.way s.nid (phase.Padding left) s.left ≡ Some x = rw e at next in
+      let same : PADDING ≡ x = cc in
+      rw (e, ← same) (bits_start PADDING refl left rest bits (padding_parts s left e).0 (rw (← same) at lt) (rw (← same) at fits))
 
-pub begins_data : (way : Way) (nid : ℕ) (here : Phase) (left : ℕ) (l : PacketsState) (x : Var) (rest bits : ℕ) → here ≡ phase.Data left → 0 < left → next_at way nid here l ≡ Some x → rest < width x → bits < 2 ^ (width x - rest) → Starts (left_at way nid here l) x rest bits
-begins_data way nid here left l x rest bits e pos next lt fits =
-    let next' : next_at way nid (phase.Data left) l ≡ Some x = rw e at next in
-    let same : OTHER_DATA ≡ x = cc in
-    rw (e, ← same) (bits_start OTHER_DATA refl left rest bits pos (rw (← same) at lt) (rw (← same) at fits))
+  pub begins_data : (left : ℕ) → s.phase ≡ phase.Data left → rest < width x → bits < 2 ^ (width x - rest) → Starts (Left s) x rest bits
+  begins_data left e lt fits =
+      let next' : next_at s.way s.nid (phase.Data left) s.left ≡ Some x = rw e at next in
+      let same : OTHER_DATA ≡ x = cc in
+      rw (e, ← same) (bits_start OTHER_DATA refl left rest bits (data_parts s left e).0 (rw (← same) at lt) (rw (← same) at fits))
 
 -- what continues of PADDING and OTHER_DATA is a bit
-pub padding_bit : (way : Way) (nid : ℕ) (here : Phase) (left : ℕ) (l : PacketsState) (x : Var) (number : ℕ) → here ≡ phase.Padding left → next_at way nid here l ≡ Some x → Starts (left_at way nid here l) x 0 number → (x ≡ PADDING) × (number < 2)
-padding_bit way nid here left l x number e next goes =
-    let next' : next_at way nid (phase.Padding left) l ≡ Some x = rw e at next in
-    let same : PADDING ≡ x = cc in
-    (sym same, bits_number PADDING refl left number (rw (e, ← same) at goes))
+module _ {S : Type 0} (s : MessageState S) (x : Var) (number left : ℕ) (next : next_var s ≡ Some x) (goes : Starts (Left s) x 0 number) where
+  pub padding_bit : s.phase ≡ phase.Padding left → (x ≡ PADDING) × (number < 2)
+  padding_bit e =
+      let next' : next_at s.way s.nid (phase.Padding left) s.left ≡ Some x = rw e at next in
+      let same : PADDING ≡ x = cc in
+      (sym same, bits_number PADDING refl left number (rw (e, ← same) at goes))
 
-pub data_bit : (way : Way) (nid : ℕ) (here : Phase) (left : ℕ) (l : PacketsState) (x : Var) (number : ℕ) → here ≡ phase.Data left → next_at way nid here l ≡ Some x → Starts (left_at way nid here l) x 0 number → (x ≡ OTHER_DATA) × (number < 2)
-data_bit way nid here left l x number e next goes =
-    let next' : next_at way nid (phase.Data left) l ≡ Some x = rw e at next in
-    let same : OTHER_DATA ≡ x = cc in
-    (sym same, bits_number OTHER_DATA refl left number (rw (e, ← same) at goes))
+  pub data_bit : s.phase ≡ phase.Data left → (x ≡ OTHER_DATA) × (number < 2)
+  data_bit e =
+      let next' : next_at s.way s.nid (phase.Data left) s.left ≡ Some x = rw e at next in
+      let same : OTHER_DATA ≡ x = cc in
+      (sym same, bits_number OTHER_DATA refl left number (rw (e, ← same) at goes))
+
+-- ---- Bits one after another.
+
+pub packets_run : {S : Type 0} (s : MessageState S) (n : ℕ) → s.phase ≡ phase.Packets → AreBits (left_of s.left.carrier s.left.room s.left.stage) (next_of s.left.stage) n → AreBits (Left s) (next_var s) n
+packets_run s n is are =
+    let room = ahead s.left.carrier s.left.room s.left.stage in
+    rw is (chain_bits (left_of s.left.carrier s.left.room s.left.stage) (PaddedBy room) (next_of s.left.stage) n are)
+
+pub data_run : {S : Type 0} (s : MessageState S) (left : ℕ) → s.phase ≡ phase.Data left → AreBits (Left s) (next_var s) left
+data_run s left is = rw is (kept_bits left)

@@ -20,14 +20,16 @@ use Rattle.etcs_reader.specs.Rests.{Goes}
 use Rattle.etcs_sequence.specs.declared.state.PacketsState.{PacketsState}
 use Rattle.etcs_sequence.specs.Labels.{labelled}
 use Rattle.etcs_sequence.specs.Lefts.{is_closed}
+use Rattle.etcs_sequence.specs.declared.list.PacketList.{PacketList}
 use Rattle.etcs_sequence.specs.Held.{list_holds}
 use Rattle.etcs_sequence.proofs.Begun.{begun_of, nothing_held, none_listed}
 use Rattle.etcs_messages.specs.declared.phase.Phase.{Phase}
 use Rattle.etcs_messages.specs.declared.phase.Phase.TheVariants.{Number, Length, Front, Packets, Padding, Data, Whole}
 use Rattle.etcs_messages.specs.Messages.{values_of}
-use Rattle.etcs_messages.specs.Lefts.{front_vars, some_row, headed, left_at, next_at, is_message, stands_at, PacketsBehind, HoldsIn, FrontHeld, PacketsHeld, PaddingHeld, DataHeld}
+use Rattle.etcs_messages.specs.Lefts.{front_vars, some_row, headed, left_at, next_at, is_message, stands_at, PacketsBehind, HoldsBy, FrontHeld, PacketsHeld, PaddingHeld, DataHeld, MessageState, Left, next_var, HoldsIn}
 use Rattle.etcs_messages.specs.Readers.{Standing, Members}
 use Rattle.etcs_messages.proofs.Faults.{carried_packets}
+use Rattle.etcs_messages.proofs.Listing.{in_list}
 use Rattle.etcs_messages.proofs.SoFar.{first_goes}
 use Rattle.etcs_messages.proofs.RestStands.{message_inner}
 
@@ -57,24 +59,27 @@ data_members way form nid left ps f k q h =
     inr (inr ((nid, h.len, h.untyped, h.reading_is ∙ ap (λ (b : List Bool). headed nid h.len (kept OTHER_DATA b)) b_is), none_listed form ps vs_is, sym m_is))
 
 -- between two pieces no bit of PADDING was read: all bits are whole bytes, and fewer are left than one
-members_of : {P : Type 0} (way : Way) (form : P → Form) (nid : ℕ) (phase : Phase) (front : List ℕ) (l : PacketsState) (ps : List P) (f : List ℕ) (k : List Bool) (number : ℕ) (q : Reading) (part : List Bool) (x : Var) → IsTrue (stands_at way nid phase (length front) l) → next_at way nid phase l ≡ Some x → Goes (left_at way nid phase l) → HoldsIn way nid phase front l number (list_holds form ps f k) q → length part < width x → length (spelled q ++ part) % 8 ≡ 0 → Standing way form ps f k q
-members_of way form nid Number front l ps f k number q part x stands e g (z, h, is) short bytes = let (a, b, c) = none_held form ps f k h in inl (inl is, a, b, c)
-members_of way form nid Length front l ps f k number q part x stands e g (z, h, is) short bytes = let (a, b, c) = none_held form ps f k h in inl (inr (inl (nid, is)), a, b, c)
-members_of way form nid (Front at) front l ps f k number q part x stands e g (z, h) short bytes = front_members way form nid at front l ps f k q stands h
-members_of way form nid Packets front l ps f k number q part x stands e g (z, h) short bytes =
-    let both = and_parts (is_message way l) (not (is_closed l.stage)) stands in
-    packets_members way form nid front l ps f k q (message_inner way l both.0).0 (not-true (is_closed l.stage) both.1) g h
-members_of way form nid (Padding left) front l ps f k number q part x stands e g h short bytes =
-    let both = and_parts (nat_lt 0 left) (nat_lt left 8) stands in
-    let some = ltb-true 0 left both.0 in
-    let few = ltb-true left 8 both.1 in
-    let same : PADDING ≡ x = cc in
-    let one : length part < width PADDING = subst (λ (v : Var). length part < width v) (sym same) short in
-    let none : length part ≡ 0 = omega (arith, one) in
-    let room = h.room_is in
-    absurd (omega (arith, some, few, none, room, bytes, length-append (spelled q) part))
-members_of way form nid (Data left) front l ps f k number q part x stands e g h short bytes = data_members way form nid left ps f k q h
-members_of way form nid Whole front l ps f k number q part x stands e g h short bytes = absurd cc
+module _ {P S : Type 0} (form : P → Form) (list : S → PacketList P) (s : MessageState S) (q : Reading) where
+  members_by : (phase : Phase) (part : List Bool) (x : Var) → IsTrue (stands_at s.way s.nid phase (length s.front) s.left) → next_at s.way s.nid phase s.left ≡ Some x → Goes (left_at s.way s.nid phase s.left) → HoldsBy s.way s.nid phase s.front s.left s.padding (in_list form list s.store) q → length part < width x → length (spelled q ++ part) % 8 ≡ 0
+      → (let k = list s.store in Standing s.way form k.packets.items k.numbers.items k.bits q)
+  members_by Number part x stands e g (z, h, is) short bytes = let k = list s.store in let (a, b, c) = none_held form k.packets.items k.numbers.items k.bits h in inl (inl is, a, b, c)
+  members_by Length part x stands e g (z, h, is) short bytes = let k = list s.store in let (a, b, c) = none_held form k.packets.items k.numbers.items k.bits h in inl (inr (inl (s.nid, is)), a, b, c)
+  members_by (Front at) part x stands e g (z, h) short bytes = let k = list s.store in front_members s.way form s.nid at s.front s.left k.packets.items k.numbers.items k.bits q stands h
+  members_by Packets part x stands e g (z, h) short bytes =
+      let k = list s.store in
+      let both = and_parts (is_message s.way s.left) (not (is_closed s.left.stage)) stands in
+      packets_members s.way form s.nid s.front s.left k.packets.items k.numbers.items k.bits q (message_inner s.way s.left both.0).0 (not-true (is_closed s.left.stage) both.1) g h
+  members_by (Padding left) part x stands e g h short bytes =
+      let both = and_parts (nat_lt 0 left) (nat_lt left 8) stands in
+      let some = ltb-true 0 left both.0 in
+      let few = ltb-true left 8 both.1 in
+      let same : PADDING ≡ x = cc in
+      let one : length part < width PADDING = subst (λ (v : Var). length part < width v) (sym same) short in
+      let none : length part ≡ 0 = omega (arith, one) in
+      let room = h.room_is in
+      absurd (omega (arith, some, few, none, room, bytes, length-append (spelled q) part))
+  members_by (Data left) part x stands e g h short bytes = let k = list s.store in data_members s.way form s.nid left k.packets.items k.numbers.items k.bits q h
+  members_by Whole part x stands e g h short bytes = absurd cc
 
 -- ---- Its packets are whole ones.
 
@@ -93,17 +98,19 @@ packets_whole way form nid front l ps f k q to h =
 padding_whole : {P : Type 0} (way : Way) (form : P → Form) (nid : ℕ) (front : List ℕ) (ps : List P) (f : List ℕ) (k : List Bool) (number left : ℕ) (q : Reading) → PaddingHeld way nid front (list_holds form ps f k) number left q → AreWhole way form ps
 padding_whole way form nid front ps f k number left q h = (h.held.1.0, subst (All (IsPacketTo way)) h.held.0 (carried_packets way h.packets h.carried))
 
-whole_of : {P : Type 0} (way : Way) (form : P → Form) (nid : ℕ) (phase : Phase) (front : List ℕ) (l : PacketsState) (ps : List P) (f : List ℕ) (k : List Bool) (number : ℕ) (q : Reading) → IsTrue (stands_at way nid phase (length front) l) → HoldsIn way nid phase front l number (list_holds form ps f k) q → AreWhole way form ps
-whole_of way form nid Number front l ps f k number q s (z, h, is) = none_whole way form ps (none_held form ps f k h).0
-whole_of way form nid Length front l ps f k number q s (z, h, is) = none_whole way form ps (none_held form ps f k h).0
-whole_of way form nid (Front at) front l ps f k number q s (z, h) = none_whole way form ps (nothing_held form l.carrier l.stage ps f k h.none).0
-whole_of way form nid Packets front l ps f k number q s (z, h) = packets_whole way form nid front l ps f k q (message_inner way l (and_parts (is_message way l) (not (is_closed l.stage)) s).0).0 h
-whole_of way form nid (Padding left) front l ps f k number q s h = padding_whole way form nid front ps f k number left q h
-whole_of way form nid (Data left) front l ps f k number q s h = none_whole way form ps (none_listed form ps h.held.0)
-whole_of way form nid Whole front l ps f k number q s (inl h) = padding_whole way form nid front ps f k number 0 q h
-whole_of way form nid Whole front l ps f k number q s (inr h) = none_whole way form ps (none_listed form ps h.held.0)
+module _ {P S : Type 0} (form : P → Form) (list : S → PacketList P) (s : MessageState S) (q : Reading) where
+  whole_by : (phase : Phase) → IsTrue (stands_at s.way s.nid phase (length s.front) s.left) → HoldsBy s.way s.nid phase s.front s.left s.padding (in_list form list s.store) q → AreWhole s.way form (list s.store).packets.items
+  whole_by Number stands (z, h, is) = let k = list s.store in none_whole s.way form k.packets.items (none_held form k.packets.items k.numbers.items k.bits h).0
+  whole_by Length stands (z, h, is) = let k = list s.store in none_whole s.way form k.packets.items (none_held form k.packets.items k.numbers.items k.bits h).0
+  whole_by (Front at) stands (z, h) = let k = list s.store in none_whole s.way form k.packets.items (nothing_held form s.left.carrier s.left.stage k.packets.items k.numbers.items k.bits h.none).0
+  whole_by Packets stands (z, h) = let k = list s.store in packets_whole s.way form s.nid s.front s.left k.packets.items k.numbers.items k.bits q (message_inner s.way s.left (and_parts (is_message s.way s.left) (not (is_closed s.left.stage)) stands).0).0 h
+  whole_by (Padding left) stands h = let k = list s.store in padding_whole s.way form s.nid s.front k.packets.items k.numbers.items k.bits s.padding left q h
+  whole_by (Data left) stands h = none_whole s.way form (list s.store).packets.items (none_listed form (list s.store).packets.items h.held.0)
+  whole_by Whole stands (inl h) = let k = list s.store in padding_whole s.way form s.nid s.front k.packets.items k.numbers.items k.bits s.padding 0 q h
+  whole_by Whole stands (inr h) = none_whole s.way form (list s.store).packets.items (none_listed form (list s.store).packets.items h.held.0)
 
-pub members_at : {P : Type 0} (way : Way) (form : P → Form) (nid : ℕ) (phase : Phase) (front : List ℕ) (l : PacketsState) (ps : List P) (f : List ℕ) (k : List Bool) (number : ℕ) (q : Reading) (part : List Bool) (x : Var) → IsTrue (stands_at way nid phase (length front) l) → next_at way nid phase l ≡ Some x → Goes (left_at way nid phase l) → HoldsIn way nid phase front l number (list_holds form ps f k) q → length part < width x → length (spelled q ++ part) % 8 ≡ 0 → Members way form ps f k q
-members_at way form nid phase front l ps f k number q part x stands e g h short bytes =
-    let whole = whole_of way form nid phase front l ps f k number q stands h in
-    (members_of way form nid phase front l ps f k number q part x stands e g h short bytes, whole.0, whole.1)
+  pub members_at : (part : List Bool) (x : Var) → next_var s ≡ Some x → Goes (Left s) → HoldsIn (in_list form list) s q → length part < width x → length (spelled q ++ part) % 8 ≡ 0
+      → (let k = list s.store in Members s.way form k.packets.items k.numbers.items k.bits q)
+  members_at part x e g h short bytes =
+      let whole = whole_by s.phase s.stands h in
+      (members_by form list s q s.phase part x s.stands e g h short bytes, whole.0, whole.1)

@@ -11,8 +11,8 @@ use Rattle.etcs_sequence.specs.declared.list.PacketList.{PacketList}
 use Rattle.etcs_sequence.specs.Held.{list_holds}
 use Rattle.etcs_messages.specs.declared.phase.Phase.{Phase}
 use Rattle.etcs_messages.specs.declared.phase.Phase.TheVariants.{Number, Length, Front, Packets, Padding, Data, Whole}
-use Rattle.etcs_messages.specs.Lefts.{HoldsIn, FrontHeld, PacketsHeld, PaddingHeld, DataHeld}
-use Rattle.etcs_messages.proofs.RestHolds.{Holds}
+use Rattle.etcs_messages.specs.Lefts.{MessageState, HoldsIn, HoldsBy, FrontHeld, PacketsHeld, PaddingHeld, DataHeld}
+use Rattle.etcs_sequence.specs.AtOnce.{Holds}
 
 module _ (holds more : Holds) (known : (vs : List PacketValue) (f : List ℕ) (k : List Bool) → holds vs f k → more vs f k) where
   at_known : (c : Carrier) (s : Stage) (q : Reading) → HoldsAt c s holds q → HoldsAt c s more q
@@ -44,7 +44,7 @@ module _ (holds more : Holds) (known : (vs : List PacketValue) (f : List ℕ) (k
   data_known : (way : Way) (nid left : ℕ) (q : Reading) → DataHeld way nid holds left q → DataHeld way nid more left q
   data_known way nid left q h = record { len = h.len; bits = h.bits; untyped = h.untyped; least = h.least; held = known _ _ h.bits h.held; reading_is = h.reading_is; room_is = h.room_is }
 
-  pub held_known : (way : Way) (nid : ℕ) (phase : Phase) (front : List ℕ) (l : PacketsState) (padding : ℕ) (q : Reading) → HoldsIn way nid phase front l padding holds q → HoldsIn way nid phase front l padding more q
+  held_known : (way : Way) (nid : ℕ) (phase : Phase) (front : List ℕ) (l : PacketsState) (padding : ℕ) (q : Reading) → HoldsBy way nid phase front l padding holds q → HoldsBy way nid phase front l padding more q
   held_known way nid Number front l padding q (z, h, e) = (z, known _ _ _ h, e)
   held_known way nid Length front l padding q (z, h, e) = (z, known _ _ _ h, e)
   held_known way nid (Front at) front l padding q (z, h) = (z, front_known way nid at front l q h)
@@ -54,7 +54,10 @@ module _ (holds more : Holds) (known : (vs : List PacketValue) (f : List ℕ) (k
   held_known way nid Whole front l padding q (inl h) = inl (padding_known way nid front padding 0 q h)
   held_known way nid Whole front l padding q (inr h) = inr (data_known way nid 0 q h)
 
--- what a list of packets keeps
-pub in_list : {P : Type 0} (form : P → Form) (list : PacketList P) (holds : Holds) → ((vs : List PacketValue) (f : List ℕ) (k : List Bool) → holds vs f k → list_holds form list.packets.items list.numbers.items list.bits vs f k)
-    → (way : Way) (nid : ℕ) (phase : Phase) (front : List ℕ) (l : PacketsState) (padding : ℕ) (q : Reading) → HoldsIn way nid phase front l padding holds q → HoldsIn way nid phase front l padding (list_holds form list.packets.items list.numbers.items list.bits) q
-in_list form list holds known = held_known holds (list_holds form list.packets.items list.numbers.items list.bits) known
+module _ {P S : Type 0} (form : P → Form) (list : S → PacketList P) where
+  -- what a list of packets keeps
+  abbrev pub in_list : S → Holds
+  in_list store = list_holds form (list store).packets.items (list store).numbers.items (list store).bits
+
+  pub held_in_list : (holds : S → Holds) → ((store : S) (vs : List PacketValue) (f : List ℕ) (k : List Bool) → holds store vs f k → in_list store vs f k) → (s : MessageState S) (q : Reading) → HoldsIn holds s q → HoldsIn in_list s q
+  held_in_list holds known s q h = held_known (holds s.store) (in_list s.store) (known s.store) s.way s.nid s.phase s.front s.left s.padding q h

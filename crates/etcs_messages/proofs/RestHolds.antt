@@ -1,6 +1,7 @@
 -- What is kept of a message after each of its variables.
 use Rattle.std.proofs.Common.{◌≡◌, ℕ, suc, ◌+◌, ◌-◌, ◌*◌, ◌%◌, ◌^◌, ◌<◌, ◌≤◌, Bool, List, [], ◌∷◌, ◌++◌, length, drop, Some, None, refl, sym, ap, subst, ◌∙◌, arith, ltb, append_assoc, append-nil, length-append, inl, inr}
 use Rattle.std.specs.Prelude.{All, IsTrue}
+use mathlib.Core.Bool.{Bool-set}
 use Rattle.std.specs.Int.RustNames.{bit_or}
 use Rattle.std.proofs.lemmas.List.{nil_from_length}
 use Rattle.std.proofs.lemmas.Nat.{or_shifted}
@@ -12,7 +13,6 @@ use Rattle.etcs_vars.specs.declared.var.Var.{Var}
 use Rattle.etcs_vars.specs.declared.var.Var.TheVariants.{NID_MESSAGE, L_MESSAGE, PADDING, OTHER_DATA}
 use Rattle.etcs_vars.specs.Vars.{width}
 use Rattle.etcs_vars.specs.Reading.{Reading, spelled, kept}
-use Rattle.etcs_vars.specs.Walking.{Residual}
 use Rattle.etcs_vars.proofs.Stepping.{parts_fit, next_number}
 use Rattle.etcs_tables.specs.declared.row.Way.{Way}
 use Rattle.etcs_rows.specs.declared.frames.Carrier.{Carrier}
@@ -21,9 +21,12 @@ use Rattle.etcs_vars.proofs.Sent.{length-sent}
 use Rattle.etcs_rows.specs.Frames.{way_of}
 use Rattle.etcs_packets.specs.PacketValues.{PacketValue}
 use Rattle.etcs_packets.specs.PacketReadings.{readings_to}
-use Rattle.etcs_sequence.specs.Contents.{Carries, closing}
+use Rattle.etcs_sequence.specs.Contents.{Carries, PacketsIn, closing}
 use Rattle.etcs_sequence.specs.laws.RunSteps.{both_length}
 use Rattle.etcs_reader.specs.Rests.{Starts, Goes}
+use Rattle.etcs_vars.proofs.Languages.{Same}
+use Rattle.etcs_sequence.specs.AtOnce.{Holds}
+use Rattle.etcs_sequence.proofs.Leaps.{Steps, same_made}
 use Rattle.etcs_reader.specs.Fields.{first_of}
 use Rattle.etcs_sequence.specs.declared.state.PacketsState.{PacketsState}
 use Rattle.etcs_sequence.specs.declared.stage.Stage.TheVariants as stage
@@ -34,14 +37,10 @@ use Rattle.etcs_sequence.specs.Lefts.{left_of, ahead, is_closed, HoldsAt, Moved}
 use Rattle.etcs_sequence.proofs.StageLaws.{closed_stage}
 use Rattle.etcs_messages.specs.declared.phase.Phase.{Phase}
 use Rattle.etcs_messages.specs.declared.phase.Phase.TheVariants as phase
-use Rattle.etcs_messages.specs.Lefts.{front_row, front_vars, some_row, front_bits, headed, left_at, next_at, is_message, stands_at, behind_packets, behind_front, behind_padding, behind_data, DataFits, PacketsHeld, PaddingHeld, DataHeld, HoldsIn, Follows}
+use Rattle.etcs_messages.specs.Lefts.{front_row, front_vars, some_row, front_bits, headed, LengthLeft, next_at, is_message, stands_at, behind_packets, behind_front, behind_padding, behind_data, DataFits, PacketsHeld, PaddingHeld, DataHeld, HoldsBy, MessageState, Left, next_var, Follows}
 use Rattle.etcs_messages.proofs.Fronts.{drop_bits}
-use Rattle.etcs_messages.proofs.RestSteps.{by_test, below_false, typed_bounds, kept_bounds, front_behind, packets_behind, padding_behind, data_behind}
-use Rattle.etcs_messages.proofs.RestStands.{begin_parts, front_parts, message_inner}
-
--- what a store holds
-abbrev pub Holds : Type 1
-Holds = List PacketValue → List ℕ → List Bool → Type 0
+use Rattle.etcs_messages.proofs.RestSteps.{by_test, below_false, number_behind, typed_behind, kept_behind, typed_bounds, kept_bounds, front_behind, packets_behind, padding_behind, data_behind}
+use Rattle.etcs_messages.proofs.RestStands.{begin_parts, front_parts, message_inner, packets_message}
 
 -- this many bits more
 more_bits : (q : Reading) (x : Var) (n : ℕ) → length (spelled (q ++ (x, n) ∷ [])) ≡ length (spelled q) + width x
@@ -52,9 +51,9 @@ kept_bits q x t w = (let a = both_length q (kept x t) in let b = ap (λ (s : Lis
 
 -- ---- PADDING.
 
-padding_first : (way : Way) (nid left : ℕ) (front : List ℕ) (l : PacketsState) (padding : ℕ) (holds : Holds) (q : Reading) → PaddingHeld way nid front holds padding left q → HoldsIn way nid (behind_padding left) front l padding holds q
+padding_first : (way : Way) (nid left : ℕ) (front : List ℕ) (l : PacketsState) (padding : ℕ) (holds : Holds) (q : Reading) → PaddingHeld way nid front holds padding left q → HoldsBy way nid (behind_padding left) front l padding holds q
 padding_first way nid left front l padding holds q h =
-    by_test (ltb 0 left) (λ x. HoldsIn way nid x front l padding holds q) (phase.Padding left) phase.Whole
+    by_test (ltb 0 left) (λ x. HoldsBy way nid x front l padding holds q) (phase.Padding left) phase.Whole
     (λ _. h)
     (λ t. let e : left ≡ 0 = (let b = below_false 0 left t in omega arith) in inl (subst (λ n. PaddingHeld way nid front holds padding n q) e h))
 
@@ -117,10 +116,10 @@ closed_held way nid front c room padding holds len vars here q same short none t
     }
 
 -- all of the front, and packets
-packets_first : (way : Way) (nid : ℕ) (front : List ℕ) (l : PacketsState) (padding : ℕ) (holds : Holds) (q : Reading) → IsTrue (is_message way l) → padding ≡ 0 → PacketsHeld way nid front l holds q → HoldsIn way nid (behind_packets l) front l padding holds q
+packets_first : (way : Way) (nid : ℕ) (front : List ℕ) (l : PacketsState) (padding : ℕ) (holds : Holds) (q : Reading) → IsTrue (is_message way l) → padding ≡ 0 → PacketsHeld way nid front l holds q → HoldsBy way nid (behind_packets l) front l padding holds q
 packets_first way nid front l padding holds q m none h =
     let parts = message_inner way l m in
-    by_test (is_closed l.stage) (λ x. HoldsIn way nid x front l padding holds q) (behind_padding l.room) phase.Packets
+    by_test (is_closed l.stage) (λ x. HoldsBy way nid x front l padding holds q) (behind_padding l.room) phase.Packets
     (λ t. let e = closed_stage l.stage t in
     let room : length (spelled q) + l.room ≡ 8 * h.len = rw e at h.room_is in
     let held : HoldsAt l.carrier stage.Closed holds h.here = rw e at h.held in
@@ -129,7 +128,7 @@ packets_first way nid front l padding holds q m none h =
     (λ _. (none, h))
 
 packets_held : (way : Way) (nid : ℕ) (front : List ℕ) (l l' : PacketsState) (padding : ℕ) (holds holds' : Holds) (p : Reading) → IsTrue (is_message way l') → Moved l.carrier l.room l.stage p l'.carrier l'.room l'.stage
-    → ((q : Reading) → HoldsAt l.carrier l.stage holds q → HoldsAt l'.carrier l'.stage holds' (q ++ p)) → (q : Reading) → HoldsIn way nid phase.Packets front l padding holds q → HoldsIn way nid (behind_packets l') front l' padding holds' (q ++ p)
+    → ((q : Reading) → HoldsAt l.carrier l.stage holds q → HoldsAt l'.carrier l'.stage holds' (q ++ p)) → (q : Reading) → HoldsBy way nid phase.Packets front l padding holds q → HoldsBy way nid (behind_packets l') front l' padding holds' (q ++ p)
 packets_held way nid front l l' padding holds holds' p m moved more q (none, h) =
     packets_first way nid front l' padding holds' (q ++ p) m none record {
       len = h.len;
@@ -144,8 +143,8 @@ packets_held way nid front l l' padding holds holds' p m moved more q (none, h) 
 
 -- ---- The front.
 
-front_held : (way : Way) (nid at : ℕ) (front : List ℕ) (l : PacketsState) (padding : ℕ) (holds : Holds) (x : Var) (n : ℕ) (q : Reading) → at < length (front_vars way nid) → length front ≡ at → IsTrue (is_message way l) → next_at way nid (phase.Front at) l ≡ Some x → HoldsIn way nid (phase.Front at) front l padding holds q
-    → HoldsIn way nid (behind_front (length (front_vars way nid)) (at + 1) l) (front ++ n ∷ []) l padding holds (q ++ (x, n) ∷ [])
+front_held : (way : Way) (nid at : ℕ) (front : List ℕ) (l : PacketsState) (padding : ℕ) (holds : Holds) (x : Var) (n : ℕ) (q : Reading) → at < length (front_vars way nid) → length front ≡ at → IsTrue (is_message way l) → next_at way nid (phase.Front at) l ≡ Some x → HoldsBy way nid (phase.Front at) front l padding holds q
+    → HoldsBy way nid (behind_front (length (front_vars way nid)) (at + 1) l) (front ++ n ∷ []) l padding holds (q ++ (x, n) ∷ [])
 front_held way nid at front l padding holds x n q below len m next (none, h) =
     let vars : front_vars way nid ≡ h.vars = ap some_row h.typed in
     let first : first_of (drop at h.vars) ≡ Some x = rw vars at next in
@@ -154,7 +153,7 @@ front_held way nid at front l padding holds x n q below len m next (none, h) =
     let room : length (spelled (q ++ (x, n) ∷ [])) + (widths (drop (suc at) h.vars) + ahead l.carrier l.room l.stage) ≡ 8 * h.len = (let a = more_bits q x n in let b = h.room_is in let d = drop_bits h.vars at x first in omega (arith, a, b, d)) in
     let long : length (front ++ n ∷ []) ≡ suc at = length-append front (n ∷ []) ∙ omega (arith, len) in
     let next_at-is : at + 1 ≡ suc at = omega arith in
-    by_test (ltb (at + 1) (length (front_vars way nid))) (λ p. HoldsIn way nid p (front ++ n ∷ []) l padding holds (q ++ (x, n) ∷ [])) (phase.Front (at + 1)) (behind_packets l)
+    by_test (ltb (at + 1) (length (front_vars way nid))) (λ p. HoldsBy way nid p (front ++ n ∷ []) l padding holds (q ++ (x, n) ∷ [])) (phase.Front (at + 1)) (behind_packets l)
     (λ _. (none, record { len = h.len; vars = h.vars; typed = h.typed; none = h.none; reading_is = reading; room_is = rw next_at-is room }))
     (λ t. let over = below_false (at + 1) (length (front_vars way nid)) t in
     let size = ap (λ (vs : List Var). length vs) vars in
@@ -173,9 +172,9 @@ front_held way nid at front l padding holds x n q below len m next (none, h) =
 
 -- ---- Bits that are kept.
 
-data_first : (way : Way) (nid left : ℕ) (front : List ℕ) (l : PacketsState) (padding : ℕ) (holds : Holds) (q : Reading) → DataHeld way nid holds left q → HoldsIn way nid (behind_data left) front l padding holds q
+data_first : (way : Way) (nid left : ℕ) (front : List ℕ) (l : PacketsState) (padding : ℕ) (holds : Holds) (q : Reading) → DataHeld way nid holds left q → HoldsBy way nid (behind_data left) front l padding holds q
 data_first way nid left front l padding holds q h =
-    by_test (ltb 0 left) (λ x. HoldsIn way nid x front l padding holds q) (phase.Data left) phase.Whole
+    by_test (ltb 0 left) (λ x. HoldsBy way nid x front l padding holds q) (phase.Data left) phase.Whole
     (λ _. h)
     (λ t. let e : left ≡ 0 = (let b = below_false 0 left t in omega arith) in inr (subst (λ n. DataHeld way nid holds n q) e h))
 
@@ -200,66 +199,112 @@ heads nid len q is =
     let d = length-sent NID_MESSAGE nid [] in
     omega (arith, a, b, d)
 
-pub typed_follows : (way : Way) (nid : ℕ) (here : Phase) (front : List ℕ) (l l' : PacketsState) (padding : ℕ) (holds holds' : Holds) (len : ℕ) (vs : List Var)
-    → here ≡ phase.Length → IsTrue (stands_at way nid here (length front) l) → front_row way nid ≡ Some vs → Starts (left_at way nid here l) L_MESSAGE 0 len
-    → Residual (left_at way nid phase.Length l) ((L_MESSAGE, len) ∷ []) (left_at way nid (phase.Front 0) l') → ahead l'.carrier l'.room l'.stage ≡ 8 * len - front_bits vs → (holds [] [] [] → HoldsAt l'.carrier l'.stage holds' [])
-    → Follows way nid here front l padding holds ((L_MESSAGE, len) ∷ []) nid (phase.Front 0) front l' padding holds'
-typed_follows way nid here front l l' padding holds holds' len vs e h found goes behind room begun =
-    let no_front : front ≡ [] = nil_from_length front (begin_parts way nid here (length front) l e h).0 in
-    let bounds = typed_bounds way nid len vs found (rw e at goes) in
-    rw e record {
-      residual = behind;
-      held = λ q (none, k, is). (
+abbrev pub state : {S : Type 0} (way : Way) (nid : ℕ) (here : Phase) (front : List ℕ) (left : PacketsState) (padding : ℕ) → S → IsTrue (stands_at way nid here (length front) left) → MessageState S
+state way nid here front left padding store stands = record { way = way; nid = nid; phase = here; front = front; left = left; padding = padding; store = store; stands = stands }
+
+pub phase_is : {S : Type 0} {s t : MessageState S} {here : Phase} → s ≡ t → s.phase ≡ here → t.phase ≡ here
+phase_is e is = rw e at is
+
+-- what is of the same parts is the same
+pub same_state : {S : Type 0} (way : Way) (nid : ℕ) (front : List ℕ) (padding : ℕ) (here here' : Phase) (l l' : PacketsState) (store store' : S) (h : IsTrue (stands_at way nid here (length front) l)) (h' : IsTrue (stands_at way nid here' (length front) l')) → here ≡ here' → l ≡ l' → store ≡ store' → state way nid here front l padding store h ≡ state way nid here' front l' padding store' h'
+same_state {S} way nid front padding here here' l l' store store' h h' e f k =
+    let P : Phase × PacketsState × S → Type 0 = λ a. IsTrue (stands_at way nid a.0 (length front) a.1) in
+    same_made P P (λ a. Bool-set _ _) (λ a. Bool-set _ _) (λ a x y. state way nid a.0 front a.1 padding a.2 x) (here, l, store) (here', l', store') (λ i. (e i, f i, k i)) h h h' h'
+
+module _ {S : Type 0} (holds : S → Holds) (s : MessageState S) where
+  pub number_follows : (n : ℕ) (stands : IsTrue (stands_at s.way n phase.Length (length s.front) s.left)) → s.phase ≡ phase.Number → Starts (Left s) NID_MESSAGE 0 n → Follows holds s ((NID_MESSAGE, n) ∷ []) (state s.way n phase.Length s.front s.left s.padding s.store stands)
+  number_follows n stands e goes =
+      let from : (q : Reading) → HoldsBy s.way s.nid phase.Number s.front s.left s.padding (holds s.store) q → HoldsBy s.way n phase.Length s.front s.left s.padding (holds s.store) (q ++ (NID_MESSAGE, n) ∷ []) = (λ q (none, k, is). (none, k, ap (λ (x : Reading). x ++ (NID_MESSAGE, n) ∷ []) is)) in
+      record {
+        same = refl;
+        residual = rw e (number_behind s.way n (rw e at goes));
+        held = λ q k. from q (rw e at k);
+      }
+
+  pub typed_follows : (l : PacketsState) (store : S) (stands : IsTrue (stands_at s.way s.nid (phase.Front 0) (length s.front) l)) (len : ℕ) (vs : List Var) → s.phase ≡ phase.Length → front_row s.way s.nid ≡ Some vs → Starts (Left s) L_MESSAGE 0 len
+      → ahead l.carrier l.room l.stage ≡ 8 * len - front_bits vs → Same (left_of l.carrier l.room l.stage) (PacketsIn (Message s.way) (8 * len - front_bits vs)) → (holds s.store [] [] [] → HoldsAt l.carrier l.stage (holds store) [])
+      → Follows holds s ((L_MESSAGE, len) ∷ []) (state s.way s.nid (phase.Front 0) s.front l s.padding store stands)
+  typed_follows l store stands len vs e found goes room left begun =
+      let no_front : s.front ≡ [] = nil_from_length s.front (begin_parts s e).0 in
+      let goes' : Starts (LengthLeft s.way s.nid) L_MESSAGE 0 len = rw e at goes in
+      let bounds = typed_bounds s.way s.nid len vs found goes' in
+      let from : (q : Reading) → HoldsBy s.way s.nid phase.Length s.front s.left s.padding (holds s.store) q → HoldsBy s.way s.nid (phase.Front 0) s.front l s.padding (holds store) (q ++ (L_MESSAGE, len) ∷ []) = (λ q (none, k, is). (
         none,
         record {
           len = len;
           vars = vs;
           typed = found;
           none = begun k;
-          reading_is = ap (λ (x : Reading). x ++ (L_MESSAGE, len) ∷ []) is ∙ ap (headed nid len) (sym (ap (labelled vs) no_front ∙ labelled_none vs));
-          room_is = (let a = heads nid len q is in let b = bounds.0 in omega (arith, a, b, room));
+          reading_is = ap (λ (x : Reading). x ++ (L_MESSAGE, len) ∷ []) is ∙ ap (headed s.nid len) (sym (ap (labelled vs) no_front ∙ labelled_none vs));
+          room_is = (let a = heads s.nid len q is in let b = bounds.0 in omega (arith, a, b, room));
         },
-      );
-    }
+      )) in
+      record {
+        same = refl;
+        residual = rw e (typed_behind s.way s.nid len vs s.left l found goes' room left);
+        held = λ q k. from q (rw e at k);
+      }
 
-pub front_follows : (way : Way) (nid : ℕ) (here here' : Phase) (at : ℕ) (front : List ℕ) (l : PacketsState) (padding : ℕ) (holds : Holds) (x : Var) (n : ℕ)
-    → here ≡ phase.Front at → here' ≡ behind_front (length (front_vars way nid)) (at + 1) l → IsTrue (stands_at way nid here (length front) l) → next_at way nid here l ≡ Some x → Starts (left_at way nid here l) x 0 n
-    → Follows way nid here front l padding holds ((x, n) ∷ []) nid here' (front ++ n ∷ []) l padding holds
-front_follows way nid here here' at front l padding holds x n e e' h next goes =
-    let parts = front_parts way nid here at (length front) l e h in
-    let next' : next_at way nid (phase.Front at) l ≡ Some x = subst (λ (p : Phase). next_at way nid p l ≡ Some x) e next in
-    let goes' : Starts (left_at way nid (phase.Front at) l) x 0 n = subst (λ (p : Phase). Starts (left_at way nid p l) x 0 n) e goes in
-    rw (e, e') record {
-      residual = front_behind way nid at l x n parts.0 next' goes';
-      held = λ q k. front_held way nid at front l padding holds x n q parts.0 parts.1 parts.2 next' k;
-    }
+  pub kept_follows : (len left : ℕ) (stands : IsTrue (stands_at s.way s.nid (phase.Data left) (length s.front) s.left)) → s.phase ≡ phase.Length → front_row s.way s.nid ≡ None → Starts (Left s) L_MESSAGE 0 len → left ≡ 8 * len - 18
+      → Follows holds s ((L_MESSAGE, len) ∷ []) (state s.way s.nid (phase.Data left) s.front s.left s.padding s.store stands)
+  kept_follows len left stands e found goes left_is =
+      let goes' : Starts (LengthLeft s.way s.nid) L_MESSAGE 0 len = rw e at goes in
+      let bounds = kept_bounds s.way s.nid len found goes' in
+      let from : (q : Reading) → HoldsBy s.way s.nid phase.Length s.front s.left s.padding (holds s.store) q → DataHeld s.way s.nid (holds s.store) left (q ++ (L_MESSAGE, len) ∷ []) = (λ q (none, k, is). record {
+        len = len;
+        bits = [];
+        untyped = found;
+        least = bounds.0;
+        held = k;
+        reading_is = ap (λ (x : Reading). x ++ (L_MESSAGE, len) ∷ []) is;
+        room_is = (let b = bounds.0 in omega (arith, b, left_is));
+      }) in
+      record {
+        same = refl;
+        residual = rw (e, left_is) (kept_behind s.way s.nid len found goes');
+        held = λ q k. from q (rw e at k);
+      }
 
-pub packets_follow : (way : Way) (nid : ℕ) (here here' : Phase) (front : List ℕ) (l l' : PacketsState) (padding : ℕ) (holds holds' : Holds) (p : Reading)
-    → here ≡ phase.Packets → here' ≡ behind_packets l' → IsTrue (is_message way l') → Moved l.carrier l.room l.stage p l'.carrier l'.room l'.stage → Goes (left_of l'.carrier l'.room l'.stage)
-    → ((q : Reading) → HoldsAt l.carrier l.stage holds q → HoldsAt l'.carrier l'.stage holds' (q ++ p)) → Follows way nid here front l padding holds p nid here' front l' padding holds'
-packets_follow way nid here here' front l l' padding holds holds' p e e' m moved some held =
-    rw (e, e') record {
-      residual = packets_behind way nid l l' p moved some;
-      held = packets_held way nid front l l' padding holds holds' p m moved held;
-    }
+  pub front_follows : (here : Phase) (front : List ℕ) (stands : IsTrue (stands_at s.way s.nid here (length front) s.left)) (at : ℕ) (x : Var) (n : ℕ) → s.phase ≡ phase.Front at → here ≡ behind_front (length (front_vars s.way s.nid)) (at + 1) s.left → front ≡ s.front ++ n ∷ []
+      → next_var s ≡ Some x → Starts (Left s) x 0 n → Follows holds s ((x, n) ∷ []) (state s.way s.nid here front s.left s.padding s.store stands)
+  front_follows here front stands at x n e e' more next goes =
+      let parts = front_parts s at e in
+      let next' : next_at s.way s.nid (phase.Front at) s.left ≡ Some x = rw e at next in
+      record {
+        same = refl;
+        residual = rw (e, e') (front_behind s.way s.nid at s.left x n parts.0 next' (rw e at goes));
+        held = λ q k. rw (e', more) (front_held s.way s.nid at s.front s.left s.padding (holds s.store) x n q parts.0 parts.1 parts.2 next' (rw e at k));
+      }
 
-pub padding_follows : (way : Way) (nid : ℕ) (here here' : Phase) (left c number : ℕ) (front : List ℕ) (l : PacketsState) (padding : ℕ) (holds : Holds) → here ≡ phase.Padding left → here' ≡ behind_padding (left - c) → c ≤ left → number < 2 ^ c
-    → Follows way nid here front l padding holds (kept PADDING (num c number)) nid here' front l (bit_or (padding * 2 ^ c % 256) number) holds
-padding_follows way nid here here' left c number front l padding holds e e' le fits =
-    let wide : length (num c number) ≡ c = length-num c number in
-    let behind = padding_behind way nid left l (num c number) (omega (arith, wide, le)) in
-    rw (e, e') record {
-      residual = rw wide at behind;
-      held = λ q h. padding_first way nid (left - c) front l (bit_or (padding * 2 ^ c % 256) number) holds (q ++ kept PADDING (num c number)) (padding_more way nid left c number padding front holds q le fits h);
-    }
+  pub packets_follow : (here : Phase) (l : PacketsState) (store : S) (stands : IsTrue (stands_at s.way s.nid here (length s.front) l)) (p : Reading) → s.phase ≡ phase.Packets → here ≡ behind_packets l → Goes (left_of l.carrier l.room l.stage) → Steps s.left l (holds s.store) (holds store) p
+      → Follows holds s p (state s.way s.nid here s.front l s.padding store stands)
+  packets_follow here l store stands p e e' some (moved, held) =
+      let m = packets_message s l p e moved in
+      record {
+        same = refl;
+        residual = rw (e, e') (packets_behind s.way s.nid s.left l p moved some);
+        held = λ q k. rw e' (packets_held s.way s.nid s.front s.left l s.padding (holds s.store) (holds store) p m moved held q (rw e at k));
+      }
 
-pub data_follows : (way : Way) (nid : ℕ) (here here' : Phase) (left : ℕ) (front : List ℕ) (l : PacketsState) (padding : ℕ) (holds holds' : Holds) (t : List Bool) → here ≡ phase.Data left → here' ≡ behind_data (left - length t) → length t ≤ left
-    → ((vs : List PacketValue) (k : List Bool) → holds vs [] k → holds' vs [] (k ++ t)) → Follows way nid here front l padding holds (kept OTHER_DATA t) nid here' front l padding holds'
-data_follows way nid here here' left front l padding holds holds' t e e' le more =
-    rw (e, e') record {
-      residual = data_behind way nid left l t le;
-      held = λ q h. data_first way nid (left - length t) front l padding holds' (q ++ kept OTHER_DATA t) (data_more way nid left holds holds' t q le more h);
-    }
+  pub padding_follows : (here : Phase) (stands : IsTrue (stands_at s.way s.nid here (length s.front) s.left)) (left c number : ℕ) → s.phase ≡ phase.Padding left → here ≡ behind_padding (left - c) → c ≤ left → number < 2 ^ c
+      → Follows holds s (kept PADDING (num c number)) (state s.way s.nid here s.front s.left (bit_or (s.padding * 2 ^ c % 256) number) s.store stands)
+  padding_follows here stands left c number e e' le fits =
+      let wide : length (num c number) ≡ c = length-num c number in
+      let behind = padding_behind s.way s.nid left s.left (num c number) (omega (arith, wide, le)) in
+      let to = bit_or (s.padding * 2 ^ c % 256) number in
+      record {
+        same = refl;
+        residual = rw (e, e') (rw wide at behind);
+        held = λ q k. rw e' (padding_first s.way s.nid (left - c) s.front s.left to (holds s.store) (q ++ kept PADDING (num c number)) (padding_more s.way s.nid left c number s.padding s.front (holds s.store) q le fits (rw e at k)));
+      }
+
+  pub data_follows : (here : Phase) (store : S) (stands : IsTrue (stands_at s.way s.nid here (length s.front) s.left)) (left : ℕ) (t : List Bool) → s.phase ≡ phase.Data left → here ≡ behind_data (left - length t) → length t ≤ left → ((vs : List PacketValue) (k : List Bool) → holds s.store vs [] k → holds store vs [] (k ++ t))
+      → Follows holds s (kept OTHER_DATA t) (state s.way s.nid here s.front s.left s.padding store stands)
+  data_follows here store stands left t e e' le more = record {
+    same = refl;
+    residual = rw (e, e') (data_behind s.way s.nid left s.left t le);
+    held = λ q k. rw e' (data_first s.way s.nid (left - length t) s.front s.left s.padding (holds store) (q ++ kept OTHER_DATA t) (data_more s.way s.nid left (holds s.store) (holds store) t q le more (rw e at k)));
+  }
 
 -- ---- Room for bits that are kept.
 
@@ -279,23 +324,7 @@ pub fits_behind : (here here' : Phase) (left : ℕ) (holds holds' : Holds) (t : 
 fits_behind here here' left holds holds' t e e' le more h =
     subst (λ (x : Phase). DataFits x holds') (sym e') (data_fits left holds holds' t le more (subst (λ (x : Phase). DataFits x holds) e h))
 
-pub begun_fits : (way : Way) (nid : ℕ) (here : Phase) (l : PacketsState) (holds : Holds) (len : ℕ) → here ≡ phase.Length → front_row way nid ≡ None → Starts (left_at way nid here l) L_MESSAGE 0 len → DataFits here holds → DataFits (phase.Data (8 * len - 18)) holds
-begun_fits way nid here l holds len e found goes h =
-    let bounds = kept_bounds way nid len found (rw e at goes) in
+pub begun_fits : {S : Type 0} (s : MessageState S) (holds : Holds) (len : ℕ) → s.phase ≡ phase.Length → front_row s.way s.nid ≡ None → Starts (Left s) L_MESSAGE 0 len → DataFits s.phase holds → DataFits (phase.Data (8 * len - 18)) holds
+begun_fits s holds len e found goes h =
+    let bounds = kept_bounds s.way s.nid len found (rw e at goes) in
     ([], [], subst (λ (x : Phase). DataFits x holds) e h, (let b = bounds.1 in omega (arith, b)))
-
-padding_fits : (left : ℕ) (holds : Holds) → DataFits (behind_padding left) holds
-padding_fits left holds = by_test (ltb 0 left) (λ x. DataFits x holds) (phase.Padding left) phase.Whole (λ _. tt) (λ _. tt)
-
-packets_fit : (l : PacketsState) (holds : Holds) → DataFits (behind_packets l) holds
-packets_fit l holds = by_test (is_closed l.stage) (λ x. DataFits x holds) (behind_padding l.room) phase.Packets (λ _. padding_fits l.room holds) (λ _. tt)
-
-front_fits : (count at : ℕ) (l : PacketsState) (holds : Holds) → DataFits (behind_front count at l) holds
-front_fits count at l holds = by_test (ltb at count) (λ x. DataFits x holds) (phase.Front at) (behind_packets l) (λ _. tt) (λ _. packets_fit l holds)
-
--- nothing is asked where no bits are kept
-pub no_data_packets : (here : Phase) (l : PacketsState) (holds : Holds) → here ≡ behind_packets l → DataFits here holds
-no_data_packets here l holds e = rw e (packets_fit l holds)
-
-pub no_data_front : (here : Phase) (count at : ℕ) (l : PacketsState) (holds : Holds) → here ≡ behind_front count at l → DataFits here holds
-no_data_front here count at l holds e = rw e (front_fits count at l holds)

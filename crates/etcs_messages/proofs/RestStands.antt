@@ -1,5 +1,5 @@
 -- What holds of what comes next in a message.
-use Rattle.std.proofs.Common.{◌≡◌, ℕ, ◌<◌, ◌≤◌, Bool, true, false, List, length, drop, Option, Some, None, refl, sym, ap, subst, arith, ltb}
+use Rattle.std.proofs.Common.{◌≡◌, ℕ, ◌<◌, ◌≤◌, Bool, true, false, List, length, drop, Option, Some, None, refl, ap, subst, arith, ltb}
 use Rattle.std.specs.Prelude.{IsTrue, not, ◌&&◌, ◌||◌, ◌==◌, nat_lt}
 use Rattle.std.proofs.lemmas.Bool.{and_parts, and_from, ltb-true, lt-ltb, eqb-true, eq-eqb, not-true}
 use Rattle.etcs_vars.specs.declared.var.Var.{Var}
@@ -16,7 +16,7 @@ use Rattle.etcs_sequence.specs.Lefts.{left_of, ahead, is_stage, is_closed, Moved
 use Rattle.etcs_sequence.proofs.StageLaws.{closed_stage, closed_room, begun_room}
 use Rattle.etcs_messages.specs.declared.phase.Phase.{Phase}
 use Rattle.etcs_messages.specs.declared.phase.Phase.TheVariants as phase
-use Rattle.etcs_messages.specs.Lefts.{front_row, front_vars, some_row, next_at, is_message, stands_at, behind_packets, behind_front, behind_padding, behind_data}
+use Rattle.etcs_messages.specs.Lefts.{front_row, front_vars, some_row, MessageState, next_var, is_message, stands_at, behind_packets, behind_front, behind_padding}
 use Rattle.etcs_messages.specs.Kinds.{is_carrier}
 use Rattle.etcs_messages.proofs.Ways.{carrier_is, carrier_to}
 use Rattle.etcs_messages.proofs.RestSteps.{by_test}
@@ -53,44 +53,46 @@ moved_message way l l' p same open_now m =
 
 -- ---- What `stands` says.
 
-pub begin_parts : (way : Way) (nid : ℕ) (here : Phase) (m : ℕ) (l : PacketsState) → here ≡ phase.Length → IsTrue (stands_at way nid here m l) → (m ≡ 0) × (is_closed l.stage ≡ true)
-begin_parts way nid here m l e h =
-    let h' : IsTrue (stands_at way nid phase.Length m l) = subst (λ (x : Phase). IsTrue (stands_at way nid x m l)) e h in
-    let both = and_parts (m == 0) (is_closed l.stage) h' in
-    (eqb-true m 0 both.0, both.1)
+module _ {S : Type 0} (s : MessageState S) where
+  stands_with : (here : Phase) → s.phase ≡ here → IsTrue (stands_at s.way s.nid here (length s.front) s.left)
+  stands_with here e = subst (λ (x : Phase). IsTrue (stands_at s.way s.nid x (length s.front) s.left)) e s.stands
 
-pub front_parts : (way : Way) (nid : ℕ) (here : Phase) (at m : ℕ) (l : PacketsState) → here ≡ phase.Front at → IsTrue (stands_at way nid here m l) → (at < length (front_vars way nid)) × (m ≡ at) × IsTrue (is_message way l)
-front_parts way nid here at m l e h =
-    let h' : IsTrue (stands_at way nid (phase.Front at) m l) = subst (λ (x : Phase). IsTrue (stands_at way nid x m l)) e h in
-    let all = and_parts (nat_lt at (length (front_vars way nid))) ((m == at) && is_message way l) h' in
-    let both = and_parts (m == at) (is_message way l) all.1 in
-    (ltb-true at (length (front_vars way nid)) all.0, eqb-true m at both.0, both.1)
+  pub begin_parts : s.phase ≡ phase.Length → (length s.front ≡ 0) × (is_closed s.left.stage ≡ true)
+  begin_parts e =
+      let both = and_parts (length s.front == 0) (is_closed s.left.stage) (stands_with phase.Length e) in
+      (eqb-true (length s.front) 0 both.0, both.1)
 
--- the variable that comes next, by what is known of those of a typed message
-pub front_next : (way : Way) (nid : ℕ) (here : Phase) (at m : ℕ) (l : PacketsState) (x : Option Var) → here ≡ phase.Front at → IsTrue (stands_at way nid here m l) → ((vars : List Var) → front_row way nid ≡ Some vars → x ≡ first_of (drop at vars)) → x ≡ next_at way nid here l
-front_next way nid here at m l x e h next = subst (λ (s : Phase). x ≡ next_at way nid s l) (sym e) (of (front_row way nid) refl (front_parts way nid here at m l e h).0)
-  where
-    of : (o : Option (List Var)) → front_row way nid ≡ o → at < length (some_row o) → x ≡ first_of (drop at (some_row o))
-    of None is far = absurd (omega arith)
-    of (Some vars) is far = next vars is
+  pub front_parts : (at : ℕ) → s.phase ≡ phase.Front at → (at < length (front_vars s.way s.nid)) × (length s.front ≡ at) × IsTrue (is_message s.way s.left)
+  front_parts at e =
+      let all = and_parts (nat_lt at (length (front_vars s.way s.nid))) ((length s.front == at) && is_message s.way s.left) (stands_with (phase.Front at) e) in
+      let both = and_parts (length s.front == at) (is_message s.way s.left) all.1 in
+      (ltb-true at (length (front_vars s.way s.nid)) all.0, eqb-true (length s.front) at both.0, both.1)
 
-pub packets_parts : (way : Way) (nid : ℕ) (here : Phase) (m : ℕ) (l : PacketsState) → here ≡ phase.Packets → IsTrue (stands_at way nid here m l) → (l.carrier ≡ Message way) × (is_closed l.stage ≡ false)
-packets_parts way nid here m l e h =
-    let h' : IsTrue (stands_at way nid phase.Packets m l) = subst (λ (x : Phase). IsTrue (stands_at way nid x m l)) e h in
-    let both = and_parts (is_message way l) (not (is_closed l.stage)) h' in
-    ((message_inner way l both.0).0, not-true (is_closed l.stage) both.1)
+  -- the variable that comes next, by what is known of those of a typed message
+  pub front_next : (at : ℕ) (x : Option Var) → s.phase ≡ phase.Front at → ((vars : List Var) → front_row s.way s.nid ≡ Some vars → x ≡ first_of (drop at vars)) → x ≡ next_var s
+  front_next at x e next = rw e (of (front_row s.way s.nid) refl (front_parts at e).0)
+    where
+      of : (o : Option (List Var)) → front_row s.way s.nid ≡ o → at < length (some_row o) → x ≡ first_of (drop at (some_row o))
+      of None is far = absurd (omega arith)
+      of (Some vars) is far = next vars is
 
-pub padding_parts : (way : Way) (nid : ℕ) (here : Phase) (left m : ℕ) (l : PacketsState) → here ≡ phase.Padding left → IsTrue (stands_at way nid here m l) → (0 < left) × (left < 8)
-padding_parts way nid here left m l e h =
-    let h' : IsTrue (stands_at way nid (phase.Padding left) m l) = subst (λ (x : Phase). IsTrue (stands_at way nid x m l)) e h in
-    let both = and_parts (nat_lt 0 left) (nat_lt left 8) h' in
-    (ltb-true 0 left both.0, ltb-true left 8 both.1)
+  pub packets_parts : s.phase ≡ phase.Packets → (s.left.carrier ≡ Message s.way) × (is_closed s.left.stage ≡ false)
+  packets_parts e =
+      let both = and_parts (is_message s.way s.left) (not (is_closed s.left.stage)) (stands_with phase.Packets e) in
+      ((message_inner s.way s.left both.0).0, not-true (is_closed s.left.stage) both.1)
 
-pub data_parts : (way : Way) (nid : ℕ) (here : Phase) (left m : ℕ) (l : PacketsState) → here ≡ phase.Data left → IsTrue (stands_at way nid here m l) → (0 < left) × (is_closed l.stage ≡ true)
-data_parts way nid here left m l e h =
-    let h' : IsTrue (stands_at way nid (phase.Data left) m l) = subst (λ (x : Phase). IsTrue (stands_at way nid x m l)) e h in
-    let both = and_parts (nat_lt 0 left) (is_closed l.stage) h' in
-    (ltb-true 0 left both.0, both.1)
+  pub padding_parts : (left : ℕ) → s.phase ≡ phase.Padding left → (0 < left) × (left < 8)
+  padding_parts left e =
+      let both = and_parts (nat_lt 0 left) (nat_lt left 8) (stands_with (phase.Padding left) e) in
+      (ltb-true 0 left both.0, ltb-true left 8 both.1)
+
+  pub data_parts : (left : ℕ) → s.phase ≡ phase.Data left → (0 < left) × (is_closed s.left.stage ≡ true)
+  data_parts left e =
+      let both = and_parts (nat_lt 0 left) (is_closed s.left.stage) (stands_with (phase.Data left) e) in
+      (ltb-true 0 left both.0, both.1)
+
+  pub packets_message : (l : PacketsState) (p : Reading) → s.phase ≡ phase.Packets → Moved s.left.carrier s.left.room s.left.stage p l.carrier l.room l.stage → IsTrue (is_message s.way l)
+  packets_message l p e moved = let parts = packets_parts e in moved_message s.way s.left l p parts.0 parts.1 moved
 
 -- ---- What follows a variable.
 
@@ -98,12 +100,6 @@ pub padding_stands : (way : Way) (nid left m : ℕ) (l : PacketsState) → left 
 padding_stands way nid left m l short =
     by_test (ltb 0 left) (λ x. IsTrue (stands_at way nid x m l)) (phase.Padding left) phase.Whole
     (λ t. and_from (nat_lt 0 left) (nat_lt left 8) t (lt-ltb left 8 short))
-    (λ _. refl)
-
-pub data_stands : (way : Way) (nid left m : ℕ) (l : PacketsState) → is_closed l.stage ≡ true → IsTrue (stands_at way nid (behind_data left) m l)
-data_stands way nid left m l closed =
-    by_test (ltb 0 left) (λ x. IsTrue (stands_at way nid x m l)) (phase.Data left) phase.Whole
-    (λ t. and_from (nat_lt 0 left) (is_closed l.stage) t closed)
     (λ _. refl)
 
 packets_stand : (way : Way) (nid m : ℕ) (l : PacketsState) → IsTrue (is_message way l) → IsTrue (stands_at way nid (behind_packets l) m l)
@@ -118,10 +114,8 @@ front_stands way nid at m l same h =
     (λ t. and_from (nat_lt at (length (front_vars way nid))) ((m == at) && is_message way l) t (and_from (m == at) (is_message way l) (eq-eqb m at same) h))
     (λ _. packets_stand way nid m l h)
 
-pub packets_stands : (way : Way) (nid : ℕ) (here here' : Phase) (m : ℕ) (l l' : PacketsState) (p : Reading) → here ≡ phase.Packets → here' ≡ behind_packets l' → IsTrue (stands_at way nid here m l) → Moved l.carrier l.room l.stage p l'.carrier l'.room l'.stage → IsTrue (stands_at way nid here' m l')
-packets_stands way nid here here' m l l' p e e' h moved =
-    let parts = packets_parts way nid here m l e h in
-    rw e' (packets_stand way nid m l' (moved_message way l l' p parts.0 parts.1 moved))
+pub packets_stands : {S : Type 0} (s : MessageState S) (here : Phase) (l : PacketsState) (p : Reading) → s.phase ≡ phase.Packets → here ≡ behind_packets l → Moved s.left.carrier s.left.room s.left.stage p l.carrier l.room l.stage → IsTrue (stands_at s.way s.nid here (length s.front) l)
+packets_stands s here l p e e' moved = rw e' (packets_stand s.way s.nid (length s.front) l (packets_message s l p e moved))
 
 -- ---- What is wanted has room.
 
@@ -129,6 +123,3 @@ pub begun_stands : (way : Way) (nid m : ℕ) (vs : List Var) (l : PacketsState) 
 begun_stands way nid m vs l e pos none h =
     let some : nat_lt 0 (length (front_vars way nid)) ≡ true = rw e (lt-ltb 0 (length vs) pos) in
     and_from (nat_lt 0 (length (front_vars way nid))) ((m == 0) && is_message way l) some (and_from (m == 0) (is_message way l) (eq-eqb m 0 none) h)
-
-pub packets_message : (way : Way) (nid : ℕ) (here : Phase) (m : ℕ) (l l' : PacketsState) (p : Reading) → here ≡ phase.Packets → IsTrue (stands_at way nid here m l) → Moved l.carrier l.room l.stage p l'.carrier l'.room l'.stage → IsTrue (is_message way l')
-packets_message way nid here m l l' p e h moved = let parts = packets_parts way nid here m l e h in moved_message way l l' p parts.0 parts.1 moved

@@ -4,7 +4,7 @@ use Rattle.std.specs.Prelude.{IsTrue, ◌↔◌, Option, if◌then◌else◌}
 use Rattle.std.proofs.lemmas.Bool.Decides.{nat_tests}
 use Rattle.std.proofs.Math.ListN.{drop_of_length-le}
 use Rattle.etcs_vars.specs.declared.var.Var.{Var}
-use Rattle.etcs_vars.specs.declared.var.Var.TheVariants.{L_MESSAGE, PADDING, OTHER_DATA}
+use Rattle.etcs_vars.specs.declared.var.Var.TheVariants.{NID_MESSAGE, L_MESSAGE, PADDING, OTHER_DATA}
 use Rattle.etcs_vars.specs.Vars.{width, ranges, begins}
 use Rattle.etcs_vars.specs.Reading.{Reading, Then, spelled, kept, Viable}
 use Rattle.etcs_vars.specs.Walking.{Residual}
@@ -28,8 +28,8 @@ use Rattle.etcs_sequence.proofs.FilledLaws.{filled_behind, filled_starts, filled
 use Rattle.etcs_sequence.proofs.StageLaws.{closed_stage}
 use Rattle.etcs_messages.specs.declared.phase.Phase.{Phase}
 use Rattle.etcs_messages.specs.declared.phase.Phase.TheVariants as phase
-use Rattle.etcs_messages.specs.Lefts.{front_row, front_vars, front_bits, PaddingLeft, PaddedBy, PacketsBehind, PacketsFrom, Behind, LengthLeft, left_at, next_at, behind_packets, behind_front, behind_padding, behind_data}
-use Rattle.etcs_messages.specs.laws.RestLaws.{length_opens}
+use Rattle.etcs_messages.specs.Lefts.{front_row, front_vars, front_bits, PaddingLeft, PaddedBy, PacketsBehind, PacketsFrom, Behind, LengthLeft, NumberLeft, left_at, next_at, behind_packets, behind_front, behind_padding, behind_data}
+use Rattle.etcs_messages.specs.laws.RestLaws.{AfterNumber, number_opens, length_opens}
 
 pub by_test : (b : Bool) (P : Phase → Type 0) (x y : Phase) → (b ≡ true → P x) → (b ≡ false → P y) → P (if b then x else y)
 by_test true P x y f g = f refl
@@ -37,6 +37,13 @@ by_test false P x y f g = g refl
 
 pub below_false : (a b : ℕ) → ltb a b ≡ false → b ≤ a
 below_false a b h = grind (arith, nat_tests)
+
+-- ---- NID_MESSAGE.
+
+pub number_behind : (way : Way) (nid : ℕ) → Starts (NumberLeft way) NID_MESSAGE 0 nid → Residual (NumberLeft way) ((NID_MESSAGE, nid) ∷ []) (LengthLeft way nid)
+number_behind way nid s =
+    let (r, (small, rest)) : Goes (AfterNumber way nid) = opens_number (NumberLeft way) NID_MESSAGE (AfterNumber way) (number_opens way) nid s in
+    residual_same (NumberLeft way) ((NID_MESSAGE, nid) ∷ []) (AfterNumber way nid) (LengthLeft way nid) (opens_behind (NumberLeft way) NID_MESSAGE (AfterNumber way) (number_opens way) nid) (λ q. (λ h. h.1, λ h. (small, h)))
 
 -- ---- L_MESSAGE.
 
@@ -70,6 +77,11 @@ typed_bounds way nid len vs found s = let goes : Goes (Behind way (Some vs) len)
 
 pub kept_bounds : (way : Way) (nid len : ℕ) → front_row way nid ≡ None → Starts (LengthLeft way nid) L_MESSAGE 0 len → (3 ≤ len) × (len < 2 ^ 10)
 kept_bounds way nid len found s = let goes : Goes (Behind way None len) = subst (λ (o : Option (List Var)). Goes (Behind way o len)) found (length_goes way nid len s) in let (r, (least, most, rest)) = goes in (least, most)
+
+pub kept_behind : (way : Way) (nid len : ℕ) → front_row way nid ≡ None → Starts (LengthLeft way nid) L_MESSAGE 0 len → Residual (LengthLeft way nid) ((L_MESSAGE, len) ∷ []) (KeptIn (8 * len - 18))
+kept_behind way nid len found s =
+    let (least, most) = kept_bounds way nid len found s in
+    residual_same (LengthLeft way nid) ((L_MESSAGE, len) ∷ []) (Behind way None len) (KeptIn (8 * len - 18)) (length_behind way nid len None found) (λ r. (λ h. h.2, λ h. (least, most, h)))
 
 -- ---- Padding, and bits that are kept.
 

@@ -11,6 +11,7 @@ use Rattle.etcs_vars.specs.laws.Spellings.{spelled-append}
 use Rattle.etcs_packets.specs.PacketValues.{PacketValue, Form}
 use Rattle.etcs_packets.specs.PacketReadings.{readings_to}
 use Rattle.etcs_reader.specs.Rests.{Goes}
+use Rattle.etcs_sequence.specs.AtOnce.{Holds}
 use Rattle.etcs_sequence.specs.declared.state.PacketsState.{PacketsState}
 use Rattle.etcs_sequence.specs.declared.list.PacketList.{PacketList}
 use Rattle.etcs_sequence.specs.Labels.{labelled, widths}
@@ -22,8 +23,9 @@ use Rattle.etcs_sequence.proofs.Holding.{packets_far}
 use Rattle.etcs_messages.specs.declared.phase.Phase.{Phase}
 use Rattle.etcs_messages.specs.declared.phase.Phase.TheVariants.{Number, Length, Front, Packets, Padding, Data, Whole}
 use Rattle.etcs_messages.specs.Messages.{values_of, padding_room}
-use Rattle.etcs_messages.specs.Lefts.{front_row, front_vars, some_row, headed, left_at, next_at, is_message, stands_at, may_ask, PacketsBehind, HoldsIn, FrontHeld, PacketsHeld, PaddingHeld, DataHeld}
-use Rattle.etcs_messages.specs.Readers.{measured, padded, packed, whole_far, so_far}
+use Rattle.etcs_messages.specs.Lefts.{front_row, front_vars, some_row, headed, left_at, next_at, is_message, stands_at, may_ask, PacketsBehind, HoldsBy, FrontHeld, PacketsHeld, PaddingHeld, DataHeld, MessageState, Left, next_var, MayAsk, HoldsIn}
+use Rattle.etcs_messages.specs.Readers.{measured, padded, packed, whole_far, far_at, so_far}
+use Rattle.etcs_messages.proofs.Listing.{in_list}
 use Rattle.etcs_tables.specs.declared.row.Way.{Way}
 use Rattle.etcs_tables.specs.MessageRows.{header_bits}
 use Rattle.etcs_rows.specs.declared.frames.Carrier.{Carrier}
@@ -42,7 +44,7 @@ measured_is nid len more r q e room =
     let same : (18 + length (spelled r) + more) / 8 ≡ len = omega (arith, l, room) in
     e ∙ ap (λ (k : ℕ). headed nid k r) (sym same)
 
-front_far : (way : Way) (nid at : ℕ) (front : List ℕ) (l : PacketsState) (holds : List PacketValue → List ℕ → List Bool → Type 0) (q : Reading) → FrontHeld way nid at front l holds q → q ≡ measured nid (labelled (front_vars way nid) front) (widths (drop at (front_vars way nid)) + ahead l.carrier l.room l.stage)
+front_far : (way : Way) (nid at : ℕ) (front : List ℕ) (l : PacketsState) (holds : Holds) (q : Reading) → FrontHeld way nid at front l holds q → q ≡ measured nid (labelled (front_vars way nid) front) (widths (drop at (front_vars way nid)) + ahead l.carrier l.room l.stage)
 front_far way nid at front l holds q h =
     let m = measured_is nid h.len (widths (drop at h.vars) + ahead l.carrier l.room l.stage) (labelled h.vars front) q h.reading_is h.room_is in
     subst (λ (vs : List Var). q ≡ measured nid (labelled vs front) (widths (drop at vs) + ahead l.carrier l.room l.stage)) (sym (ap some_row h.typed)) m
@@ -88,17 +90,23 @@ data_far way form nid ps f k left q h =
     measured_is nid h.len left (kept OTHER_DATA k) q is (let n = ap length l_is in omega (arith, l, one_bits k, h.room_is, n))
 
 -- all of them
-pub far_is : {P : Type 0} (way : Way) (form : P → Form) (nid : ℕ) (phase : Phase) (front : List ℕ) (l : PacketsState) (store : PacketList P) (number : ℕ) (q : Reading) → Goes (left_at way nid phase l) → HoldsIn way nid phase front l number (list_holds form store.packets.items store.numbers.items store.bits) q → q ≡ so_far way form nid phase front l store number
-far_is way form nid Number front l store number q g (z, h, e) = e
-far_is way form nid Length front l store number q g (z, h, e) = e
-far_is way form nid (Front at) front l store number q g (z, h) = front_far way nid at front l (list_holds form store.packets.items store.numbers.items store.bits) q h
-far_is way form nid Packets front l store number q g (z, h) = packets_are way form nid front l store q g h
-far_is way form nid (Padding left) front l store number q g h = padding_far way form nid front store.packets.items store.numbers.items store.bits number left q h
-far_is way form nid (Data left) front l store number q g h = data_far way form nid store.packets.items store.numbers.items store.bits left q h
-far_is way form nid Whole front l store number q g (inl h) =
-    subst (λ (o : Option (List Var)). q ≡ whole_far way form o nid front store number) (sym h.typed) (padding_far way form nid front store.packets.items store.numbers.items store.bits number 0 q h)
-far_is way form nid Whole front l store number q g (inr h) =
-    subst (λ (o : Option (List Var)). q ≡ whole_far way form o nid front store number) (sym h.untyped) (data_far way form nid store.packets.items store.numbers.items store.bits 0 q h)
+module _ {P S : Type 0} (form : P → Form) (list : S → PacketList P) (s : MessageState S) (q : Reading) where
+  far_by : (phase : Phase) → Goes (left_at s.way s.nid phase s.left) → HoldsBy s.way s.nid phase s.front s.left s.padding (in_list form list s.store) q → q ≡ far_at form (list s.store) phase s
+  far_by Number g (z, h, e) = e
+  far_by Length g (z, h, e) = e
+  far_by (Front at) g (z, h) = front_far s.way s.nid at s.front s.left (in_list form list s.store) q h
+  far_by Packets g (z, h) = packets_are s.way form s.nid s.front s.left (list s.store) q g h
+  far_by (Padding left) g h = let k = list s.store in padding_far s.way form s.nid s.front k.packets.items k.numbers.items k.bits s.padding left q h
+  far_by (Data left) g h = let k = list s.store in data_far s.way form s.nid k.packets.items k.numbers.items k.bits left q h
+  far_by Whole g (inl h) =
+      let k = list s.store in
+      subst (λ (o : Option (List Var)). q ≡ whole_far s.way form o s.nid s.front k s.padding) (sym h.typed) (padding_far s.way form s.nid s.front k.packets.items k.numbers.items k.bits s.padding 0 q h)
+  far_by Whole g (inr h) =
+      let k = list s.store in
+      subst (λ (o : Option (List Var)). q ≡ whole_far s.way form o s.nid s.front k s.padding) (sym h.untyped) (data_far s.way form s.nid k.packets.items k.numbers.items k.bits 0 q h)
+
+  pub far_is : Goes (Left s) → HoldsIn (in_list form list) s q → q ≡ so_far form list s
+  far_is g h = far_by s.phase g h
 
 -- ---- How long they are where memory may be asked for.
 
@@ -107,15 +115,6 @@ headed_long nid len r q e = omega (arith, ap (λ (t : Reading). length (spelled 
 
 never : {A : Type 0} → IsTrue false → A
 never a = absurd cc
-
-pub far_long : (way : Way) (nid : ℕ) (phase : Phase) (front : List ℕ) (l : PacketsState) (number : ℕ) (holds : List PacketValue → List ℕ → List Bool → Type 0) (q : Reading) → IsTrue (may_ask phase l) → HoldsIn way nid phase front l number holds q → 18 ≤ length (spelled q)
-far_long way nid Number front l number holds q a h = never a
-far_long way nid Length front l number holds q a h = never a
-far_long way nid (Front at) front l number holds q a h = never a
-far_long way nid Packets front l number holds q a (z, h) = headed_long nid h.len (labelled h.vars front ++ h.here) q h.reading_is
-far_long way nid (Padding left) front l number holds q a h = never a
-far_long way nid (Data left) front l number holds q a h = headed_long nid h.len (kept OTHER_DATA h.bits) q h.reading_is
-far_long way nid Whole front l number holds q a h = never a
 
 -- all of the front
 front_long : (way : Way) (nid len : ℕ) (vars : List Var) (front : List ℕ) (here q : Reading) → front_row way nid ≡ Some vars → length front ≡ length vars → q ≡ headed nid len (labelled vars front ++ here) → header_bits way + length (spelled here) ≤ length (spelled q)
@@ -126,18 +125,35 @@ front_long way nid len vars front here q typed count e =
     let wide = front_wide way nid vars typed in
     omega (arith, all, parts, own, wide)
 
--- the variable that comes next there asks for it
-pub next_asks : (way : Way) (nid : ℕ) (phase : Phase) (front : List ℕ) (l : PacketsState) (number : ℕ) (holds : List PacketValue → List ℕ → List Bool → Type 0) (q : Reading) (x : Var) → IsTrue (may_ask phase l) → HoldsIn way nid phase front l number holds q → Goes (left_at way nid phase l) → IsTrue (stands_at way nid phase (length front) l) → next_at way nid phase l ≡ Some x → IsTrue (asks_memory x) × (asked_from x ≤ length (spelled q))
-next_asks way nid Number front l number holds q x a h g s e = never a
-next_asks way nid Length front l number holds q x a h g s e = never a
-next_asks way nid (Front at) front l number holds q x a h g s e = never a
-next_asks way nid Packets front l number holds q x a (z, h) g s e =
-    let asks = packets_ask l.carrier l.room l.stage holds h.here a h.held (first_goes l g) x e in
-    let same = (message_inner way l (and_parts (is_message way l) (not (is_closed l.stage)) s).0).0 in
-    let after : asked_after (way_of l.carrier) ≡ asked_after way = ap (λ (c : Carrier). asked_after (way_of c)) same in
-    let long = front_long way nid h.len h.vars front h.here q h.typed h.count h.reading_is in
-    let few = asked_few way in
-    (asks.0, omega (arith, asks.1, after, long, few))
-next_asks way nid (Padding left) front l number holds q x a h g s e = never a
-next_asks way nid (Data left) front l number holds q x a h g s e = asks_anywhere (length (spelled q)) x OTHER_DATA refl refl cc
-next_asks way nid Whole front l number holds q x a h g s e = never a
+module _ {S : Type 0} (holds : S → Holds) (s : MessageState S) (q : Reading) where
+  long_by : (phase : Phase) → IsTrue (may_ask phase s.left) → HoldsBy s.way s.nid phase s.front s.left s.padding (holds s.store) q → 18 ≤ length (spelled q)
+  long_by Number a h = never a
+  long_by Length a h = never a
+  long_by (Front at) a h = never a
+  long_by Packets a (z, h) = headed_long s.nid h.len (labelled h.vars s.front ++ h.here) q h.reading_is
+  long_by (Padding left) a h = never a
+  long_by (Data left) a h = headed_long s.nid h.len (kept OTHER_DATA h.bits) q h.reading_is
+  long_by Whole a h = never a
+
+  pub far_long : MayAsk s → HoldsIn holds s q → 18 ≤ length (spelled q)
+  far_long a h = long_by s.phase a h
+
+  asks_by : (phase : Phase) (x : Var) → IsTrue (stands_at s.way s.nid phase (length s.front) s.left) → next_at s.way s.nid phase s.left ≡ Some x → Goes (left_at s.way s.nid phase s.left) → IsTrue (may_ask phase s.left) → HoldsBy s.way s.nid phase s.front s.left s.padding (holds s.store) q → IsTrue (asks_memory x) × (asked_from x ≤ length (spelled q))
+  asks_by Number x stands e g a h = never a
+  asks_by Length x stands e g a h = never a
+  asks_by (Front at) x stands e g a h = never a
+  asks_by Packets x stands e g a (z, h) =
+      let l = s.left in
+      let asks = packets_ask l.carrier l.room l.stage (holds s.store) h.here a h.held (first_goes l g) x e in
+      let same = (message_inner s.way l (and_parts (is_message s.way l) (not (is_closed l.stage)) stands).0).0 in
+      let after : asked_after (way_of l.carrier) ≡ asked_after s.way = ap (λ (c : Carrier). asked_after (way_of c)) same in
+      let long = front_long s.way s.nid h.len h.vars s.front h.here q h.typed h.count h.reading_is in
+      let few = asked_few s.way in
+      (asks.0, omega (arith, asks.1, after, long, few))
+  asks_by (Padding left) x stands e g a h = never a
+  asks_by (Data left) x stands e g a h = asks_anywhere (length (spelled q)) x OTHER_DATA refl refl cc
+  asks_by Whole x stands e g a h = never a
+
+  -- the variable that comes next there asks for it
+  pub next_asks : (x : Var) → next_var s ≡ Some x → Goes (Left s) → MayAsk s → HoldsIn holds s q → IsTrue (asks_memory x) × (asked_from x ≤ length (spelled q))
+  next_asks x e g a h = asks_by s.phase x s.stands e g a h

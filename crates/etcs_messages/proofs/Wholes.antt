@@ -1,7 +1,6 @@
 -- What was read of a message that is whole.
-use Rattle.std.proofs.Common.{◌≡◌, ℕ, ◌+◌, ◌*◌, ◌^◌, ◌<◌, ◌≤◌, ◌&&◌, Bool, List, [], ◌∷◌, ◌++◌, length, drop, Some, None, refl, sym, ap, subst, ◌∙◌, arith, append_assoc, append-nil, length-append, inl, inr}
-use Rattle.std.specs.Prelude.{IsTrue, Option, option_map, take, All, not, nat_lt, ◌==◌}
-use Rattle.std.proofs.lemmas.Bool.{and_parts, ltb-true, not-true}
+use Rattle.std.proofs.Common.{◌≡◌, ℕ, ◌+◌, ◌*◌, ◌^◌, ◌<◌, ◌≤◌, Bool, List, [], ◌∷◌, ◌++◌, length, drop, Some, None, refl, sym, ap, subst, ◌∙◌, arith, append_assoc, append-nil, length-append, inl, inr}
+use Rattle.std.specs.Prelude.{Option, option_map, take, All}
 use Rattle.std.proofs.lemmas.List.{length-take, length-drop, length-map}
 use Rattle.etcs_bits.specs.Bits.{num}
 use Rattle.etcs_vars.specs.declared.var.Var.{Var}
@@ -15,23 +14,21 @@ use Rattle.etcs_tables.specs.Rows.{message_row_to}
 use Rattle.etcs_packets.specs.PacketValues.{PacketValue, Form}
 use Rattle.etcs_packets.specs.PacketReadings.{readings_to}
 use Rattle.etcs_sequence.specs.Contents.{Carries}
-use Rattle.etcs_sequence.specs.declared.state.PacketsState.{PacketsState}
 use Rattle.etcs_sequence.specs.declared.list.PacketList.{PacketList}
 use Rattle.etcs_sequence.specs.Labels.{labelled}
 use Rattle.etcs_sequence.proofs.LabelLaws.{numbers_labelled, labelled_count}
-use Rattle.etcs_sequence.specs.laws.LabelLaws.{some_first}
-use Rattle.etcs_sequence.specs.Lefts.{is_closed}
 use Rattle.etcs_sequence.specs.Held.{list_holds}
-use Rattle.etcs_sequence.specs.laws.StageLaws.{open_next}
 use Rattle.etcs_messages.specs.declared.phase.Phase.{Phase}
-use Rattle.etcs_messages.specs.declared.phase.Phase.TheVariants.{Number, Length, Front, Packets, Padding, Data, Whole}
+use Rattle.etcs_messages.specs.declared.phase.Phase.TheVariants.{Whole}
 use Rattle.etcs_messages.specs.declared.message.Content.TheVariants as content
 use Rattle.etcs_messages.specs.Messages.{values_of, typed_message, kept_message, TypedReads, KeptReads, MessageReads, MessageLanguage, IsMessage, message_value, head_reading, front_of, all_bits, padding_room}
-use Rattle.etcs_messages.specs.Lefts.{own_row, front_behind, front_row, front_vars, headed, next_at, is_message, stands_at, HoldsIn, PaddingHeld, DataHeld}
+use Rattle.etcs_messages.specs.Lefts.{own_row, front_behind, front_row, headed, HoldsBy, PaddingHeld, DataHeld, MessageState, next_var}
+use Rattle.etcs_messages.specs.laws.RestLaws.{ended_whole}
 use Rattle.etcs_messages.specs.Kinds.{HeadOf, OwnOf, HeadLaws, OwnLaws, IsHead, IsMadeOf, IsHeadNumbers, IsOwnNumbers}
 use Rattle.etcs_tables.specs.Headers.{head_row}
 use Rattle.etcs_messages.specs.Readings.{content_by}
-use Rattle.etcs_messages.specs.Readers.{so_far}
+use Rattle.etcs_messages.specs.Readers.{so_far, message_by, OwnHeld}
+use Rattle.etcs_messages.proofs.Listing.{in_list}
 use Rattle.etcs_messages.proofs.Fields.{fields_count, labelled_cut}
 use Rattle.etcs_messages.proofs.Spelling.{first_number, rest_of}
 use Rattle.etcs_messages.proofs.Bytes.{typed_length, reads_length}
@@ -192,28 +189,6 @@ at_kept_end way hd bd form nid front store number q lang h =
     let t = kept_whole way hd bd form nid store.packets.items store.numbers.items store.bits q lang h in
     subst (λ (o : Option (List Var)). IsMessage way hd bd form (content_by way hd bd o nid front store.packets.items store.bits number) × MessageReads way (message_value way hd bd form (content_by way hd bd o nid front store.packets.items store.bits number)) q) (sym h.untyped) t
 
-pub none_whole : (way : Way) (nid : ℕ) (phase : Phase) (l : PacketsState) (n : ℕ) → IsTrue (stands_at way nid phase n l) → next_at way nid phase l ≡ None → phase ≡ Whole
-none_whole way nid Number l n s e = absurd cc
-none_whole way nid Length l n s e = absurd cc
-none_whole way nid (Front at) l n s e =
-    let below = and_parts (nat_lt at (length (front_vars way nid))) ((n == at) && is_message way l) s in
-    absurd (some_first (front_vars way nid) at (ltb-true at (length (front_vars way nid)) below.0) e)
-none_whole way nid Packets l n s e =
-    let both = and_parts (is_message way l) (not (is_closed l.stage)) s in
-    absurd (open_next l.carrier l.room l.stage l.stands (not-true (is_closed l.stage) both.1) e)
-none_whole way nid (Padding left) l n s e = absurd cc
-none_whole way nid (Data left) l n s e = absurd cc
-none_whole way nid Whole l n s e = refl
-
-whole_ends : {H B P : Type 0} (way : Way) (hd : HeadOf H) (bd : OwnOf B) (form : P → Form) {sent_head : H → Reading} {sent_own : B → Reading} (hl : HeadLaws way H sent_head hd) (ol : OwnLaws way B sent_own bd) (nid : ℕ) (front : List ℕ) (l : PacketsState) (store : PacketList P) (number : ℕ) (q : Reading) → MessageLanguage way q → HoldsIn way nid Whole front l number (list_holds form store.packets.items store.numbers.items store.bits) q → IsMessage way hd bd form (content_by way hd bd (front_row way nid) nid front store.packets.items store.bits number) × MessageReads way (message_value way hd bd form (content_by way hd bd (front_row way nid) nid front store.packets.items store.bits number)) q
-whole_ends way hd bd form hl ol nid front l store number q lang (inl h) = at_end way hd bd form hl ol nid front store number q lang h
-whole_ends way hd bd form hl ol nid front l store number q lang (inr h) = at_kept_end way hd bd form nid front store number q lang h
-
-pub whole_reads : {H B P : Type 0} (way : Way) (hd : HeadOf H) (bd : OwnOf B) (form : P → Form) {sent_head : H → Reading} {sent_own : B → Reading} (hl : HeadLaws way H sent_head hd) (ol : OwnLaws way B sent_own bd) (nid : ℕ) (phase : Phase) (front : List ℕ) (l : PacketsState) (store : PacketList P) (number n : ℕ) → IsTrue (stands_at way nid phase n l) → next_at way nid phase l ≡ None → MessageLanguage way (so_far way form nid phase front l store number) → HoldsIn way nid phase front l number (list_holds form store.packets.items store.numbers.items store.bits) (so_far way form nid phase front l store number)
-    → IsMessage way hd bd form (content_by way hd bd (front_row way nid) nid front store.packets.items store.bits number) × MessageReads way (message_value way hd bd form (content_by way hd bd (front_row way nid) nid front store.packets.items store.bits number)) (so_far way form nid phase front l store number)
-whole_reads way hd bd form hl ol nid phase front l store number n s e lang h =
-    whole_ends way hd bd form hl ol nid front l store number (so_far way form nid phase front l store number) lang (subst (λ (p : Phase). HoldsIn way nid p front l number (list_holds form store.packets.items store.numbers.items store.bits) (so_far way form nid phase front l store number)) (none_whole way nid phase l n s e) h)
-
 -- a front with a head's numbers is as long as the head
 head_there : (way : Way) (front : List ℕ) → IsHeadNumbers way (take (length (head_row way)) front) → length (head_row way) ≤ length front
 head_there way front (r, reads, nums) =
@@ -223,15 +198,32 @@ head_there way front (r, reads, nums) =
     let front_is = length-take (length (head_row way)) front in
     omega (arith, count, same, all, front_is)
 
--- the numbers that its front is made of
-pub whole_numbers : {H B P : Type 0} (way : Way) (hd : HeadOf H) (bd : OwnOf B) (form : P → Form) {sent_head : H → Reading} {sent_own : B → Reading} (hl : HeadLaws way H sent_head hd) (ol : OwnLaws way B sent_own bd) (nid : ℕ) (phase : Phase) (front : List ℕ) (l : PacketsState) (store : PacketList P) (number n : ℕ) → IsTrue (stands_at way nid phase n l) → next_at way nid phase l ≡ None → MessageLanguage way (so_far way form nid phase front l store number) → HoldsIn way nid phase front l number (list_holds form store.packets.items store.numbers.items store.bits) (so_far way form nid phase front l store number)
-    → (vars : List Var) → front_row way nid ≡ Some vars → (length (head_row way) ≤ length front) × IsHeadNumbers way (take (length (head_row way)) front) × IsOwnNumbers way nid (drop (length (head_row way)) front)
-whole_numbers way hd bd form hl ol nid phase front l store number n s e lang h vars typed =
-    let q = so_far way form nid phase front l store number in
-    by_end (subst (λ (p : Phase). HoldsIn way nid p front l number (list_holds form store.packets.items store.numbers.items store.bits) q) (none_whole way nid phase l n s e) h)
-  where
-    by_end : HoldsIn way nid Whole front l number (list_holds form store.packets.items store.numbers.items store.bits) (so_far way form nid phase front l store number) → (length (head_row way) ≤ length front) × IsHeadNumbers way (take (length (head_row way)) front) × IsOwnNumbers way nid (drop (length (head_row way)) front)
-    by_end (inl p) =
-        let t = typed_is way hd bd form hl ol nid front store.packets.items store.numbers.items store.bits number (so_far way form nid phase front l store number) lang p in
-        (head_there way front t.head, t.head, t.body)
-    by_end (inr d) = let none = d.untyped in absurd cc
+module _ {H B P S : Type 0} (way : Way) (hd : HeadOf H) (bd : OwnOf B) (form : P → Form) (list : S → PacketList P) {sent_head : H → Reading} {sent_own : B → Reading} (hl : HeadLaws way H sent_head hd) (ol : OwnLaws way B sent_own bd) (s : MessageState S) (ends : next_var s ≡ None) (lang : MessageLanguage way (so_far form list s)) (own : OwnHeld (in_list form list) way s (so_far form list s)) where
+  -- all of it is held
+  abbrev Ended : Type 0
+  Ended = HoldsBy way s.nid Whole s.front s.left s.padding (in_list form list s.store) (so_far form list s)
+
+  at_whole : Ended
+  at_whole = subst (λ (w : Way). HoldsBy w s.nid Whole s.front s.left s.padding (in_list form list s.store) (so_far form list s)) own.0 (subst (λ (p : Phase). HoldsBy s.way s.nid p s.front s.left s.padding (in_list form list s.store) (so_far form list s)) (ended_whole s ends) own.1)
+
+  -- what was read is a message, and its reading
+  abbrev IsRead : Type 0
+  IsRead = IsMessage way hd bd form (message_by way hd bd list s) × MessageReads way (message_value way hd bd form (message_by way hd bd list s)) (so_far form list s)
+
+  reads_by : Ended → IsRead
+  reads_by (inl h) = at_end way hd bd form hl ol s.nid s.front (list s.store) s.padding (so_far form list s) lang h
+  reads_by (inr h) = at_kept_end way hd bd form s.nid s.front (list s.store) s.padding (so_far form list s) lang h
+
+  pub whole_reads : IsMessage way hd bd form (message_by way hd bd list s) × MessageReads way (message_value way hd bd form (message_by way hd bd list s)) (so_far form list s)
+  whole_reads = reads_by at_whole
+
+  numbers_by : (vars : List Var) → front_row way s.nid ≡ Some vars → Ended → (length (head_row way) ≤ length s.front) × IsHeadNumbers way (take (length (head_row way)) s.front) × IsOwnNumbers way s.nid (drop (length (head_row way)) s.front)
+  numbers_by vars typed (inl p) =
+      let k = list s.store in
+      let t = typed_is way hd bd form hl ol s.nid s.front k.packets.items k.numbers.items k.bits s.padding (so_far form list s) lang p in
+      (head_there way s.front t.head, t.head, t.body)
+  numbers_by vars typed (inr d) = let none = d.untyped in absurd cc
+
+  -- the numbers that its front is made of
+  pub whole_numbers : (vars : List Var) → front_row way s.nid ≡ Some vars → (length (head_row way) ≤ length s.front) × IsHeadNumbers way (take (length (head_row way)) s.front) × IsOwnNumbers way s.nid (drop (length (head_row way)) s.front)
+  whole_numbers vars typed = numbers_by vars typed at_whole

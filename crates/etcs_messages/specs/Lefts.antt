@@ -1,5 +1,5 @@
 -- What is left of a message, what comes next of it, and what its variables so far are (SUBSET-026, 8).
-use Rattle.std.specs.Prelude.{◌≡◌, ℕ, ◌+◌, ◌-◌, ◌*◌, ◌^◌, ◌<◌, ◌≤◌, Bool, true, false, not, List, [], ◌∷◌, ◌++◌, ◌==◌, ◌||◌, ◌&&◌, length, drop, Option, Some, None, option_map, nat_lt, if◌then◌else◌, All, ◌⊎◌}
+use Rattle.std.specs.Prelude.{◌≡◌, ℕ, ◌+◌, ◌-◌, ◌*◌, ◌^◌, ◌<◌, ◌≤◌, Bool, true, false, not, List, [], ◌∷◌, ◌++◌, ◌==◌, ◌||◌, ◌&&◌, length, drop, Option, Some, None, option_map, nat_lt, if◌then◌else◌, All, IsTrue, ◌⊎◌}
 use Rattle.std.specs.Option.{option_and_then}
 use Rattle.etcs_bits.specs.Bits.{num}
 use Rattle.etcs_vars.specs.declared.var.Var.{Var}
@@ -16,6 +16,8 @@ use Rattle.etcs_packets.specs.PacketValues.{PacketValue}
 use Rattle.etcs_packets.specs.PacketReadings.{readings_to}
 use Rattle.etcs_sequence.specs.Contents.{Carries, PacketsIn, KeptIn}
 use Rattle.etcs_reader.specs.Fields.{ReadsFields, first_of}
+use Rattle.etcs_reader.specs.Rests.{LeapsBy}
+use Rattle.etcs_sequence.specs.AtOnce.{Holds}
 use Rattle.etcs_sequence.specs.declared.state.PacketsState.{PacketsState}
 use Rattle.etcs_sequence.specs.Lefts.{next_of, left_of, ahead, is_closed, may_grow, HoldsAt}
 use Rattle.etcs_sequence.specs.ChainLaws.{Chain}
@@ -149,7 +151,7 @@ behind_data left = if nat_lt 0 left then phase.Data left else phase.Whole
 -- ---- What is kept of it.
 
 -- before packets and kept bits nothing is held, and the bits that are left have room after those that are held
-abbrev pub DataFits : Phase → (List PacketValue → List ℕ → List Bool → Type 0) → Type 0
+abbrev pub DataFits : Phase → Holds → Type 0
 DataFits phase.Number holds = holds [] [] []
 DataFits phase.Length holds = holds [] [] []
 DataFits (phase.Front at) holds = Unit {0}
@@ -163,7 +165,7 @@ abbrev pub headed : ℕ → ℕ → Reading → Reading
 headed nid len r = (NID_MESSAGE, nid) ∷ (L_MESSAGE, len) ∷ r
 
 -- q are NID_MESSAGE, L_MESSAGE and the first of the front's variables
-pub record FrontHeld (way : Way) (nid : ℕ) (at : ℕ) (front : List ℕ) (l : PacketsState) (holds : List PacketValue → List ℕ → List Bool → Type 0) (q : Reading) : Type 0 where
+pub record FrontHeld (way : Way) (nid : ℕ) (at : ℕ) (front : List ℕ) (l : PacketsState) (holds : Holds) (q : Reading) : Type 0 where
   pub len : ℕ
   pub vars : List Var
   pub typed : front_row way nid ≡ Some vars
@@ -172,7 +174,7 @@ pub record FrontHeld (way : Way) (nid : ℕ) (at : ℕ) (front : List ℕ) (l : 
   pub room_is : length (spelled q) + (widths (drop at vars) + ahead l.carrier l.room l.stage) ≡ 8 * len
 
 -- q are all of the front, packets, and variables of the packet that is being read
-pub record PacketsHeld (way : Way) (nid : ℕ) (front : List ℕ) (l : PacketsState) (holds : List PacketValue → List ℕ → List Bool → Type 0) (q : Reading) : Type 0 where
+pub record PacketsHeld (way : Way) (nid : ℕ) (front : List ℕ) (l : PacketsState) (holds : Holds) (q : Reading) : Type 0 where
   pub len : ℕ
   pub vars : List Var
   pub here : Reading
@@ -183,7 +185,7 @@ pub record PacketsHeld (way : Way) (nid : ℕ) (front : List ℕ) (l : PacketsSt
   pub room_is : length (spelled q) + ahead l.carrier l.room l.stage ≡ 8 * len
 
 -- q are all of the front, all packets, and the first bits of PADDING
-pub record PaddingHeld (way : Way) (nid : ℕ) (front : List ℕ) (holds : List PacketValue → List ℕ → List Bool → Type 0) (padding left : ℕ) (q : Reading) : Type 0 where
+pub record PaddingHeld (way : Way) (nid : ℕ) (front : List ℕ) (holds : Holds) (padding left : ℕ) (q : Reading) : Type 0 where
   pub len : ℕ
   pub vars : List Var
   pub packets : List PacketValue
@@ -199,7 +201,7 @@ pub record PaddingHeld (way : Way) (nid : ℕ) (front : List ℕ) (holds : List 
   pub room_is : length (spelled q) + left ≡ 8 * len
 
 -- q are NID_MESSAGE, L_MESSAGE and the first bits of a message that is kept
-pub record DataHeld (way : Way) (nid : ℕ) (holds : List PacketValue → List ℕ → List Bool → Type 0) (left : ℕ) (q : Reading) : Type 0 where
+pub record DataHeld (way : Way) (nid : ℕ) (holds : Holds) (left : ℕ) (q : Reading) : Type 0 where
   pub len : ℕ
   pub bits : List Bool
   pub untyped : front_row way nid ≡ None
@@ -209,16 +211,50 @@ pub record DataHeld (way : Way) (nid : ℕ) (holds : List PacketValue → List �
   pub room_is : 18 + length bits + left ≡ 8 * len
 
 -- q are the variables so far, of which so much is held
-abbrev pub HoldsIn : (way : Way) → ℕ → Phase → List ℕ → PacketsState → ℕ → (List PacketValue → List ℕ → List Bool → Type 0) → Reading → Type 0
-HoldsIn way nid phase.Number front l padding holds q = (padding ≡ 0) × holds [] [] [] × (q ≡ [])
-HoldsIn way nid phase.Length front l padding holds q = (padding ≡ 0) × holds [] [] [] × (q ≡ (NID_MESSAGE, nid) ∷ [])
-HoldsIn way nid (phase.Front at) front l padding holds q = (padding ≡ 0) × FrontHeld way nid at front l holds q
-HoldsIn way nid phase.Packets front l padding holds q = (padding ≡ 0) × PacketsHeld way nid front l holds q
-HoldsIn way nid (phase.Padding left) front l padding holds q = PaddingHeld way nid front holds padding left q
-HoldsIn way nid (phase.Data left) front l padding holds q = DataHeld way nid holds left q
-HoldsIn way nid phase.Whole front l padding holds q = PaddingHeld way nid front holds padding 0 q ⊎ DataHeld way nid holds 0 q
+abbrev pub HoldsBy : Way → ℕ → Phase → List ℕ → PacketsState → ℕ → Holds → Reading → Type 0
+HoldsBy way nid phase.Number front l padding holds q = (padding ≡ 0) × holds [] [] [] × (q ≡ [])
+HoldsBy way nid phase.Length front l padding holds q = (padding ≡ 0) × holds [] [] [] × (q ≡ (NID_MESSAGE, nid) ∷ [])
+HoldsBy way nid (phase.Front at) front l padding holds q = (padding ≡ 0) × FrontHeld way nid at front l holds q
+HoldsBy way nid phase.Packets front l padding holds q = (padding ≡ 0) × PacketsHeld way nid front l holds q
+HoldsBy way nid (phase.Padding left) front l padding holds q = PaddingHeld way nid front holds padding left q
+HoldsBy way nid (phase.Data left) front l padding holds q = DataHeld way nid holds left q
+HoldsBy way nid phase.Whole front l padding holds q = PaddingHeld way nid front holds padding 0 q ⊎ DataHeld way nid holds 0 q
+
+-- ---- A message of which some was read.
+
+-- its way, NID_MESSAGE, what comes next, the numbers in front of the packets so far, what is left of packets, PADDING so far
+-- as a number, and where the packets go
+pub record MessageState (S : Type 0) : Type 0 where
+  pub way : Way
+  pub nid : ℕ
+  pub phase : Phase
+  pub front : List ℕ
+  pub left : PacketsState
+  pub padding : ℕ
+  pub store : S
+  pub stands : IsTrue (stands_at way nid phase (length front) left)
+
+-- the readings that are left of it
+abbrev pub Left : {S : Type 0} → MessageState S → Reading → Type 0
+Left s = left_at s.way s.nid s.phase s.left
+
+-- its variable that comes next
+abbrev pub next_var : {S : Type 0} → MessageState S → Option Var
+next_var s = next_at s.way s.nid s.phase s.left
+
+abbrev pub MayAsk : {S : Type 0} → MessageState S → Type 0
+MayAsk s = IsTrue (may_ask s.phase s.left)
+
+-- q are its variables so far, of which so much is held
+abbrev pub HoldsIn : {S : Type 0} → (S → Holds) → MessageState S → Reading → Type 0
+HoldsIn holds s q = HoldsBy s.way s.nid s.phase s.front s.left s.padding (holds s.store) q
 
 -- by the variables p the first comes to the second, with what is kept
-pub record Follows (way : Way) (nid : ℕ) (stage : Phase) (front : List ℕ) (l : PacketsState) (padding : ℕ) (holds : List PacketValue → List ℕ → List Bool → Type 0) (p : Reading) (nid' : ℕ) (stage' : Phase) (front' : List ℕ) (l' : PacketsState) (padding' : ℕ) (holds' : List PacketValue → List ℕ → List Bool → Type 0) : Type 0 where
-  pub residual : Residual (left_at way nid stage l) p (left_at way nid' stage' l')
-  pub held : (q : Reading) → HoldsIn way nid stage front l padding holds q → HoldsIn way nid' stage' front' l' padding' holds' (q ++ p)
+pub record Follows {S : Type 0} (holds : S → Holds) (s : MessageState S) (p : Reading) (t : MessageState S) : Type 0 where
+  pub same : t.way ≡ s.way
+  pub residual : Residual (Left s) p (Left t)
+  pub held : (q : Reading) → HoldsIn holds s q → HoldsIn holds t (q ++ p)
+
+-- and by n bits of xs from at on, after which something is left
+abbrev pub Leaps : {S : Type 0} → (S → Holds) → MessageState S → MessageState S → List Bool → ℕ → ℕ → Type 0
+Leaps holds s t xs at n = LeapsBy (Left t) (λ p. Follows holds s p t) xs at n

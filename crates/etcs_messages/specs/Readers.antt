@@ -7,7 +7,7 @@ use Rattle.etcs_vars.specs.Reading.{Reading, spelled, kept}
 use Rattle.etcs_packets.specs.PacketValues.{Form, IsPacketTo}
 use Rattle.etcs_packets.specs.PacketReadings.{readings_to}
 use Rattle.etcs_sequence.specs.Runs.{Begun}
-use Rattle.etcs_sequence.specs.declared.state.PacketsState.{PacketsState}
+use Rattle.etcs_sequence.specs.AtOnce.{Holds}
 use Rattle.etcs_sequence.specs.declared.list.PacketList.{PacketList}
 use Rattle.etcs_sequence.specs.Labels.{labelled, widths}
 use Rattle.etcs_sequence.specs.Lefts.{ahead}
@@ -17,7 +17,10 @@ use Rattle.etcs_messages.specs.declared.phase.Phase.{Phase}
 use Rattle.etcs_messages.specs.declared.phase.Phase.TheVariants as phase
 use Rattle.etcs_messages.specs.Messages.{padding_room, MessageLanguage, values_of}
 use Rattle.etcs_tables.specs.declared.row.Way.{Way}
-use Rattle.etcs_messages.specs.Lefts.{front_row, front_vars, headed}
+use Rattle.etcs_messages.specs.declared.message.Content.{Content}
+use Rattle.etcs_messages.specs.Kinds.{HeadOf, OwnOf}
+use Rattle.etcs_messages.specs.Readings.{content_by}
+use Rattle.etcs_messages.specs.Lefts.{front_row, front_vars, headed, MessageState, HoldsIn}
 
 -- NID_MESSAGE, the L_MESSAGE of a message with this many bits more, and these variables
 abbrev pub measured : ℕ → Reading → ℕ → Reading
@@ -35,15 +38,26 @@ abbrev pub whole_far : {P : Type 0} → Way → (P → Form) → Option (List Va
 whole_far way form None nid front store number = measured nid (kept OTHER_DATA store.bits) 0
 whole_far way form (Some vars) nid front store number = measured nid (padded (packed way form nid front store.packets.items) number 0) 0
 
--- the variables so far
-abbrev pub so_far : {P : Type 0} → Way → (P → Form) → ℕ → Phase → List ℕ → PacketsState → PacketList P → ℕ → Reading
-so_far way form nid phase.Number front l store number = []
-so_far way form nid phase.Length front l store number = (NID_MESSAGE, nid) ∷ []
-so_far way form nid (phase.Front at) front l store number = measured nid (labelled (front_vars way nid) front) (widths (drop at (front_vars way nid)) + ahead l.carrier l.room l.stage)
-so_far way form nid phase.Packets front l store number = measured nid (labelled (front_vars way nid) front ++ packets_so_far form l.carrier l.stage store.packets.items store.numbers.items store.bits) (ahead l.carrier l.room l.stage)
-so_far way form nid (phase.Padding left) front l store number = measured nid (padded (packed way form nid front store.packets.items) number left) left
-so_far way form nid (phase.Data left) front l store number = measured nid (kept OTHER_DATA store.bits) left
-so_far way form nid phase.Whole front l store number = whole_far way form (front_row way nid) nid front store number
+-- the variables so far, where this comes next and the packets go to this list
+abbrev pub far_at : {P S : Type 0} → (P → Form) → PacketList P → Phase → MessageState S → Reading
+far_at form list phase.Number s = []
+far_at form list phase.Length s = (NID_MESSAGE, s.nid) ∷ []
+far_at form list (phase.Front at) s = measured s.nid (labelled (front_vars s.way s.nid) s.front) (widths (drop at (front_vars s.way s.nid)) + ahead s.left.carrier s.left.room s.left.stage)
+far_at form list phase.Packets s = measured s.nid (labelled (front_vars s.way s.nid) s.front ++ packets_so_far form s.left.carrier s.left.stage list.packets.items list.numbers.items list.bits) (ahead s.left.carrier s.left.room s.left.stage)
+far_at form list (phase.Padding left) s = measured s.nid (padded (packed s.way form s.nid s.front list.packets.items) s.padding left) left
+far_at form list (phase.Data left) s = measured s.nid (kept OTHER_DATA list.bits) left
+far_at form list phase.Whole s = whole_far s.way form (front_row s.way s.nid) s.nid s.front list s.padding
+
+abbrev pub so_far : {P S : Type 0} → (P → Form) → (S → PacketList P) → MessageState S → Reading
+so_far form list s = far_at form (list s.store) s.phase s
+
+-- the message, where nothing is left
+abbrev pub message_by : {H B P S : Type 0} → Way → HeadOf H → OwnOf B → (S → PacketList P) → MessageState S → Content H B P
+message_by way head own list s = content_by way head own (front_row way s.nid) s.nid s.front (list s.store).packets.items (list s.store).bits s.padding
+
+-- q are the variables so far, of which so much is held, of a message of this way
+abbrev pub OwnHeld : {S : Type 0} → (S → Holds) → Way → MessageState S → Reading → Type 0
+OwnHeld holds way s q = (s.way ≡ way) × HoldsIn holds s q
 
 -- ---- What it holds between two pieces.
 

@@ -7,9 +7,9 @@ ghost use Rattle.etcs_messages.specs.Messages.{MessageValue, MessageLanguage, Me
 ghost use Rattle.etcs_vars.specs.declared.var.Var.{Var};
 ghost use Rattle.etcs_messages.specs.Kinds.{IsHeadNumbers, IsOwnNumbers};
 ghost use Rattle.etcs_tables.specs.Headers.{head_row};
-ghost use Rattle.etcs_messages.specs.Lefts.{front_row, HoldsIn};
+ghost use Rattle.etcs_messages.specs.Lefts.{front_row};
 ghost use Rattle.etcs_messages.specs.Readings.{bytes_of, content_by};
-ghost use Rattle.etcs_messages.specs.Readers.{Members, so_far};
+ghost use Rattle.etcs_messages.specs.Readers.{Members, OwnHeld, so_far, message_by};
 
 use crate::kind::{Head, Own};
 use crate::message::{Content, MessageOf, bytes_in};
@@ -88,13 +88,13 @@ impl<H: Head, B: Own<Front = H>> ItemRest for MessageRest<H, B> {
 
     ghost least = { 18 };
 
-    ghost far = { λ s. so_far H.Packet.WAY H.Packet.form s.nid s.phase s.front.items s.packets.left (H.Store.list s.packets.store) s.padding };
+    ghost far = { so_far H.Packet.form H.Store.list };
 
-    ghost holds = { λ size s. HoldsIn H.Packet.WAY s.nid s.phase s.front.items s.packets.left s.padding (H.Store.holds s.packets.store) };
+    ghost holds = { λ size. OwnHeld H.Store.holds H.Packet.WAY };
 
-    ghost made = { λ s. content_by H.Packet.WAY H.head B.own (front_row H.Packet.WAY s.nid) s.nid s.front.items (H.Store.list s.packets.store).packets.items (H.Store.list s.packets.store).bits s.padding };
+    ghost made = { message_by H.Packet.WAY H.head B.own H.Store.list };
 
-    ghost store = { λ s. H.Store.list s.packets.store };
+    ghost store = { λ s. H.Store.list s.store };
 
     ghost Members = { Members H.Packet.WAY H.Packet.form };
 

@@ -6,9 +6,9 @@ ghost use Rattle.etcs_vars.specs.Reading.{kept, Viable};
 ghost use Rattle.etcs_vars.specs.declared.var.Var.{Var};
 ghost use Rattle.etcs_vars.specs.declared.var.Var.TheVariants.{NID_MESSAGE, L_MESSAGE, PADDING, OTHER_DATA};
 ghost use Rattle.etcs_vars.proofs.Languages.{Same};
-ghost use Rattle.etcs_reader.specs.Rests.{Goes, Starts, LeapsBy};
+ghost use Rattle.etcs_reader.specs.Rests.{Goes, Starts};
 ghost use Rattle.etcs_messages.specs.Messages.{MessageLanguage};
-ghost use Rattle.etcs_messages.specs.Lefts.{left_at, next_at, stands_at, may_ask, behind_packets, behind_front, DataFits, HoldsIn, Follows};
+ghost use Rattle.etcs_messages.specs.Lefts.{stands_at, behind_packets, behind_front, Left, next_var, MayAsk, HoldsIn, Follows, Leaps};
 ghost use Rattle.etcs_messages.specs.laws.RestLaws.{rest_regular, rest_begins, rest_ended, follows_none, follows_along};
 
 use crate::kind::{Head, Own};
@@ -22,7 +22,7 @@ use etcs_sequence::inner::{bits_at, number_at, run_at};
 use etcs_sequence::{PacketStore, PacketsRest, PacketsState, Stage};
 use etcs_vars::{Var, begins};
 use std::alloc::AllocError;
-use std::marker::PhantomData;
+use std::marker::{Model, PhantomData};
 
 /// What is left of a message, and what is kept of the variables that were read.
 #[derive(Drop)]
@@ -39,7 +39,20 @@ pub struct MessageRest<H: Head, B: Own<Front = H>> {
     /// The bits of PADDING so far, as a number.
     pub(crate) padding: u8,
     ghost stands: { IsTrue (stands_at H.Packet.WAY nid phase (length front.items) packets.left) },
-    ghost fits: { ∥ DataFits phase (H.Store.holds packets.store) ∥₁ },
+}
+
+impl<H: Head, B: Own<Front = H>> Model for MessageRest<H, B> {
+    ghost use Rattle.std.specs.Coded.{codes};
+    ghost use Rattle.etcs_sequence.specs.contracts.state.PacketsState as packets_state;
+    ghost use Rattle.etcs_messages.specs.Lefts.{MessageState, DataFits};
+
+    ghost Value = { MessageState H.Store };
+
+    ghost coded = { Prim.hlevel (codes, packets_state.the_row.coded) };
+
+    ghost view = { λ s. record { way = H.Packet.WAY; nid = s.nid; phase = s.phase; front = s.front.items; left = s.packets.left; padding = s.padding; store = s.packets.store; stands = s.stands } };
+
+    ghost invariant = { λ s. ∥ DataFits s.phase (H.Store.holds s.packets.store) ∥₁ };
 }
 
 /// What comes where this many bits of a phase are left.
@@ -74,9 +87,10 @@ impl<H: Head, B: Own<Front = H>> MessageRest<H, B> {
     /// All of a message, and a store that holds no packet.
     pub(crate) fn new(store: H::Store) -> MessageRest<H, B>
         requires none { H.Store.holds store [] [] [] }
-        ensures store { result.packets.store ≡ store }
-        ensures left { Same (left_at H.Packet.WAY result.nid result.phase result.packets.left) (MessageLanguage H.Packet.WAY) }
-        ensures holds { HoldsIn H.Packet.WAY result.nid result.phase result.front.items result.packets.left result.padding (H.Store.holds result.packets.store) [] }
+        ensures store { result.store ≡ store }
+        ensures way { result.way ≡ H.Packet.WAY }
+        ensures left { Same (Left result) (MessageLanguage H.Packet.WAY) }
+        ensures holds { HoldsIn H.Store.holds result [] }
     {
         MessageRest {
             kind: PhantomData,
@@ -91,8 +105,8 @@ impl<H: Head, B: Own<Front = H>> MessageRest<H, B> {
     /// After NID_MESSAGE.
     fn pass_number(&mut self, number: u64)
         requires phase { self.old.phase ≡ Phase.Number }
-        requires goes { Starts (left_at H.Packet.WAY self.old.nid self.old.phase self.old.packets.left) NID_MESSAGE 0 number }
-        ensures { Follows H.Packet.WAY self.old.nid self.old.phase self.old.front.items self.old.packets.left self.old.padding (H.Store.holds self.old.packets.store) ((NID_MESSAGE, number) ∷ []) self.new.nid self.new.phase self.new.front.items self.new.packets.left self.new.padding (H.Store.holds self.new.packets.store) }
+        requires goes { Starts (Left self.old) NID_MESSAGE 0 number }
+        ensures { Follows H.Store.holds self.old ((NID_MESSAGE, number) ∷ []) self.new }
     {
         self.nid = number as u8;
         self.phase = Phase::Length;
@@ -101,8 +115,8 @@ impl<H: Head, B: Own<Front = H>> MessageRest<H, B> {
     /// After L_MESSAGE.
     fn pass_length(&mut self, number: u64)
         requires phase { self.old.phase ≡ Phase.Length }
-        requires goes { Starts (left_at H.Packet.WAY self.old.nid self.old.phase self.old.packets.left) L_MESSAGE 0 number }
-        ensures { Follows H.Packet.WAY self.old.nid self.old.phase self.old.front.items self.old.packets.left self.old.padding (H.Store.holds self.old.packets.store) ((L_MESSAGE, number) ∷ []) self.new.nid self.new.phase self.new.front.items self.new.packets.left self.new.padding (H.Store.holds self.new.packets.store) }
+        requires goes { Starts (Left self.old) L_MESSAGE 0 number }
+        ensures { Follows H.Store.holds self.old ((L_MESSAGE, number) ∷ []) self.new }
     {
         let bits = number as usize * 8;
         let way = H::Packet::WAY;
@@ -118,7 +132,7 @@ impl<H: Head, B: Own<Front = H>> MessageRest<H, B> {
     /// After a variable in front of the packets.
     fn pass_front(&mut self, at: usize, number: u64)
         requires phase { self.old.phase ≡ Phase.Front at }
-        ensures { (x : Var) → next_at H.Packet.WAY self.old.nid self.old.phase self.old.packets.left ≡ Some x → Starts (left_at H.Packet.WAY self.old.nid self.old.phase self.old.packets.left) x 0 number → Follows H.Packet.WAY self.old.nid self.old.phase self.old.front.items self.old.packets.left self.old.padding (H.Store.holds self.old.packets.store) ((x, number) ∷ []) self.new.nid self.new.phase self.new.front.items self.new.packets.left self.new.padding (H.Store.holds self.new.packets.store) }
+        ensures { (x : Var) → next_var self.old ≡ Some x → Starts (Left self.old) x 0 number → Follows H.Store.holds self.old ((x, number) ∷ []) self.new }
     {
         let count = match front_count(H::Packet::WAY, self.nid) {
             Some(count) => count,
@@ -132,10 +146,10 @@ impl<H: Head, B: Own<Front = H>> MessageRest<H, B> {
     /// After a variable of the packets.
     fn pass_packets(&mut self, var: Var, number: u64) -> Result<(), AllocError>
         requires phase { self.old.phase ≡ Phase.Packets }
-        requires next { next_at H.Packet.WAY self.old.nid self.old.phase self.old.packets.left ≡ Some var }
-        requires goes { Starts (left_at H.Packet.WAY self.old.nid self.old.phase self.old.packets.left) var 0 number }
-        ensures ok { OnOk result (Follows H.Packet.WAY self.old.nid self.old.phase self.old.front.items self.old.packets.left self.old.padding (H.Store.holds self.old.packets.store) ((var, number) ∷ []) self.new.nid self.new.phase self.new.front.items self.new.packets.left self.new.padding (H.Store.holds self.new.packets.store)) }
-        ensures err { OnErr result (H.Store.fails × IsTrue (may_ask self.old.phase self.old.packets.left)) }
+        requires next { next_var self.old ≡ Some var }
+        requires goes { Starts (Left self.old) var 0 number }
+        ensures ok { OnOk result (Follows H.Store.holds self.old ((var, number) ∷ []) self.new) }
+        ensures err { OnErr result (H.Store.fails × MayAsk self.old) }
     {
         self.phase = Phase::Whole;
         let packets = &mut self.packets;
@@ -149,11 +163,11 @@ impl<H: Head, B: Own<Front = H>> MessageRest<H, B> {
         requires phase { self.old.phase ≡ Phase.Packets }
         requires inside { at < length (bits piece.now) }
         requires small { length (bits piece.now) < 2 ^ 64 }
-        requires goes { Goes (left_at H.Packet.WAY self.old.nid self.old.phase self.old.packets.left) }
+        requires goes { Goes (Left self.old) }
         ensures none { IfOk result (λ o. IsNone o → self.new ≡ self.old) }
-        ensures some { IfOk result (λ o. IfSome o (λ n. LeapsBy (left_at H.Packet.WAY self.new.nid self.new.phase self.new.packets.left) (λ p. Follows H.Packet.WAY self.old.nid self.old.phase self.old.front.items self.old.packets.left self.old.padding (H.Store.holds self.old.packets.store) p self.new.nid self.new.phase self.new.front.items self.new.packets.left self.new.padding (H.Store.holds self.new.packets.store)) (bits piece.now) at n)) }
-        ensures err { OnErr result (H.Store.fails × IsTrue (may_ask self.old.phase self.old.packets.left)) }
-        ensures viable { OnErr result (Viable (left_at H.Packet.WAY self.old.nid self.old.phase self.old.packets.left) (part at 1 (bits piece.now))) }
+        ensures some { IfOk result (λ o. IfSome o (λ n. Leaps H.Store.holds self.old self.new (bits piece.now) at n)) }
+        ensures err { OnErr result (H.Store.fails × MayAsk self.old) }
+        ensures viable { OnErr result (Viable (Left self.old) (part at 1 (bits piece.now))) }
     {
         self.phase = Phase::Whole;
         let packets = &mut self.packets;
@@ -166,9 +180,9 @@ impl<H: Head, B: Own<Front = H>> MessageRest<H, B> {
     fn keep(&mut self, left: usize, slice: &BitSlice<'_>) -> Result<(), AllocError>
         requires phase { self.old.phase ≡ Phase.Data left }
         requires within { length slice.now ≤ left }
-        ensures ok { OnOk result (Follows H.Packet.WAY self.old.nid self.old.phase self.old.front.items self.old.packets.left self.old.padding (H.Store.holds self.old.packets.store) (kept OTHER_DATA slice.now) self.new.nid self.new.phase self.new.front.items self.new.packets.left self.new.padding (H.Store.holds self.new.packets.store)) }
-        ensures goes { OnOk result (Goes (left_at H.Packet.WAY self.new.nid self.new.phase self.new.packets.left)) }
-        ensures err { OnErr result (H.Store.fails × IsTrue (may_ask self.old.phase self.old.packets.left)) }
+        ensures ok { OnOk result (Follows H.Store.holds self.old (kept OTHER_DATA slice.now) self.new) }
+        ensures goes { OnOk result (Goes (Left self.new)) }
+        ensures err { OnErr result (H.Store.fails × MayAsk self.old) }
     {
         self.phase = Phase::Whole;
         let packets = &mut self.packets;
@@ -182,8 +196,8 @@ impl<H: Head, B: Own<Front = H>> MessageRest<H, B> {
     fn pass_data(&mut self, left: usize, number: u64) -> Result<(), AllocError>
         requires phase { self.old.phase ≡ Phase.Data left }
         requires small { number < 2 }
-        ensures ok { OnOk result (Follows H.Packet.WAY self.old.nid self.old.phase self.old.front.items self.old.packets.left self.old.padding (H.Store.holds self.old.packets.store) ((OTHER_DATA, number) ∷ []) self.new.nid self.new.phase self.new.front.items self.new.packets.left self.new.padding (H.Store.holds self.new.packets.store)) }
-        ensures err { OnErr result (H.Store.fails × IsTrue (may_ask self.old.phase self.old.packets.left)) }
+        ensures ok { OnOk result (Follows H.Store.holds self.old ((OTHER_DATA, number) ∷ []) self.new) }
+        ensures err { OnErr result (H.Store.fails × MayAsk self.old) }
     {
         let byte = [number as u8];
         self.keep(left, &bits_at(&byte, 7, 1))
@@ -200,9 +214,9 @@ impl<H: Head, B: Own<Front = H>> MessageRest<H, B> {
         requires inside { at < length (bits piece.now) }
         requires small { length (bits piece.now) < 2 ^ 64 }
         ensures none { IfOk result (λ o. IsNone o → self.new ≡ self.old) }
-        ensures some { IfOk result (λ o. IfSome o (λ n. LeapsBy (left_at H.Packet.WAY self.new.nid self.new.phase self.new.packets.left) (λ p. Follows H.Packet.WAY self.old.nid self.old.phase self.old.front.items self.old.packets.left self.old.padding (H.Store.holds self.old.packets.store) p self.new.nid self.new.phase self.new.front.items self.new.packets.left self.new.padding (H.Store.holds self.new.packets.store)) (bits piece.now) at n)) }
-        ensures err { OnErr result (H.Store.fails × IsTrue (may_ask self.old.phase self.old.packets.left)) }
-        ensures viable { OnErr result (Viable (left_at H.Packet.WAY self.old.nid self.old.phase self.old.packets.left) (part at 1 (bits piece.now))) }
+        ensures some { IfOk result (λ o. IfSome o (λ n. Leaps H.Store.holds self.old self.new (bits piece.now) at n)) }
+        ensures err { OnErr result (H.Store.fails × MayAsk self.old) }
+        ensures viable { OnErr result (Viable (Left self.old) (part at 1 (bits piece.now))) }
     {
         let run = run_at(piece, at, left);
         self.keep(left, &run)?;
@@ -214,8 +228,8 @@ impl<H: Head, B: Own<Front = H>> MessageRest<H, B> {
         requires phase { self.old.phase ≡ Phase.Padding left }
         requires within { count ≤ left }
         requires small { number < 2 ^ count }
-        ensures follows { Follows H.Packet.WAY self.old.nid self.old.phase self.old.front.items self.old.packets.left self.old.padding (H.Store.holds self.old.packets.store) (kept PADDING (num count number)) self.new.nid self.new.phase self.new.front.items self.new.packets.left self.new.padding (H.Store.holds self.new.packets.store) }
-        ensures goes { Goes (left_at H.Packet.WAY self.new.nid self.new.phase self.new.packets.left) }
+        ensures follows { Follows H.Store.holds self.old (kept PADDING (num count number)) self.new }
+        ensures goes { Goes (Left self.new) }
     {
         self.padding = (self.padding << count) | number as u8;
         let wanted = left - count;
@@ -227,7 +241,7 @@ impl<H: Head, B: Own<Front = H>> MessageRest<H, B> {
         requires phase { self.old.phase ≡ Phase.Padding left }
         requires inside { at < length (bits piece.now) }
         requires small { length (bits piece.now) < 2 ^ 64 }
-        ensures { LeapsBy (left_at H.Packet.WAY self.new.nid self.new.phase self.new.packets.left) (λ p. Follows H.Packet.WAY self.old.nid self.old.phase self.old.front.items self.old.packets.left self.old.padding (H.Store.holds self.old.packets.store) p self.new.nid self.new.phase self.new.front.items self.new.packets.left self.new.padding (H.Store.holds self.new.packets.store)) (bits piece.now) at result }
+        ensures { Leaps H.Store.holds self.old self.new (bits piece.now) at result }
     {
         let count = left.min(piece.len() * 8 - at);
         self.pad(left, count, number_at(piece, at, count));
@@ -236,13 +250,13 @@ impl<H: Head, B: Own<Front = H>> MessageRest<H, B> {
 }
 
 impl<H: Head, B: Own<Front = H>> Rest for MessageRest<H, B> {
-    ghost left = { λ s. left_at H.Packet.WAY s.nid s.phase s.packets.left };
+    ghost left = { Left };
 
-    ghost next = { λ s. next_at H.Packet.WAY s.nid s.phase s.packets.left };
+    ghost next = { next_var };
 
-    ghost follows = { λ s p t. Follows H.Packet.WAY s.nid s.phase s.front.items s.packets.left s.padding (H.Store.holds s.packets.store) p t.nid t.phase t.front.items t.packets.left t.padding (H.Store.holds t.packets.store) };
+    ghost follows = { Follows H.Store.holds };
 
-    ghost fails = { λ s. H.Store.fails × IsTrue (may_ask s.phase s.packets.left) };
+    ghost fails = { λ s. H.Store.fails × MayAsk s };
 
     #[inline(always)]
     fn var(&self) -> Option<Var> {
@@ -305,15 +319,24 @@ impl<H: Head, B: Own<Front = H>> Rest for MessageRest<H, B> {
         }
     }
 
-    ghost regular = { λ s. rest_regular H.Packet.WAY s.nid s.packets.left s.phase };
+    #[inline]
+    fn run(&self) -> usize {
+        match self.phase {
+            Phase::Packets => self.packets.run(),
+            Phase::Data(left) => left,
+            _ => 0,
+        }
+    }
 
-    ghost begins_with = { λ s. rest_begins H.Packet.WAY s.nid s.packets.left s.phase (length s.front.items) s.stands };
+    ghost regular = { rest_regular };
 
-    ghost ended = { λ s. rest_ended H.Packet.WAY s.nid s.phase (length s.front.items) s.packets.left s.stands };
+    ghost begins_with = { rest_begins };
+
+    ghost ended = { rest_ended };
 
     ghost residual = { λ s t p h. h.residual };
 
-    ghost none = { λ s. follows_none H.Packet.WAY s.nid s.phase s.front.items s.packets.left s.padding (H.Store.holds s.packets.store) };
+    ghost none = { follows_none H.Store.holds };
 
-    ghost both = { λ s t u p q h k. follows_along H.Packet.WAY s.nid s.phase s.front.items s.packets.left s.padding (H.Store.holds s.packets.store) p t.nid t.phase t.front.items t.packets.left t.padding (H.Store.holds t.packets.store) q u.nid u.phase u.front.items u.packets.left u.padding (H.Store.holds u.packets.store) h k };
+    ghost both = { follows_along H.Store.holds };
 }

@@ -32,8 +32,8 @@ const NUMBER_BITS: usize = 8;
 /// The bits of L_MESSAGE.
 const LENGTH_BITS: usize = 10;
 
-/// The message that a piece begins with, and how many bytes it has. `None` says nothing: where the piece begins with none,
-/// and where memory is refused.
+/// The message that a piece begins with, and how many bytes it has. It may always return `None`, as where the piece begins
+/// with none, and where memory is refused.
 pub(crate) fn message_at<H: Head, B: Own<Front = H>>(
     room: &mut Room<H::Packet>,
     piece: &[u8],

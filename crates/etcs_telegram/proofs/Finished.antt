@@ -1,28 +1,26 @@
 -- What was read of a telegram that is whole.
 use Rattle.std.proofs.Common.{◌≡◌, ℕ, Bool, false, List, ◌++◌, length, None, refl, sym, ap, subst, ◌∙◌, arith, append_assoc}
-use Rattle.std.specs.Prelude.{replicate, map, All, IsTrue}
+use Rattle.std.specs.Prelude.{replicate, map, All}
 use Rattle.std.proofs.lemmas.List.{length-append}
 use Rattle.etcs_vars.specs.declared.var.Var.TheVariants.{FILL, PAD}
 use Rattle.etcs_vars.specs.Reading.{Reading, spelled, numbers, kept}
 use Rattle.etcs_vars.proofs.Apart.{cut}
 use Rattle.etcs_vars.specs.laws.Spellings.{spelled-append}
-use Rattle.etcs_packets.specs.declared.packet.Packet.{Packet}
 use Rattle.etcs_packets.specs.PacketValues.{PacketValue, packet_value, IsPacket}
-use Rattle.etcs_sequence.specs.declared.state.PacketsState.{PacketsState}
-use Rattle.etcs_sequence.specs.declared.list.PacketList.{PacketList}
 use Rattle.etcs_sequence.specs.Labels.{labelled}
 use Rattle.etcs_sequence.proofs.LabelLaws.{numbers_labelled, labelled_count}
 use Rattle.etcs_sequence.proofs.BitLaws.{bits_length}
 use Rattle.etcs_telegram.specs.declared.size.Size.{Size}
+use Rattle.etcs_telegram.specs.declared.store.TelegramStore.{TelegramStore}
 use Rattle.etcs_telegram.specs.declared.phase.Phase.{Phase}
 use Rattle.etcs_telegram.specs.declared.phase.Phase.TheVariants.{Whole}
 use Rattle.etcs_telegram.specs.Telegrams.{header_reading, header_of, closed_reading, IsAdmitted, IsTelegram, ReadsAs, pad_bits, telegram_value, HeaderValue, TelegramReads, TelegramLanguage}
 use Rattle.etcs_tables.specs.Headers.{header_row}
 use Rattle.etcs_telegram.specs.Headers.{IsHeaderNumbers}
 use Rattle.etcs_telegram.specs.Phases.{behind_header}
-use Rattle.etcs_telegram.specs.Lefts.{next_at, stands_at}
+use Rattle.etcs_telegram.specs.Lefts.{HoldsBy, TelegramState, next_var}
 use Rattle.etcs_telegram.specs.laws.RestLaws.{ended_whole}
-use Rattle.etcs_telegram.specs.Readers.{so_far, telegram_by, OwnHeld}
+use Rattle.etcs_telegram.specs.Readers.{store_holds, far_at, so_far, telegram_by, OwnHeld}
 use Rattle.etcs_telegram.proofs.HeaderLemmas.{header_back, header_length}
 use Rattle.etcs_telegram.proofs.Spellings.{whole_length, zeros_length}
 
@@ -56,32 +54,33 @@ whole_reads size header vs fill q ten carried (t, (st, x)) e =
     )
 
 -- what a reader keeps at the end is a telegram, and q is its reading
-pub record Finished (own size : Size) (header : List ℕ) (store : PacketList Packet) (q : Reading) : Type 0 where
-  pub telegram : IsTelegram (telegram_by size header store)
-  pub reads : ReadsAs own (telegram_value (telegram_by size header store)) q
-  pub numbers : IsHeaderNumbers header
+pub record Finished (own : Size) (s : TelegramState TelegramStore) (q : Reading) : Type 0 where
+  pub telegram : IsTelegram (telegram_by s)
+  pub reads : ReadsAs own (telegram_value (telegram_by s)) q
+  pub numbers : IsHeaderNumbers s.header
 
--- where it stands for all of one
-abbrev Finishes : Size → Size → Phase → List ℕ → PacketsState → PacketList Packet → Type 0
-Finishes own size phase header l store =
-    TelegramLanguage own (so_far size phase header l store) → OwnHeld own size phase header l store (so_far size phase header l store) → Finished own size header store (so_far size phase header l store)
+module _ (own : Size) (s : TelegramState TelegramStore) where
+  -- where it stands for all of one
+  abbrev Finishes : Phase → Type 0
+  Finishes phase = TelegramLanguage own (far_at phase s) → (s.size ≡ own) × HoldsBy s.size phase s.header s.left (store_holds s.store) (far_at phase s) → Finished own s (far_at phase s)
 
-at_whole : (own size : Size) (header : List ℕ) (l : PacketsState) (store : PacketList Packet) → Finishes own size Whole header l store
-at_whole own size header l store lang (same, h) =
-    let q = so_far size Whole header l store in
-    let vs = map packet_value store.packets.items in
-    let carried : All IsPacket vs = subst (All IsPacket) h.held.0 h.carried in
-    let is = whole_reads size header vs store.bits q h.ten carried (subst (λ (z : Size). TelegramLanguage z q) (sym same) lang) refl in
-    record {
-      telegram = record {
-        header = is.0.header_admitted;
-        made = h.held.1.0;
-        packets = carried;
-        fill = omega (arith, is.0.user_bits_is, header_length (header_of header));
-      };
-      reads = (same, is.0);
-      numbers = is.1;
-    }
+  at_whole : Finishes Whole
+  at_whole lang (same, h) =
+      let q = far_at Whole s in
+      let k = s.store.list in
+      let vs = map packet_value k.packets.items in
+      let carried : All IsPacket vs = subst (All IsPacket) h.held.0 h.carried in
+      let is = whole_reads s.size s.header vs k.bits q h.ten carried (subst (λ (z : Size). TelegramLanguage z q) (sym same) lang) refl in
+      record {
+        telegram = record {
+          header = is.0.header_admitted;
+          made = h.held.1.0;
+          packets = carried;
+          fill = omega (arith, is.0.user_bits_is, header_length (header_of s.header));
+        };
+        reads = (same, is.0);
+        numbers = is.1;
+      }
 
-pub finished_is : (own size : Size) (phase : Phase) (header : List ℕ) (l : PacketsState) (store : PacketList Packet) → IsTrue (stands_at phase (length header) l) → next_at phase l ≡ None → Finishes own size phase header l store
-finished_is own size phase header l store stands e = subst (λ (p : Phase). Finishes own size p header l store) (sym (ended_whole phase (length header) l stands e)) (at_whole own size header l store)
+  pub finished_is : next_var s ≡ None → TelegramLanguage own (so_far s) → OwnHeld own s (so_far s) → Finished own s (so_far s)
+  finished_is e = subst Finishes (sym (ended_whole s e)) at_whole

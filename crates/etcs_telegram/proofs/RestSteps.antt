@@ -1,7 +1,7 @@
 -- What is left of a telegram after each of its variables.
-use Rattle.std.proofs.Common.{◌≡◌, ℕ, zero, suc, ◌+◌, ◌-◌, ◌/◌, ◌^◌, ◌<◌, ◌≤◌, Bool, true, false, List, [], ◌∷◌, length, drop, get_or, Some, refl, sym, ap, subst, ◌∙◌, arith, ltb}
-use Rattle.std.specs.Prelude.{IsTrue, ◌↔◌, not, ◌&&◌, ◌==◌, nat_lt, replicate, map, slice_get, slice_index_or}
-use Rattle.std.proofs.lemmas.Bool.{and_parts, and_from, ltb-true, lt-ltb, eqb-true, eq-eqb}
+use Rattle.std.proofs.Common.{◌≡◌, ℕ, zero, suc, ◌+◌, ◌-◌, ◌/◌, ◌^◌, ◌<◌, ◌≤◌, Bool, true, false, List, [], ◌∷◌, ◌++◌, length, drop, get_or, Some, refl, sym, ap, subst, ◌∙◌, arith, ltb}
+use Rattle.std.specs.Prelude.{IsTrue, ◌↔◌, ◌&&◌, ◌==◌, nat_lt, replicate, map, slice_get, slice_index_or}
+use Rattle.std.proofs.lemmas.Bool.{and_parts, ltb-true, eqb-true}
 use Rattle.std.proofs.Math.Seq.{drop-cons}
 use Rattle.etcs_vars.specs.declared.var.Var.{Var}
 use Rattle.etcs_vars.specs.declared.var.Var.TheVariants.{FILL, PAD}
@@ -10,11 +10,12 @@ use Rattle.etcs_vars.specs.Reading.{Sent, Reading, kept, Viable, Then}
 use Rattle.etcs_vars.specs.Walking.{Residual}
 use Rattle.etcs_vars.proofs.Languages.{Same, same_self, same_along}
 use Rattle.etcs_sequence.proofs.Turns.{residual_same}
-use Rattle.etcs_reader.specs.Rests.{Starts, Goes}
+use Rattle.etcs_reader.specs.Rests.{AreBits, Starts, Goes}
 use Rattle.etcs_reader.specs.Fields.{ReadsFields}
 use Rattle.etcs_sequence.specs.declared.state.PacketsState.{PacketsState}
 use Rattle.etcs_sequence.specs.declared.stage.Stage.TheVariants as stage
-use Rattle.etcs_sequence.specs.Lefts.{left_of, is_closed, is_telegram, Moved}
+use Rattle.etcs_sequence.specs.Lefts.{ahead, left_of, next_of, is_closed, Moved}
+use Rattle.etcs_sequence.proofs.LeapLemmas.{chain_bits}
 use Rattle.etcs_sequence.specs.BitLaws.{BitsLeft}
 use Rattle.etcs_sequence.specs.laws.BitLaws.{some_bits, bits_regular, bits_begin, bits_start, bits_number, bits_behind, bits_viable}
 use Rattle.etcs_sequence.proofs.StageLaws.{closed_stage}
@@ -23,28 +24,26 @@ use Rattle.etcs_sequence.proofs.FilledLaws.{filled_behind, filled_starts, filled
 use Rattle.etcs_sequence.proofs.ThenLaws.{then_starts}
 use Rattle.etcs_rows.specs.declared.frames.Carrier.TheVariants.{Telegram}
 use Rattle.etcs_telegram.specs.declared.size.Size.{Size}
-use Rattle.etcs_telegram.specs.declared.size.Size.TheVariants.{Short, Long}
 use Rattle.etcs_telegram.specs.declared.phase.Phase.{Phase}
 use Rattle.etcs_telegram.specs.declared.phase.Phase.TheVariants.{Header, Packets, Fill, Pad, Whole}
 use Rattle.etcs_telegram.specs.Telegrams.{pad_bits}
 use Rattle.etcs_tables.specs.Headers.{header_row}
-use Rattle.etcs_tables.specs.declared.item.RowItem.{RowItem}
 use Rattle.etcs_tables.specs.declared.item.RowItem.TheVariants.{One}
 use Rattle.etcs_telegram.specs.Phases.{header_var, after_header, after_pad, after_fill, PadLeft, FillLeft}
 use Rattle.etcs_sequence.specs.ChainLaws.{Chain}
 use Rattle.etcs_sequence.specs.laws.ChainLaws.{chain_viable}
 use Rattle.etcs_sequence.proofs.ChainLaws.{chain_along, chain_none}
-use Rattle.etcs_telegram.specs.Lefts.{FillBy, PacketsBehind, left_at, next_at, is_open, stands_at, behind_packets}
+use Rattle.etcs_telegram.specs.Lefts.{FillBy, PacketsBehind, left_at, next_at, is_open, stands_at, behind_packets, TelegramState, Left, next_var}
 use Rattle.etcs_telegram.specs.laws.RestLaws.{opens}
-use Rattle.etcs_telegram.proofs.PhaseSteps.{by_test, below_false, below_true, pad_goes, some_fill, none_left}
+use Rattle.etcs_telegram.proofs.PhaseSteps.{by_test, below_false, pad_goes, some_fill, none_left}
 
 -- ---- The header.
 
-pub header_parts : (phase : Phase) (at m : ℕ) (l : PacketsState) → phase ≡ Header at → IsTrue (stands_at phase m l) → (at < 10) × (m ≡ at)
-header_parts phase at m l e h =
-    let h' : IsTrue (stands_at (Header at) m l) = subst (λ (x : Phase). IsTrue (stands_at x m l)) e h in
-    let both = and_parts (nat_lt at 10) ((m == at) && is_open l) h' in
-    (ltb-true at 10 both.0, eqb-true m at (and_parts (m == at) (is_open l) both.1).0)
+pub header_parts : {S : Type 0} (s : TelegramState S) (at : ℕ) → s.phase ≡ Header at → (at < 10) × (length s.header ≡ at)
+header_parts s at e =
+    let h : IsTrue (stands_at (Header at) (length s.header) s.left) = subst (λ (x : Phase). IsTrue (stands_at x (length s.header) s.left)) e s.stands in
+    let both = and_parts (nat_lt at 10) ((length s.header == at) && is_open s.left) h in
+    (ltb-true at 10 both.0, eqb-true (length s.header) at (and_parts (length s.header == at) (is_open s.left) both.1).0)
 
 pub header_tested : (size : Size) (at : ℕ) (l : PacketsState) (x : Var) (rest bits : ℕ) → next_at (Header at) l ≡ Some x → rest < width x → bits < 2 ^ (width x - rest) → Goes (left_at size (Header at) l) → IsTrue (begins (ranges x) rest bits) ↔ Starts (left_at size (Header at) l) x rest bits
 header_tested size at l x rest bits e lt fits g = front_tested (PacketsBehind size l) (drop at header_row) x rest bits e lt fits g
@@ -65,9 +64,9 @@ one_at [] d at v e = absurd cc
 one_at (w ∷ vs) d zero v e = (let same : w ≡ v = cc in sym same)
 one_at (w ∷ vs) d (suc at) v e = one_at vs d at v e
 
-pub var_header : (phase : Phase) (at m : ℕ) (l : PacketsState) → phase ≡ Header at → IsTrue (stands_at phase m l) → Some (header_var at) ≡ next_at phase l
-var_header phase at m l e h =
-    let row : drop at header_row ≡ get_or header_row at PAD ∷ drop (suc at) header_row = drop-cons header_row at PAD (header_parts phase at m l e h).0 in
+pub var_header : {S : Type 0} (s : TelegramState S) (at : ℕ) → s.phase ≡ Header at → Some (header_var at) ≡ next_var s
+var_header s at e =
+    let row : drop at header_row ≡ get_or header_row at PAD ∷ drop (suc at) header_row = drop-cons header_row at PAD (header_parts s at e).0 in
     rw e (rw row refl)
 
 -- ---- The packets.
@@ -153,77 +152,65 @@ pad_behind size (suc k) l pos =
 
 -- ---- What holds.
 
-pub packets_parts : (phase : Phase) (m : ℕ) (l : PacketsState) → phase ≡ Packets → IsTrue (stands_at phase m l) → (m ≡ 10) × (l.carrier ≡ Telegram) × (is_closed l.stage ≡ false)
-packets_parts phase m l e h =
-    let h' : IsTrue (stands_at Packets m l) = subst (λ (x : Phase). IsTrue (stands_at x m l)) e h in
-    let both = and_parts (m == 10) (is_open l) h' in
-    let o = opens l both.1 in
-    (eqb-true m 10 both.0, o.0, o.1)
+module _ {S : Type 0} (s : TelegramState S) where
+  pub packets_parts : s.phase ≡ Packets → (length s.header ≡ 10) × (s.left.carrier ≡ Telegram) × (is_closed s.left.stage ≡ false)
+  packets_parts e =
+      let h : IsTrue (stands_at Packets (length s.header) s.left) = subst (λ (x : Phase). IsTrue (stands_at x (length s.header) s.left)) e s.stands in
+      let both = and_parts (length s.header == 10) (is_open s.left) h in
+      let o = opens s.left both.1 in
+      (eqb-true (length s.header) 10 both.0, o.0, o.1)
 
-pub fill_parts : (phase : Phase) (left m : ℕ) (l : PacketsState) → phase ≡ Fill left → IsTrue (stands_at phase m l) → (0 < left) × (is_closed l.stage ≡ true)
-fill_parts phase left m l e h =
-    let h' : IsTrue (stands_at (Fill left) m l) = subst (λ (x : Phase). IsTrue (stands_at x m l)) e h in
-    let both = and_parts (nat_lt 0 left) (is_closed l.stage) h' in
-    (ltb-true 0 left both.0, both.1)
+  pub fill_parts : (left : ℕ) → s.phase ≡ Fill left → (0 < left) × (is_closed s.left.stage ≡ true)
+  fill_parts left e =
+      let h : IsTrue (stands_at (Fill left) (length s.header) s.left) = subst (λ (x : Phase). IsTrue (stands_at x (length s.header) s.left)) e s.stands in
+      let both = and_parts (nat_lt 0 left) (is_closed s.left.stage) h in
+      (ltb-true 0 left both.0, both.1)
 
-pub pad_parts : (phase : Phase) (left m : ℕ) (l : PacketsState) → phase ≡ Pad left → IsTrue (stands_at phase m l) → 0 < left
-pad_parts phase left m l e h = ltb-true 0 left (subst (λ (x : Phase). IsTrue (stands_at x m l)) e h)
-
-some_pad : (size : Size) → 0 < pad_bits size
-some_pad Short = omega arith
-some_pad Long = omega arith
-
-pub fill_stands : (size : Size) (left n m : ℕ) (l : PacketsState) → is_closed l.stage ≡ true → IsTrue (stands_at (after_fill size left n) m l)
-fill_stands size left n m l e =
-    by_test (ltb n left) (λ x. IsTrue (stands_at x m l)) (Fill (left - n)) (Pad (pad_bits size))
-    (λ t. let b = below_true n left t in and_from (nat_lt 0 (left - n)) (is_closed l.stage) (lt-ltb 0 (left - n) (omega arith)) e)
-    (λ _. lt-ltb 0 (pad_bits size) (some_pad size))
-
-pub packets_stand : (size : Size) (m : ℕ) (l : PacketsState) → m ≡ 10 → l.carrier ≡ Telegram → IsTrue (stands_at (behind_packets size l) m l)
-packets_stand size m l ten same =
-    by_test (is_closed l.stage) (λ x. IsTrue (stands_at x m l)) (after_fill size l.room 0) Packets
-    (λ t. fill_stands size l.room 0 m l t)
-    (λ f. and_from (m == 10) (is_open l) (eq-eqb m 10 ten) (and_from (is_telegram l.carrier) (not (is_closed l.stage)) (ap is_telegram same) (ap not f)))
-
-pub packets_stands : (size : Size) (phase phase' : Phase) (m : ℕ) (l l' : PacketsState) (p : Reading) → phase ≡ Packets → phase' ≡ behind_packets size l' → IsTrue (stands_at phase m l) → Moved l.carrier l.room l.stage p l'.carrier l'.room l'.stage → IsTrue (stands_at phase' m l')
-packets_stands size phase phase' m l l' p e e' h moved =
-    let parts = packets_parts phase m l e h in
-    rw e' (packets_stand size m l' parts.0 (moved.same ∙ parts.1))
-
-pub pad_stands : (size : Size) (phase phase' : Phase) (left m : ℕ) (l : PacketsState) → phase' ≡ after_pad left → IsTrue (stands_at phase' m l)
-pad_stands size phase phase' left m l e =
-    rw e
-    (by_test (ltb 1 left) (λ x. IsTrue (stands_at x m l)) (Pad (left - 1)) Whole
-    (λ t. let b = below_true 1 left t in lt-ltb 0 (left - 1) (omega arith))
-    (λ _. refl))
+  pub pad_parts : (left : ℕ) → s.phase ≡ Pad left → 0 < left
+  pad_parts left e = ltb-true 0 left (subst (λ (x : Phase). IsTrue (stands_at x (length s.header) s.left)) e s.stands)
 
 -- ---- Whether a number continues.
 
-pub begins_header : (size : Size) (phase : Phase) (at : ℕ) (l : PacketsState) (x : Var) (rest bits : ℕ) → phase ≡ Header at → next_at phase l ≡ Some x → rest < width x → bits < 2 ^ (width x - rest) → Goes (left_at size phase l) → IsTrue (begins (ranges x) rest bits) ↔ Starts (left_at size phase l) x rest bits
-begins_header size phase at l x rest bits e next lt fits g = rw e (header_tested size at l x rest bits (rw e at next) lt fits (rw e at g))
+module _ {S : Type 0} (s : TelegramState S) (x : Var) (rest bits : ℕ) (next : next_var s ≡ Some x) where
+  pub begins_header : (at : ℕ) → s.phase ≡ Header at → rest < width x → bits < 2 ^ (width x - rest) → Goes (Left s) → IsTrue (begins (ranges x) rest bits) ↔ Starts (Left s) x rest bits
+  begins_header at e lt fits g = rw e (header_tested s.size at s.left x rest bits (rw e at next) lt fits (rw e at g))
 
-pub begins_packets : (size : Size) (phase : Phase) (l : PacketsState) (x : Var) (rest bits : ℕ) → phase ≡ Packets → next_at phase l ≡ Some x → Starts (left_of l.carrier l.room l.stage) x rest bits ↔ Starts (left_at size phase l) x rest bits
-begins_packets size phase l x rest bits e next = rw e (filled_starts (FillLeft size) (some_fill size) l x rest bits (rw e at next))
+  pub begins_packets : s.phase ≡ Packets → Starts (left_of s.left.carrier s.left.room s.left.stage) x rest bits ↔ Starts (Left s) x rest bits
+  begins_packets e = rw e (filled_starts (FillLeft s.size) (some_fill s.size) s.left x rest bits (rw e at next))
 
-pub begins_fill : (size : Size) (phase : Phase) (left : ℕ) (l : PacketsState) (x : Var) (rest bits : ℕ) → phase ≡ Fill left → 0 < left → next_at phase l ≡ Some x → rest < width x → bits < 2 ^ (width x - rest) → Starts (left_at size phase l) x rest bits
-begins_fill size phase left l x rest bits e pos next lt fits =
-    let next' : next_at (Fill left) l ≡ Some x = rw e at next in
-    let same : FILL ≡ x = cc in
-    rw (e, ← same) ((fill_starts size left rest bits pos).0 (bits_start FILL refl left rest bits pos (rw (← same) at lt) (rw (← same) at fits)))
+  pub begins_fill : (left : ℕ) → s.phase ≡ Fill left → rest < width x → bits < 2 ^ (width x - rest) → Starts (Left s) x rest bits
+  begins_fill left e lt fits =
+      let pos = (fill_parts s left e).0 in
+      let next' : next_at (Fill left) s.left ≡ Some x = rw e at next in
+      let same : FILL ≡ x = cc in
+      rw (e, ← same) ((fill_starts s.size left rest bits pos).0 (bits_start FILL refl left rest bits pos (rw (← same) at lt) (rw (← same) at fits)))
 
--- what continues of FILL is a bit
-pub fill_bit : (size : Size) (phase : Phase) (left : ℕ) (l : PacketsState) (x : Var) (number : ℕ) → phase ≡ Fill left → 0 < left → next_at phase l ≡ Some x → Starts (left_at size phase l) x 0 number → (x ≡ FILL) × (number < 2)
-fill_bit size phase left l x number e pos next goes =
-    let next' : next_at (Fill left) l ≡ Some x = rw e at next in
-    let same : FILL ≡ x = cc in
-    let goes' : Starts (FillLeft size left) FILL 0 number = rw (e, ← same) at goes in
-    (sym same, bits_number FILL refl left number ((fill_starts size left 0 number pos).1 goes'))
+module _ {S : Type 0} (s : TelegramState S) (x : Var) (number left : ℕ) (next : next_var s ≡ Some x) (goes : Starts (Left s) x 0 number) where
+  -- what continues of FILL is a bit
+  pub fill_bit : s.phase ≡ Fill left → (x ≡ FILL) × (number < 2)
+  fill_bit e =
+      let pos = (fill_parts s left e).0 in
+      let next' : next_at (Fill left) s.left ≡ Some x = rw e at next in
+      let same : FILL ≡ x = cc in
+      let goes' : Starts (FillLeft s.size left) FILL 0 number = rw (e, ← same) at goes in
+      (sym same, bits_number FILL refl left number ((fill_starts s.size left 0 number pos).1 goes'))
 
--- and of PAD a zero
-pub pad_bit : (size : Size) (phase : Phase) (left : ℕ) (l : PacketsState) (x : Var) (number : ℕ) → phase ≡ Pad left → 0 < left → next_at phase l ≡ Some x → Starts (left_at size phase l) x 0 number → ◌≡◌ {A = Reading} ((x, number) ∷ []) ((PAD, 0) ∷ [])
-pad_bit size phase left l x number e pos next goes =
-    let next' : next_at (Pad left) l ≡ Some x = rw e at next in
-    let same : PAD ≡ x = cc in
-    let goes' : Starts (PadLeft left) PAD 0 number = rw (e, ← same) at goes in
-    let zero-is : number ≡ 0 = (pad_starts left number pos).1 goes' in
-    cc
+  -- and of PAD a zero
+  pub pad_bit : s.phase ≡ Pad left → ◌≡◌ {A = Reading} ((x, number) ∷ []) ((PAD, 0) ∷ [])
+  pad_bit e =
+      let pos = pad_parts s left e in
+      let next' : next_at (Pad left) s.left ≡ Some x = rw e at next in
+      let same : PAD ≡ x = cc in
+      let goes' : Starts (PadLeft left) PAD 0 number = rw (e, ← same) at goes in
+      let zero-is : number ≡ 0 = (pad_starts left number pos).1 goes' in
+      cc
+
+-- ---- Bits one after another.
+
+pub packets_run : {S : Type 0} (s : TelegramState S) (n : ℕ) → s.phase ≡ Packets → AreBits (left_of s.left.carrier s.left.room s.left.stage) (next_of s.left.stage) n → AreBits (Left s) (next_var s) n
+packets_run s n is are =
+    let room = ahead s.left.carrier s.left.room s.left.stage in
+    rw is (chain_bits (left_of s.left.carrier s.left.room s.left.stage) (FillBy s.size room) (next_of s.left.stage) n are)
+
+pub fill_run : {S : Type 0} (s : TelegramState S) (left : ℕ) → s.phase ≡ Fill left → AreBits (Left s) (next_var s) left
+fill_run s left is = rw is (λ some. (FILL, refl, refl, λ r (first, rest, e, (b, long, k), pad). (b, rest, long, e ∙ ap (λ (z : Reading). z ++ rest) k)))

@@ -1,6 +1,6 @@
 -- What a view reads, and what is seen of it.
 use Rattle.std.proofs.Common.{◌≡◌, ◌<◌, ℕ, ◌+◌, ◌-◌, ◌%◌, ◌^◌, ◌≤◌, Bool, false, List, [], ◌∷◌, ◌++◌, length, take, replicate, Some, None, refl, sym, ap, subst, ◌∙◌, arith, append-nil, append_assoc, inl, inr}
-use Rattle.std.specs.Prelude.{IsTrue, Option}
+use Rattle.std.specs.Prelude.{Option}
 use Rattle.std.proofs.Math.Nat.{mod-eq_of_lt}
 use Rattle.std.proofs.lemmas.Bool.{cases_lt}
 use Rattle.std.proofs.lemmas.List.{length-append, length-take, take_all, take_at, take-take, nil_from_length}
@@ -22,17 +22,17 @@ use Rattle.etcs_packets.specs.PacketReadings.{packet_reading, packets_reading}
 use Rattle.etcs_packets.specs.laws.PacketReadings.{packet_bits}
 use Rattle.etcs_sequence.specs.Contents.{closing}
 use Rattle.etcs_sequence.specs.laws.Agreement.{some_bits}
-use Rattle.etcs_sequence.specs.declared.state.PacketsState.{PacketsState}
+use Rattle.etcs_sequence.specs.AtOnce.{Holds}
+use Rattle.etcs_sequence.specs.declared.count.PacketCount.{PacketCount}
 use Rattle.etcs_sequence.specs.laws.BitLaws.{bits_spelled}
 use Rattle.etcs_sequence.specs.Refs.{ArePackets}
 use Rattle.etcs_telegram.specs.declared.size.Size.{Size}
 use Rattle.etcs_telegram.specs.declared.phase.Phase.{Phase}
-use Rattle.etcs_telegram.specs.declared.phase.Phase.TheVariants.{Whole}
 use Rattle.etcs_telegram.specs.declared.view.ViewFault.{ViewFault}
 use Rattle.etcs_telegram.specs.declared.view.ViewFault.TheVariants.{Refused}
 use Rattle.etcs_telegram.specs.Telegrams.{header_of, header_reading, HeaderValue, TelegramValue, TelegramLanguage, ReadsAs, closed_reading, user_bits, pad_bits, packet_room}
 use Rattle.etcs_telegram.specs.Headers.{IsHeaderNumbers}
-use Rattle.etcs_telegram.specs.Lefts.{left_at, next_at, stands_at, Filled, HoldsIn}
+use Rattle.etcs_telegram.specs.Lefts.{left_at, Filled, HoldsBy, TelegramState, Left, next_var, HoldsIn}
 use Rattle.etcs_telegram.specs.laws.RestLaws.{ended_whole}
 use Rattle.etcs_telegram.specs.Views.{ViewIn, OneRefusal}
 use Rattle.etcs_telegram.proofs.Encoding.{room_more, closed_length, user_small}
@@ -70,11 +70,11 @@ none_wanted size b x long o =
     o.open_end (r, l, e ∙ ap (λ (u : List Bool). b ++ u) none ∙ append-nil b)
 
 -- what is read of a telegram's bits, with packets that are counted
-abbrev pub counts : ℕ → List PacketValue → List ℕ → List Bool → Type 0
-counts packets vs f k = length vs % 2 ^ 64 ≡ packets
+abbrev pub counts : PacketCount → Holds
+counts store vs f k = length vs % 2 ^ 64 ≡ store.packets
 
-whole_seen : (size : Size) (b : List Bool) (header : List ℕ) (room packets : ℕ) (q : Reading) → TelegramLanguage size q → Filled header (counts packets) room 0 (pad_bits size) q → spelled q ≡ b → ViewIn size b (header_of header) packets (user_bits size - room) × IsHeaderNumbers header × (room ≤ user_bits size)
-whole_seen size b header room packets q l f e =
+whole_seen : (size : Size) (b : List Bool) (header : List ℕ) (room : ℕ) (store : PacketCount) (q : Reading) → TelegramLanguage size q → Filled header (counts store) room 0 (pad_bits size) q → spelled q ≡ b → ViewIn size b (header_of header) store.packets (user_bits size - room) × IsHeaderNumbers header × (room ≤ user_bits size)
+whole_seen size b header room store q l f e =
     let (reads, numbers) = whole_reads size header f.packets f.fill q f.ten f.carried l f.reading_is in
     let t : TelegramValue = record { size = size; header = header_of header; packets = f.packets; fill = f.fill } in
     let bits : 50 + length (spelled (closed_reading f.packets)) + room ≡ user_bits size = omega (arith, header_length (header_of header), reads.user_bits_is, f.room_is) in
@@ -92,29 +92,41 @@ whole_seen size b header room packets q l f e =
       omega (arith, bits),
     )
 
-pub all_seen : (size : Size) (L : Reading → Type 0) → Same L (TelegramLanguage size) → (b : List Bool) → length b ≡ user_bits size + pad_bits size → (size' : Size) (phase : Phase) (header : List ℕ) (l : PacketsState) (packets n : ℕ) (front behind : List Bool) (q : Reading) → size' ≡ size → IsTrue (stands_at phase (length header) l) → n ≤ length b → front ≡ [] → Residual L q (left_at size' phase l) → HoldsIn size' phase header l (counts packets) q → spelled q ++ behind ≡ front ++ take n b
-    → ((x : Var) → next_at phase l ≡ Some x → (n ≡ length b) × Owner L (front ++ take n b) x)
-    → ViewIn size b (header_of header) packets (user_bits size - l.room) × IsHeaderNumbers header × (l.room ≤ user_bits size)
-all_seen size L same b long size' phase header l packets n front behind q st stands le none residual held bits more =
-    by_next (next_at phase l) refl
-  where
-    taken : spelled q ++ behind ≡ take n b
-    taken = bits ∙ ap (λ (u : List Bool). u ++ take n b) none
+-- where these bits of all are taken, by the variables q
+pub record Passed (size : Size) (L : Reading → Type 0) (b : List Bool) (t : TelegramState PacketCount) (n : ℕ) (front behind : List Bool) (q : Reading) : Type 0 where
+  pub size_is : t.size ≡ size
+  pub within : n ≤ length b
+  pub none : front ≡ []
+  pub residual : Residual L q (Left t)
+  pub held : HoldsIn counts t q
+  pub bits : spelled q ++ behind ≡ front ++ take n b
+  pub more : (x : Var) → next_var t ≡ Some x → (n ≡ length b) × Owner L (front ++ take n b) x
 
-    by_next : (o : Option Var) → next_at phase l ≡ o → ViewIn size b (header_of header) packets (user_bits size - l.room) × IsHeaderNumbers header × (l.room ≤ user_bits size)
-    by_next (Some x) e =
-        let (all, o) = more x e in
-        let is : front ++ take n b ≡ b = ap (λ (u : List Bool). u ++ take n b) none ∙ take_all n b (omega (arith, all)) in
-        absurd (none_wanted size b x long (subst (λ (u : List Bool). Owner (TelegramLanguage size) u x) is (owner_along L (TelegramLanguage size) same (front ++ take n b) x o)))
-    by_next None e =
-        let whole : phase ≡ Whole = ended_whole phase (length header) l stands e in
-        let f : Filled header (counts packets) l.room 0 (pad_bits size) q = subst (λ (s : Size). Filled header (counts packets) l.room 0 (pad_bits s) q) st (subst (λ (p : Phase). HoldsIn size' p header l (counts packets) q) whole held) in
-        let d = subst (λ (p : Phase). Residual L q (left_at size' p l)) whole residual in
-        let t : TelegramLanguage size q = subst (TelegramLanguage size) (append-nil q) ((same (q ++ [])).0 (d.from [] refl)) in
-        let sum = ap (λ (u : List Bool). length u) taken ∙ length-take n b in
-        let rest : behind ≡ [] = nil_from_length behind (omega (arith, sum, length-append (spelled q) behind, whole_length size q t, long, le)) in
-        let is : spelled q ≡ b = sym (append-nil (spelled q)) ∙ ap (λ (u : List Bool). spelled q ++ u) (sym rest) ∙ taken ∙ take_all n b (omega (arith, sum, length-append (spelled q) behind, whole_length size q t, long, le)) in
-        whole_seen size b header l.room packets q t f is
+abbrev pub Seen : Size → List Bool → TelegramState PacketCount → Type 0
+Seen size b t = ViewIn size b (header_of t.header) t.store.packets (user_bits size - t.left.room) × IsHeaderNumbers t.header × (t.left.room ≤ user_bits size)
+
+module _ (size : Size) (L : Reading → Type 0) (same : Same L (TelegramLanguage size)) (b : List Bool) (long : length b ≡ user_bits size + pad_bits size) where
+  pub all_seen : (t : TelegramState PacketCount) (n : ℕ) (front behind : List Bool) (q : Reading) → Passed size L b t n front behind q → Seen size b t
+  all_seen t n front behind q p = by_next (next_var t) refl
+    where
+      taken : spelled q ++ behind ≡ take n b
+      taken = p.bits ∙ ap (λ (u : List Bool). u ++ take n b) p.none
+
+      by_next : (o : Option Var) → next_var t ≡ o → Seen size b t
+      by_next (Some x) e =
+          let (all, o) = p.more x e in
+          let is : front ++ take n b ≡ b = ap (λ (u : List Bool). u ++ take n b) p.none ∙ take_all n b (omega (arith, all)) in
+          absurd (none_wanted size b x long (subst (λ (u : List Bool). Owner (TelegramLanguage size) u x) is (owner_along L (TelegramLanguage size) same (front ++ take n b) x o)))
+      by_next None e =
+          let whole = ended_whole t e in
+          let f : Filled t.header (counts t.store) t.left.room 0 (pad_bits size) q = subst (λ (s : Size). Filled t.header (counts t.store) t.left.room 0 (pad_bits s) q) p.size_is (subst (λ (w : Phase). HoldsBy t.size w t.header t.left (counts t.store) q) whole p.held) in
+          let d = subst (λ (w : Phase). Residual L q (left_at t.size w t.left)) whole p.residual in
+          let l : TelegramLanguage size q = subst (TelegramLanguage size) (append-nil q) ((same (q ++ [])).0 (d.from [] refl)) in
+          let sum = ap (λ (u : List Bool). length u) taken ∙ length-take n b in
+          let le = p.within in
+          let rest : behind ≡ [] = nil_from_length behind (omega (arith, sum, length-append (spelled q) behind, whole_length size q l, long, le)) in
+          let is : spelled q ≡ b = sym (append-nil (spelled q)) ∙ ap (λ (u : List Bool). spelled q ++ u) (sym rest) ∙ taken ∙ take_all n b (omega (arith, sum, length-append (spelled q) behind, whole_length size q l, long, le)) in
+          whole_seen size b t.header t.left.room t.store q l f is
 
 -- ---- What is seen.
 

@@ -1,10 +1,12 @@
 -- What is left of a telegram, what comes next of it, and what its variables so far are (SUBSET-026, chapters 7 and 8).
-use Rattle.std.specs.Prelude.{◌≡◌, ℕ, ◌+◌, ◌-◌, ◌≤◌, Bool, true, false, not, List, [], ◌++◌, ◌==◌, length, drop, Option, Some, None, ◌&&◌, nat_lt, if◌then◌else◌, All}
+use Rattle.std.specs.Prelude.{◌≡◌, ℕ, ◌+◌, ◌-◌, ◌≤◌, Bool, true, false, not, List, [], ◌++◌, ◌==◌, length, drop, Option, Some, None, ◌&&◌, nat_lt, if◌then◌else◌, All, IsTrue}
 use Rattle.etcs_vars.specs.declared.var.Var.{Var}
 use Rattle.etcs_vars.specs.declared.var.Var.TheVariants.{FILL, PAD}
 use Rattle.etcs_vars.specs.Reading.{Reading, Then, spelled}
 use Rattle.etcs_vars.specs.Walking.{Residual}
 use Rattle.etcs_reader.specs.Fields.{ReadsFields, first_of}
+use Rattle.etcs_reader.specs.Rests.{LeapsBy}
+use Rattle.etcs_sequence.specs.AtOnce.{Holds}
 use Rattle.etcs_packets.specs.PacketValues.{PacketValue, IsPacket}
 use Rattle.etcs_sequence.specs.ChainLaws.{Chain}
 use Rattle.etcs_sequence.specs.declared.state.PacketsState.{PacketsState}
@@ -71,7 +73,7 @@ behind_packets size l = if is_closed l.stage then after_fill size l.room 0 else 
 -- ---- What is kept of it.
 
 -- FILL's bits that are left have room after those that are held
-abbrev pub FillFits : Phase → (List PacketValue → List ℕ → List Bool → Type 0) → Type 0
+abbrev pub FillFits : Phase → Holds → Type 0
 FillFits (Header at) holds = Unit {0}
 FillFits Packets holds = Unit {0}
 FillFits (Fill left) holds = (vs : List PacketValue) × (k : List Bool) × holds vs [] k × (length k + left ≤ 8191)
@@ -80,7 +82,7 @@ FillFits Whole holds = Unit {0}
 
 -- q are ten numbers of the header, whole packets with packet 255, the bits of FILL that such a room takes but for
 -- these that are left, and this many of PAD
-pub record Filled (header : List ℕ) (holds : List PacketValue → List ℕ → List Bool → Type 0) (room left zeros : ℕ) (q : Reading) : Type 0 where
+pub record Filled (header : List ℕ) (holds : Holds) (room left zeros : ℕ) (q : Reading) : Type 0 where
   pub ten : length header ≡ 10
   pub packets : List PacketValue
   pub fill : List Bool
@@ -90,15 +92,45 @@ pub record Filled (header : List ℕ) (holds : List PacketValue → List ℕ →
   pub reading_is : q ≡ labelled header_row header ++ behind_header (closed_reading packets) fill zeros
 
 -- q are the variables so far, of which so much is held
-abbrev pub HoldsIn : Size → Phase → List ℕ → PacketsState → (List PacketValue → List ℕ → List Bool → Type 0) → Reading → Type 0
-HoldsIn size (Header at) header l holds q = (q ≡ labelled header_row header) × HoldsAt l.carrier l.stage holds []
-HoldsIn size Packets header l holds q = (h : Reading) × (q ≡ labelled header_row header ++ h) × HoldsAt l.carrier l.stage holds h
-HoldsIn size (Fill left) header l holds q = Filled header holds l.room left 0 q
-HoldsIn size (Pad left) header l holds q = (zeros : ℕ) × (zeros + left ≡ pad_bits size) × Filled header holds l.room 0 zeros q
-HoldsIn size Whole header l holds q = Filled header holds l.room 0 (pad_bits size) q
+abbrev pub HoldsBy : Size → Phase → List ℕ → PacketsState → Holds → Reading → Type 0
+HoldsBy size (Header at) header l holds q = (q ≡ labelled header_row header) × HoldsAt l.carrier l.stage holds []
+HoldsBy size Packets header l holds q = (h : Reading) × (q ≡ labelled header_row header ++ h) × HoldsAt l.carrier l.stage holds h
+HoldsBy size (Fill left) header l holds q = Filled header holds l.room left 0 q
+HoldsBy size (Pad left) header l holds q = (zeros : ℕ) × (zeros + left ≡ pad_bits size) × Filled header holds l.room 0 zeros q
+HoldsBy size Whole header l holds q = Filled header holds l.room 0 (pad_bits size) q
+
+-- ---- A telegram of which some was read.
+
+-- its size, what comes next, the header's numbers so far, what is left of packets, and where these go
+pub record TelegramState (S : Type 0) : Type 0 where
+  pub size : Size
+  pub phase : Phase
+  pub header : List ℕ
+  pub left : PacketsState
+  pub store : S
+  pub stands : IsTrue (stands_at phase (length header) left)
+
+-- the readings that are left of it
+abbrev pub Left : {S : Type 0} → TelegramState S → Reading → Type 0
+Left s = left_at s.size s.phase s.left
+
+-- its variable that comes next
+abbrev pub next_var : {S : Type 0} → TelegramState S → Option Var
+next_var s = next_at s.phase s.left
+
+abbrev pub MayAsk : {S : Type 0} → TelegramState S → Type 0
+MayAsk s = IsTrue (may_ask s.phase s.left)
+
+-- q are its variables so far, of which so much is held
+abbrev pub HoldsIn : {S : Type 0} → (S → Holds) → TelegramState S → Reading → Type 0
+HoldsIn holds s q = HoldsBy s.size s.phase s.header s.left (holds s.store) q
 
 -- by the variables p the first comes to the second, with what is kept
-pub record Follows (size : Size) (phase : Phase) (header : List ℕ) (l : PacketsState) (holds : List PacketValue → List ℕ → List Bool → Type 0) (p : Reading) (size' : Size) (phase' : Phase) (header' : List ℕ) (l' : PacketsState) (holds' : List PacketValue → List ℕ → List Bool → Type 0) : Type 0 where
-  pub same : size' ≡ size
-  pub residual : Residual (left_at size phase l) p (left_at size' phase' l')
-  pub held : (q : Reading) → HoldsIn size phase header l holds q → HoldsIn size' phase' header' l' holds' (q ++ p)
+pub record Follows {S : Type 0} (holds : S → Holds) (s : TelegramState S) (p : Reading) (t : TelegramState S) : Type 0 where
+  pub same : t.size ≡ s.size
+  pub residual : Residual (Left s) p (Left t)
+  pub held : (q : Reading) → HoldsIn holds s q → HoldsIn holds t (q ++ p)
+
+-- and by n bits of xs from at on, after which something is left
+abbrev pub Leaps : {S : Type 0} → (S → Holds) → TelegramState S → TelegramState S → List Bool → ℕ → ℕ → Type 0
+Leaps holds s t xs at n = LeapsBy (Left t) (λ p. Follows holds s p t) xs at n

@@ -7,8 +7,7 @@ use Rattle.etcs_packets.specs.PacketValues.{form, packet_value, IsPacket, IsMade
 use Rattle.etcs_packets.specs.PacketReadings.{packets_reading}
 use Rattle.etcs_tables.specs.declared.row.Way.TheVariants.{ToTrain}
 use Rattle.etcs_sequence.specs.Runs.{Begun}
-use Rattle.etcs_sequence.specs.declared.state.PacketsState.{PacketsState}
-use Rattle.etcs_sequence.specs.declared.list.PacketList.{PacketList}
+use Rattle.etcs_sequence.specs.AtOnce.{Holds}
 use Rattle.etcs_sequence.specs.Labels.{labelled}
 use Rattle.etcs_sequence.specs.Held.{list_holds, packets_so_far}
 use Rattle.etcs_sequence.specs.Readables.{ItemValue}
@@ -19,7 +18,8 @@ use Rattle.etcs_telegram.specs.declared.phase.Phase.TheVariants.{Header, Packets
 use Rattle.etcs_telegram.specs.Telegrams.{user_bits, pad_bits, closed_reading, header_of, TelegramContent, TelegramLanguage}
 use Rattle.etcs_tables.specs.Headers.{header_row}
 use Rattle.etcs_telegram.specs.Phases.{behind_header}
-use Rattle.etcs_telegram.specs.Lefts.{HoldsIn}
+use Rattle.etcs_telegram.specs.declared.store.TelegramStore.{TelegramStore}
+use Rattle.etcs_telegram.specs.Lefts.{TelegramState, HoldsIn}
 
 abbrev pub ReaderValue : Type 0
 ReaderValue = ItemValue Size TelegramContent
@@ -28,20 +28,26 @@ ReaderValue = ItemValue Size TelegramContent
 abbrev pub telegram_bits : TelegramContent → ℕ
 telegram_bits t = user_bits t.size + pad_bits t.size
 
--- the variables so far
-abbrev pub so_far : Size → Phase → List ℕ → PacketsState → PacketList Packet → Reading
-so_far size (Header at) header left store = labelled header_row header
-so_far size Packets header left store = labelled header_row header ++ packets_so_far form left.carrier left.stage store.packets.items store.numbers.items store.bits
-so_far size (Fill n) header left store = labelled header_row header ++ behind_header (closed_reading (map packet_value store.packets.items)) store.bits 0
-so_far size (Pad n) header left store = labelled header_row header ++ behind_header (closed_reading (map packet_value store.packets.items)) store.bits (pad_bits size - n)
-so_far size Whole header left store = labelled header_row header ++ behind_header (closed_reading (map packet_value store.packets.items)) store.bits (pad_bits size)
+abbrev pub store_holds : TelegramStore → Holds
+store_holds store = list_holds form store.list.packets.items store.list.numbers.items store.list.bits
 
-abbrev pub telegram_by : Size → List ℕ → PacketList Packet → TelegramContent
-telegram_by size header store = record { size = size; header = header_of header; packets = store.packets.items; fill = store.bits }
+-- the variables so far, where this comes next
+abbrev pub far_at : Phase → TelegramState TelegramStore → Reading
+far_at (Header at) s = labelled header_row s.header
+far_at Packets s = labelled header_row s.header ++ packets_so_far form s.left.carrier s.left.stage s.store.list.packets.items s.store.list.numbers.items s.store.list.bits
+far_at (Fill n) s = labelled header_row s.header ++ behind_header (closed_reading (map packet_value s.store.list.packets.items)) s.store.list.bits 0
+far_at (Pad n) s = labelled header_row s.header ++ behind_header (closed_reading (map packet_value s.store.list.packets.items)) s.store.list.bits (pad_bits s.size - n)
+far_at Whole s = labelled header_row s.header ++ behind_header (closed_reading (map packet_value s.store.list.packets.items)) s.store.list.bits (pad_bits s.size)
+
+abbrev pub so_far : TelegramState TelegramStore → Reading
+so_far s = far_at s.phase s
+
+abbrev pub telegram_by : TelegramState TelegramStore → TelegramContent
+telegram_by s = record { size = s.size; header = header_of s.header; packets = s.store.list.packets.items; fill = s.store.list.bits }
 
 -- q are the variables so far, of which so much is held, of a telegram of the reader's own size
-abbrev pub OwnHeld : Size → Size → Phase → List ℕ → PacketsState → PacketList Packet → Reading → Type 0
-OwnHeld own size phase header left store q = (size ≡ own) × HoldsIn size phase header left (list_holds form store.packets.items store.numbers.items store.bits) q
+abbrev pub OwnHeld : Size → TelegramState TelegramStore → Reading → Type 0
+OwnHeld own s q = (s.size ≡ own) × HoldsIn store_holds s q
 
 -- ---- What it holds between two pieces.
 

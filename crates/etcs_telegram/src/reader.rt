@@ -41,13 +41,13 @@ impl ItemRest for TelegramRest<TelegramStore> {
 
     ghost least = { 50 };
 
-    ghost far = { λ s. so_far s.size s.phase s.header.items s.packets.left s.packets.store.list };
+    ghost far = { so_far };
 
-    ghost holds = { λ size s. OwnHeld size s.size s.phase s.header.items s.packets.left s.packets.store.list };
+    ghost holds = { OwnHeld };
 
-    ghost made = { λ s. telegram_by s.size s.header.items s.packets.store.list };
+    ghost made = { telegram_by };
 
-    ghost store = { λ s. s.packets.store.list };
+    ghost store = { λ s. s.store.list };
 
     ghost Members = { Members };
 

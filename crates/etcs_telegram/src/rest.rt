@@ -7,11 +7,11 @@ ghost use Rattle.etcs_vars.specs.declared.var.Var.{Var};
 ghost use Rattle.etcs_vars.specs.declared.var.Var.TheVariants.{FILL, PAD};
 ghost use Rattle.etcs_vars.proofs.Languages.{Same};
 ghost use Rattle.etcs_tables.specs.declared.row.Way.TheVariants.{ToTrain};
-ghost use Rattle.etcs_reader.specs.Rests.{Goes, Starts, LeapsBy};
+ghost use Rattle.etcs_reader.specs.Rests.{Goes, Starts};
 ghost use Rattle.etcs_telegram.specs.declared.size.Size.{Size};
 ghost use Rattle.etcs_telegram.specs.Telegrams.{TelegramLanguage};
 ghost use Rattle.etcs_telegram.specs.Phases.{after_pad};
-ghost use Rattle.etcs_telegram.specs.Lefts.{left_at, next_at, stands_at, may_ask, behind_packets, FillFits, HoldsIn, Follows};
+ghost use Rattle.etcs_telegram.specs.Lefts.{stands_at, behind_packets, Left, next_var, MayAsk, HoldsIn, Follows, Leaps};
 ghost use Rattle.etcs_telegram.specs.laws.RestLaws.{rest_regular, rest_begins, rest_ended, follows_none, follows_along};
 
 use crate::header_bits::header_at;
@@ -25,6 +25,7 @@ use etcs_sequence::inner::{bits_at, number_at, run_at};
 use etcs_sequence::{PacketStore, PacketsRest, PacketsState, Stage};
 use etcs_vars::{Var, begins};
 use std::alloc::AllocError;
+use std::marker::Model;
 
 /// What is left of a telegram, and what is kept of the variables that were read.
 #[derive(Drop)]
@@ -36,7 +37,20 @@ pub struct TelegramRest<S: PacketStore> {
     /// The packets. FILL's bits are in their store.
     pub(crate) packets: PacketsRest<S>,
     ghost stands: { IsTrue (stands_at phase (length header.items) packets.left) },
-    ghost fits: { ∥ FillFits phase (S.holds packets.store) ∥₁ },
+}
+
+impl<S: PacketStore> Model for TelegramRest<S> {
+    ghost use Rattle.std.specs.Coded.{codes};
+    ghost use Rattle.etcs_sequence.specs.contracts.state.PacketsState as packets_state;
+    ghost use Rattle.etcs_telegram.specs.Lefts.{TelegramState, FillFits};
+
+    ghost Value = { TelegramState S };
+
+    ghost coded = { Prim.hlevel (codes, packets_state.the_row.coded) };
+
+    ghost view = { λ s. record { size = s.size; phase = s.phase; header = s.header.items; left = s.packets.left; store = s.packets.store; stands = s.stands } };
+
+    ghost invariant = { λ s. ∥ FillFits s.phase (S.holds s.packets.store) ∥₁ };
 }
 
 /// What comes after a variable of the packets.
@@ -66,9 +80,9 @@ impl<S: PacketStore> TelegramRest<S> {
         requires way { ToTrain ≡ S.WAY }
         requires none { S.holds store [] [] [] }
         ensures size { result.size ≡ size }
-        ensures store { result.packets.store ≡ store }
-        ensures left { Same (left_at result.size result.phase result.packets.left) (TelegramLanguage size) }
-        ensures holds { HoldsIn result.size result.phase result.header.items result.packets.left (S.holds result.packets.store) [] }
+        ensures store { result.store ≡ store }
+        ensures left { Same (Left result) (TelegramLanguage size) }
+        ensures holds { HoldsIn S.holds result [] }
     {
         TelegramRest {
             size,
@@ -81,7 +95,7 @@ impl<S: PacketStore> TelegramRest<S> {
     /// After a number of the header.
     fn pass_header(&mut self, at: usize, number: u64)
         requires phase { self.old.phase ≡ Phase.Header at }
-        ensures { (x : Var) → next_at self.old.phase self.old.packets.left ≡ Some x → Starts (left_at self.old.size self.old.phase self.old.packets.left) x 0 number → Follows self.old.size self.old.phase self.old.header.items self.old.packets.left (S.holds self.old.packets.store) ((x, number) ∷ []) self.new.size self.new.phase self.new.header.items self.new.packets.left (S.holds self.new.packets.store) }
+        ensures { (x : Var) → next_var self.old ≡ Some x → Starts (Left self.old) x 0 number → Follows S.holds self.old ((x, number) ∷ []) self.new }
     {
         self.header.push(number);
         self.phase = Phase::after_header(at);
@@ -92,9 +106,9 @@ impl<S: PacketStore> TelegramRest<S> {
         requires phase { self.old.phase ≡ Phase.Header 0 }
         requires inside { at < length (bits piece.now) }
         requires small { length (bits piece.now) < 2 ^ 64 }
-        requires goes { Goes (left_at self.old.size self.old.phase self.old.packets.left) }
+        requires goes { Goes (Left self.old) }
         ensures none { IsNone result → self.new ≡ self.old }
-        ensures some { IfSome result (λ n. LeapsBy (left_at self.new.size self.new.phase self.new.packets.left) (λ p. Follows self.old.size self.old.phase self.old.header.items self.old.packets.left (S.holds self.old.packets.store) p self.new.size self.new.phase self.new.header.items self.new.packets.left (S.holds self.new.packets.store)) (bits piece.now) at n) }
+        ensures some { IfSome result (λ n. Leaps S.holds self.old self.new (bits piece.now) at n) }
     {
         let (numbers, end) = header_at(piece, at)?;
         self.header = numbers;
@@ -105,10 +119,10 @@ impl<S: PacketStore> TelegramRest<S> {
     /// After a variable of the packets.
     fn pass_packets(&mut self, var: Var, number: u64) -> Result<(), AllocError>
         requires phase { self.old.phase ≡ Phase.Packets }
-        requires next { next_at self.old.phase self.old.packets.left ≡ Some var }
-        requires goes { Starts (left_at self.old.size self.old.phase self.old.packets.left) var 0 number }
-        ensures ok { OnOk result (Follows self.old.size self.old.phase self.old.header.items self.old.packets.left (S.holds self.old.packets.store) ((var, number) ∷ []) self.new.size self.new.phase self.new.header.items self.new.packets.left (S.holds self.new.packets.store)) }
-        ensures err { OnErr result (S.fails × IsTrue (may_ask self.old.phase self.old.packets.left)) }
+        requires next { next_var self.old ≡ Some var }
+        requires goes { Starts (Left self.old) var 0 number }
+        ensures ok { OnOk result (Follows S.holds self.old ((var, number) ∷ []) self.new) }
+        ensures err { OnErr result (S.fails × MayAsk self.old) }
     {
         self.phase = Phase::Whole;
         let packets = &mut self.packets;
@@ -122,11 +136,11 @@ impl<S: PacketStore> TelegramRest<S> {
         requires phase { self.old.phase ≡ Phase.Packets }
         requires inside { at < length (bits piece.now) }
         requires small { length (bits piece.now) < 2 ^ 64 }
-        requires goes { Goes (left_at self.old.size self.old.phase self.old.packets.left) }
+        requires goes { Goes (Left self.old) }
         ensures none { IfOk result (λ o. IsNone o → self.new ≡ self.old) }
-        ensures some { IfOk result (λ o. IfSome o (λ n. LeapsBy (left_at self.new.size self.new.phase self.new.packets.left) (λ p. Follows self.old.size self.old.phase self.old.header.items self.old.packets.left (S.holds self.old.packets.store) p self.new.size self.new.phase self.new.header.items self.new.packets.left (S.holds self.new.packets.store)) (bits piece.now) at n)) }
-        ensures err { OnErr result (S.fails × IsTrue (may_ask self.old.phase self.old.packets.left)) }
-        ensures viable { OnErr result (Viable (left_at self.old.size self.old.phase self.old.packets.left) (part at 1 (bits piece.now))) }
+        ensures some { IfOk result (λ o. IfSome o (λ n. Leaps S.holds self.old self.new (bits piece.now) at n)) }
+        ensures err { OnErr result (S.fails × MayAsk self.old) }
+        ensures viable { OnErr result (Viable (Left self.old) (part at 1 (bits piece.now))) }
     {
         self.phase = Phase::Whole;
         let packets = &mut self.packets;
@@ -140,9 +154,9 @@ impl<S: PacketStore> TelegramRest<S> {
     fn fill(&mut self, left: usize, slice: &BitSlice<'_>) -> Result<(), AllocError>
         requires phase { self.old.phase ≡ Phase.Fill left }
         requires within { length slice.now ≤ left }
-        ensures ok { OnOk result (Follows self.old.size self.old.phase self.old.header.items self.old.packets.left (S.holds self.old.packets.store) (kept FILL slice.now) self.new.size self.new.phase self.new.header.items self.new.packets.left (S.holds self.new.packets.store)) }
-        ensures goes { OnOk result (Goes (left_at self.new.size self.new.phase self.new.packets.left)) }
-        ensures err { OnErr result (S.fails × IsTrue (may_ask self.old.phase self.old.packets.left)) }
+        ensures ok { OnOk result (Follows S.holds self.old (kept FILL slice.now) self.new) }
+        ensures goes { OnOk result (Goes (Left self.new)) }
+        ensures err { OnErr result (S.fails × MayAsk self.old) }
     {
         self.phase = Phase::Whole;
         let packets = &mut self.packets;
@@ -155,8 +169,8 @@ impl<S: PacketStore> TelegramRest<S> {
     fn pass_fill(&mut self, left: usize, number: u64) -> Result<(), AllocError>
         requires phase { self.old.phase ≡ Phase.Fill left }
         requires small { number < 2 }
-        ensures ok { OnOk result (Follows self.old.size self.old.phase self.old.header.items self.old.packets.left (S.holds self.old.packets.store) ((FILL, number) ∷ []) self.new.size self.new.phase self.new.header.items self.new.packets.left (S.holds self.new.packets.store)) }
-        ensures err { OnErr result (S.fails × IsTrue (may_ask self.old.phase self.old.packets.left)) }
+        ensures ok { OnOk result (Follows S.holds self.old ((FILL, number) ∷ []) self.new) }
+        ensures err { OnErr result (S.fails × MayAsk self.old) }
     {
         let byte = [number as u8];
         self.fill(left, &bits_at(&byte, 7, 1))
@@ -173,9 +187,9 @@ impl<S: PacketStore> TelegramRest<S> {
         requires inside { at < length (bits piece.now) }
         requires small { length (bits piece.now) < 2 ^ 64 }
         ensures none { IfOk result (λ o. IsNone o → self.new ≡ self.old) }
-        ensures some { IfOk result (λ o. IfSome o (λ n. LeapsBy (left_at self.new.size self.new.phase self.new.packets.left) (λ p. Follows self.old.size self.old.phase self.old.header.items self.old.packets.left (S.holds self.old.packets.store) p self.new.size self.new.phase self.new.header.items self.new.packets.left (S.holds self.new.packets.store)) (bits piece.now) at n)) }
-        ensures err { OnErr result (S.fails × IsTrue (may_ask self.old.phase self.old.packets.left)) }
-        ensures viable { OnErr result (Viable (left_at self.old.size self.old.phase self.old.packets.left) (part at 1 (bits piece.now))) }
+        ensures some { IfOk result (λ o. IfSome o (λ n. Leaps S.holds self.old self.new (bits piece.now) at n)) }
+        ensures err { OnErr result (S.fails × MayAsk self.old) }
+        ensures viable { OnErr result (Viable (Left self.old) (part at 1 (bits piece.now))) }
     {
         let run = run_at(piece, at, left);
         self.fill(left, &run)?;
@@ -185,7 +199,7 @@ impl<S: PacketStore> TelegramRest<S> {
     /// After a bit of PAD, of which `left` are wanted.
     fn pass_pad(&mut self, left: usize)
         requires phase { self.old.phase ≡ Phase.Pad left }
-        ensures { Follows self.old.size self.old.phase self.old.header.items self.old.packets.left (S.holds self.old.packets.store) ((PAD, 0) ∷ []) self.new.size self.new.phase self.new.header.items self.new.packets.left (S.holds self.new.packets.store) }
+        ensures { Follows S.holds self.old ((PAD, 0) ∷ []) self.new }
     {
         self.phase = behind_pad(left);
     }
@@ -197,7 +211,7 @@ impl<S: PacketStore> TelegramRest<S> {
         requires inside { at < length (bits piece.now) }
         requires small { length (bits piece.now) < 2 ^ 64 }
         ensures none { IsNone result → self.new ≡ self.old }
-        ensures some { IfSome result (λ n. LeapsBy (left_at self.new.size self.new.phase self.new.packets.left) (λ p. Follows self.old.size self.old.phase self.old.header.items self.old.packets.left (S.holds self.old.packets.store) p self.new.size self.new.phase self.new.header.items self.new.packets.left (S.holds self.new.packets.store)) (bits piece.now) at n) }
+        ensures some { IfSome result (λ n. Leaps S.holds self.old self.new (bits piece.now) at n) }
     {
         if left > 8 || piece.len() * 8 - at < left || number_at(piece, at, left) > 0 {
             return None;
@@ -208,13 +222,13 @@ impl<S: PacketStore> TelegramRest<S> {
 }
 
 impl<S: PacketStore> Rest for TelegramRest<S> {
-    ghost left = { λ s. left_at s.size s.phase s.packets.left };
+    ghost left = { Left };
 
-    ghost next = { λ s. next_at s.phase s.packets.left };
+    ghost next = { next_var };
 
-    ghost follows = { λ s p t. Follows s.size s.phase s.header.items s.packets.left (S.holds s.packets.store) p t.size t.phase t.header.items t.packets.left (S.holds t.packets.store) };
+    ghost follows = { Follows S.holds };
 
-    ghost fails = { λ s. S.fails × IsTrue (may_ask s.phase s.packets.left) };
+    ghost fails = { λ s. S.fails × MayAsk s };
 
     #[inline]
     fn var(&self) -> Option<Var> {
@@ -265,15 +279,24 @@ impl<S: PacketStore> Rest for TelegramRest<S> {
         }
     }
 
-    ghost regular = { λ s. rest_regular s.size s.packets.left s.phase };
+    #[inline]
+    fn run(&self) -> usize {
+        match self.phase {
+            Phase::Packets => self.packets.run(),
+            Phase::Fill(left) => left,
+            _ => 0,
+        }
+    }
 
-    ghost begins_with = { λ s. rest_begins s.size s.packets.left s.phase (length s.header.items) s.stands };
+    ghost regular = { rest_regular };
 
-    ghost ended = { λ s. rest_ended s.size s.phase (length s.header.items) s.packets.left s.stands };
+    ghost begins_with = { rest_begins };
+
+    ghost ended = { rest_ended };
 
     ghost residual = { λ s t p h. h.residual };
 
-    ghost none = { λ s. follows_none s.size s.phase s.header.items s.packets.left (S.holds s.packets.store) };
+    ghost none = { follows_none S.holds };
 
-    ghost both = { λ s t u p q h k. follows_along s.size s.phase s.header.items s.packets.left (S.holds s.packets.store) p t.size t.phase t.header.items t.packets.left (S.holds t.packets.store) q u.size u.phase u.header.items u.packets.left (S.holds u.packets.store) h k };
+    ghost both = { follows_along S.holds };
 }

@@ -17,8 +17,8 @@ use etcs_rows::inner::Carrier;
 use etcs_sequence::PacketStore;
 use etcs_sequence::inner::{Room, bits_at, number_at, take_run};
 
-/// The telegram of this size that a piece begins with. `None` says nothing: where the piece begins with none, and where
-/// memory is refused.
+/// The telegram of this size that a piece begins with. It may always return `None`, as where the piece begins with none, and
+/// where memory is refused.
 pub(crate) fn telegram_at(room: &mut Room<Packet>, size: Size, piece: &[u8]) -> Option<Telegram>
     requires { length (bits piece.now) < 2 ^ 64 }
     ensures within { IfSome result (λ t. container_bytes size ≤ length piece.now) }

@@ -1,5 +1,5 @@
 -- What the reader asks of what is left of a message.
-use Rattle.std.proofs.Common.{◌≡◌, ℕ, ◌-◌, ◌*◌, ◌^◌, ◌<◌, Bool, List, [], ◌++◌, length, drop, Some, None, refl, subst, sym, append_assoc, append-nil}
+use Rattle.std.proofs.Common.{◌≡◌, ℕ, ◌-◌, ◌*◌, ◌^◌, ◌<◌, List, [], ◌++◌, length, drop, Some, None, refl, subst, sym, ◌∙◌, append_assoc, append-nil}
 use Rattle.std.specs.Prelude.{IsTrue, Option, ◌&&◌, ◌==◌, not, nat_lt}
 use Rattle.std.proofs.lemmas.Bool.{and_parts, ltb-true, not-true}
 use Rattle.etcs_vars.specs.declared.var.Var.{Var}
@@ -9,12 +9,12 @@ use Rattle.etcs_vars.proofs.Stepping.{Opens}
 use Rattle.etcs_vars.proofs.Walk.{Regular}
 use Rattle.etcs_tables.specs.declared.row.Way.{Way}
 use Rattle.etcs_rows.specs.declared.frames.Carrier.TheVariants.{Message}
-use Rattle.etcs_packets.specs.PacketValues.{PacketValue}
 use Rattle.etcs_sequence.specs.Contents.{PacketsIn, KeptIn}
 use Rattle.etcs_sequence.specs.laws.Agreement.{run_regular}
 use Rattle.etcs_reader.specs.Rests.{BeginsWith, Ended}
 use Rattle.etcs_reader.specs.Fields.{ReadsFields}
 use Rattle.etcs_reader.specs.laws.FieldLaws.{residual_none, residual_along, fields_regular, fields_begin}
+use Rattle.etcs_sequence.specs.AtOnce.{Holds}
 use Rattle.etcs_sequence.specs.declared.state.PacketsState.{PacketsState}
 use Rattle.etcs_sequence.specs.laws.BitLaws.{bits_regular, bits_begin}
 use Rattle.etcs_sequence.specs.laws.ChainLaws.{chain_regular, chain_begins}
@@ -25,7 +25,7 @@ use Rattle.etcs_sequence.specs.laws.OpenLaws.{part_regular, opens_begins, opens_
 use Rattle.etcs_sequence.specs.laws.StageLaws.{open_next}
 use Rattle.etcs_messages.specs.declared.phase.Phase.{Phase}
 use Rattle.etcs_messages.specs.declared.phase.Phase.TheVariants as phase
-use Rattle.etcs_messages.specs.Lefts.{front_row, front_vars, front_bits, PaddingLeft, PaddedBy, Padded, PacketsBehind, PacketsFrom, Behind, LengthLeft, NumberLeft, left_at, next_at, is_message, stands_at, HoldsIn, Follows}
+use Rattle.etcs_messages.specs.Lefts.{front_row, front_vars, front_bits, PaddingLeft, PaddedBy, Padded, PacketsBehind, PacketsFrom, Behind, LengthLeft, NumberLeft, left_at, next_at, is_message, stands_at, MessageState, Left, next_var, HoldsIn, Follows}
 
 -- ---- NID_MESSAGE and L_MESSAGE.
 
@@ -74,56 +74,72 @@ number_regular way = opens_regular (NumberLeft way) NID_MESSAGE (AfterNumber way
 behind_regular : (l : PacketsState) → Regular (PacketsBehind l)
 behind_regular l = padded_regular (left_of l.carrier l.room l.stage) (ahead l.carrier l.room l.stage) (left_regular l.carrier l.room l.stage)
 
-pub rest_regular : (way : Way) (nid : ℕ) (l : PacketsState) (stage : Phase) → Regular (left_at way nid stage l)
-rest_regular way nid l phase.Number = number_regular way
-rest_regular way nid l phase.Length = length_regular way nid
-rest_regular way nid l (phase.Front at) = chain_regular (ReadsFields (drop at (front_vars way nid))) (λ _. PacketsBehind l) (fields_regular (drop at (front_vars way nid))) (λ _ _. behind_regular l)
-rest_regular way nid l phase.Packets = behind_regular l
-rest_regular way nid l (phase.Padding left) = bits_regular PADDING refl left
-rest_regular way nid l (phase.Data left) = kept_regular left
-rest_regular way nid l phase.Whole = record { agree = λ a b e f. rw (e, f) tt; fit = λ a e. rw e tt }
+regular_at : (way : Way) (nid : ℕ) (l : PacketsState) (stage : Phase) → Regular (left_at way nid stage l)
+regular_at way nid l phase.Number = number_regular way
+regular_at way nid l phase.Length = length_regular way nid
+regular_at way nid l (phase.Front at) = chain_regular (ReadsFields (drop at (front_vars way nid))) (λ _. PacketsBehind l) (fields_regular (drop at (front_vars way nid))) (λ _ _. behind_regular l)
+regular_at way nid l phase.Packets = behind_regular l
+regular_at way nid l (phase.Padding left) = bits_regular PADDING refl left
+regular_at way nid l (phase.Data left) = kept_regular left
+regular_at way nid l phase.Whole = record { agree = λ a b e f. rw (e, f) tt; fit = λ a e. rw e tt }
 
-pub rest_begins : (way : Way) (nid : ℕ) (l : PacketsState) (stage : Phase) (n : ℕ) → IsTrue (stands_at way nid stage n l) → (x : Var) → next_at way nid stage l ≡ Some x → BeginsWith (left_at way nid stage l) x
-rest_begins way nid l phase.Number n h x e =
+begins_at : (way : Way) (nid : ℕ) (l : PacketsState) (stage : Phase) (n : ℕ) → IsTrue (stands_at way nid stage n l) → (x : Var) → next_at way nid stage l ≡ Some x → BeginsWith (left_at way nid stage l) x
+begins_at way nid l phase.Number n h x e =
     let same : NID_MESSAGE ≡ x = cc in
     subst (BeginsWith (NumberLeft way)) same (opens_begins (NumberLeft way) NID_MESSAGE (AfterNumber way) (number_opens way))
-rest_begins way nid l phase.Length n h x e =
+begins_at way nid l phase.Length n h x e =
     let same : L_MESSAGE ≡ x = cc in
     subst (BeginsWith (LengthLeft way nid)) same (opens_begins (LengthLeft way nid) L_MESSAGE (Behind way (front_row way nid)) (length_opens way nid))
-rest_begins way nid l (phase.Front at) n h x e = chain_begins (ReadsFields (drop at (front_vars way nid))) (λ _. PacketsBehind l) x (fields_begin (drop at (front_vars way nid)) x e)
-rest_begins way nid l phase.Packets n h x e = chain_begins (left_of l.carrier l.room l.stage) (PaddedBy (ahead l.carrier l.room l.stage)) x (left_begins l.carrier l.room l.stage l.stands x e)
-rest_begins way nid l (phase.Padding left) n h x e =
+begins_at way nid l (phase.Front at) n h x e = chain_begins (ReadsFields (drop at (front_vars way nid))) (λ _. PacketsBehind l) x (fields_begin (drop at (front_vars way nid)) x e)
+begins_at way nid l phase.Packets n h x e = chain_begins (left_of l.carrier l.room l.stage) (PaddedBy (ahead l.carrier l.room l.stage)) x (left_begins l.carrier l.room l.stage l.stands x e)
+begins_at way nid l (phase.Padding left) n h x e =
     let same : PADDING ≡ x = cc in
     subst (BeginsWith (PaddingLeft left)) same (bits_begin PADDING refl left (ltb-true 0 left (and_parts (nat_lt 0 left) (nat_lt left 8) h).0))
-rest_begins way nid l (phase.Data left) n h x e =
+begins_at way nid l (phase.Data left) n h x e =
     let same : OTHER_DATA ≡ x = cc in
     subst (BeginsWith (KeptIn left)) same (bits_begin OTHER_DATA refl left (ltb-true 0 left (and_parts (nat_lt 0 left) (is_closed l.stage) h).0))
-rest_begins way nid l phase.Whole n h x e = absurd cc
+begins_at way nid l phase.Whole n h x e = absurd cc
 
-pub rest_ended : (way : Way) (nid : ℕ) (stage : Phase) (n : ℕ) (l : PacketsState) → IsTrue (stands_at way nid stage n l) → next_at way nid stage l ≡ None → Ended (left_at way nid stage l)
-rest_ended way nid phase.Number n l h e = absurd cc
-rest_ended way nid phase.Length n l h e = absurd cc
-rest_ended way nid (phase.Front at) n l h e =
+whole_at : (way : Way) (nid : ℕ) (stage : Phase) (n : ℕ) (l : PacketsState) → IsTrue (stands_at way nid stage n l) → next_at way nid stage l ≡ None → stage ≡ phase.Whole
+whole_at way nid phase.Number n l h e = absurd cc
+whole_at way nid phase.Length n l h e = absurd cc
+whole_at way nid (phase.Front at) n l h e =
     let below = and_parts (nat_lt at (length (front_vars way nid))) ((n == at) && is_message way l) h in
     absurd (some_first (front_vars way nid) at (ltb-true at (length (front_vars way nid)) below.0) e)
-rest_ended way nid phase.Packets n l h e =
+whole_at way nid phase.Packets n l h e =
     let both = and_parts (is_message way l) (not (is_closed l.stage)) h in
     absurd (open_next l.carrier l.room l.stage l.stands (not-true (is_closed l.stage) both.1) e)
-rest_ended way nid (phase.Padding left) n l h e = absurd cc
-rest_ended way nid (phase.Data left) n l h e = absurd cc
-rest_ended way nid phase.Whole n l h e = λ r k. k
+whole_at way nid (phase.Padding left) n l h e = absurd cc
+whole_at way nid (phase.Data left) n l h e = absurd cc
+whole_at way nid phase.Whole n l h e = refl
+
+module _ {S : Type 0} (s : MessageState S) where
+  pub rest_regular : Regular (Left s)
+  rest_regular = regular_at s.way s.nid s.left s.phase
+
+  pub rest_begins : (x : Var) → next_var s ≡ Some x → BeginsWith (Left s) x
+  rest_begins x e = begins_at s.way s.nid s.left s.phase (length s.front) s.stands x e
+
+  -- where nothing comes next, the message is whole
+  pub ended_whole : next_var s ≡ None → s.phase ≡ phase.Whole
+  ended_whole e = whole_at s.way s.nid s.phase (length s.front) s.left s.stands e
+
+  pub rest_ended : next_var s ≡ None → Ended (Left s)
+  rest_ended e = subst (λ (p : Phase). Ended (left_at s.way s.nid p s.left)) (sym (ended_whole e)) (λ r k. k)
 
 -- ---- From one to the next.
 
-pub follows_none : (way : Way) (nid : ℕ) (stage : Phase) (front : List ℕ) (l : PacketsState) (padding : ℕ) (holds : List PacketValue → List ℕ → List Bool → Type 0) → Follows way nid stage front l padding holds [] nid stage front l padding holds
-follows_none way nid stage front l padding holds = record {
-  residual = residual_none (left_at way nid stage l);
-  held = λ q h. subst (HoldsIn way nid stage front l padding holds) (sym (append-nil q)) h;
-}
+module _ {S : Type 0} (holds : S → Holds) where
+  pub follows_none : (s : MessageState S) → Follows holds s [] s
+  follows_none s = record {
+    same = refl;
+    residual = residual_none (Left s);
+    held = λ q h. subst (HoldsIn holds s) (sym (append-nil q)) h;
+  }
 
-pub follows_along : (way : Way) (nid : ℕ) (stage : Phase) (front : List ℕ) (l : PacketsState) (padding : ℕ) (holds : List PacketValue → List ℕ → List Bool → Type 0) (p : Reading) (nid' : ℕ) (stage' : Phase) (front' : List ℕ) (l' : PacketsState) (padding' : ℕ) (holds' : List PacketValue → List ℕ → List Bool → Type 0) (q : Reading) (nid'' : ℕ) (stage'' : Phase) (front'' : List ℕ) (l'' : PacketsState) (padding'' : ℕ) (holds'' : List PacketValue → List ℕ → List Bool → Type 0)
-    → Follows way nid stage front l padding holds p nid' stage' front' l' padding' holds' → Follows way nid' stage' front' l' padding' holds' q nid'' stage'' front'' l'' padding'' holds'' → Follows way nid stage front l padding holds (p ++ q) nid'' stage'' front'' l'' padding'' holds''
-follows_along way nid stage front l padding holds p nid' stage' front' l' padding' holds' q nid'' stage'' front'' l'' padding'' holds'' h k = record {
-  residual = residual_along (left_at way nid stage l) p (left_at way nid' stage' l') q (left_at way nid'' stage'' l'') h.residual k.residual;
-  held = λ r x. subst (HoldsIn way nid'' stage'' front'' l'' padding'' holds'') (append_assoc r p q) (k.held (r ++ p) (h.held r x));
-}
+  pub follows_along : (s t u : MessageState S) (p q : Reading) → Follows holds s p t → Follows holds t q u → Follows holds s (p ++ q) u
+  follows_along s t u p q h k = record {
+    same = k.same ∙ h.same;
+    residual = residual_along (Left s) p (Left t) q (Left u) h.residual k.residual;
+    held = λ r x. subst (HoldsIn holds u) (append_assoc r p q) (k.held (r ++ p) (h.held r x));
+  }

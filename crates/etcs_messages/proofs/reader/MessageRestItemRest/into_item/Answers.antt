@@ -1,9 +1,9 @@
-use Rattle.std.proofs.Common.{◌≡◌, ℕ, List, length, sym, ap, subst, ◌∙◌}
+use Rattle.std.proofs.Common.{◌≡◌, ℕ, List, sym, ap, subst, ◌∙◌}
 use Rattle.etcs_sequence.specs.declared.list.PacketList.{PacketList}
 use Rattle.etcs_messages.specs.Readings.{content_by}
 use Rattle.etcs_messages.specs.Lefts.{front_row}
 use Rattle.etcs_messages.specs.Messages.{IsMessage}
-use Rattle.etcs_messages.proofs.Listing.{in_list}
+use Rattle.etcs_messages.proofs.Listing.{held_in_list}
 use Rattle.etcs_messages.proofs.Wholes.{whole_numbers, whole_reads}
 use Rattle.etcs_messages.proofs.reader.MessageRestItemRest.into_item.Goals as goal
 use Rattle.etcs_messages.proofs.reader.MessageRestItemRest.into_item.Goals.{After-content_of-content}
@@ -12,22 +12,28 @@ use Rattle.etcs_messages.proofs.reader.MessageRestItemRest.into_item.Given.{Over
 pub content_of-content-requires : goal.content_of-content-requires
 content_of-content-requires g c =
     let s = c.args.self in
-    let list = g.H.Store.ListStore.list s.packets.store in
-    let held = in_list g.H.Packet.AnyPacket.form list (g.H.Store.PacketStore.holds s.packets.store) (g.met.H.Store.ListStore.listed s.packets.store) g.H.Packet.AnyPacket.WAY s.nid s.phase s.front.items s.packets.left s.padding _ c.requires.holds in
-    let numbers = whole_numbers g.H.Packet.AnyPacket.WAY g.H.Head.head g.B.Own.own g.H.Packet.AnyPacket.form g.met.H.Head.laws g.met.B.Own.laws s.nid s.phase s.front.items s.packets.left list s.padding (length s.front.items) s.stands c.requires.ended c.requires.whole held in
-    rw c.as_slice.ensures.value numbers
+    let form = g.H.Packet.AnyPacket.form in
+    let list = g.H.Store.ListStore.list in
+    let held = held_in_list form list g.H.Store.PacketStore.holds g.met.H.Store.ListStore.listed s _ c.requires.holds.1 in
+    let numbers = whole_numbers g.H.Packet.AnyPacket.WAY g.H.Head.head g.B.Own.own form list g.met.H.Head.laws g.met.B.Own.laws s c.requires.ended c.requires.whole (c.requires.holds.0, held) in
+    rw c.as_slice.ensures.value (rw (← c.self.view_is) at numbers)
 
 -- what was read is a message
 is_message : (g : Over) (c : After-content_of-content g) → IsMessage g.H.Packet.AnyPacket.WAY g.H.Head.head g.B.Own.own g.H.Packet.AnyPacket.form c.content_of-content.result
 is_message g c =
+    let i = c.self.inside in
     let s = c.args.self in
-    let list = g.H.Store.ListStore.list s.packets.store in
-    let held = in_list g.H.Packet.AnyPacket.form list (g.H.Store.PacketStore.holds s.packets.store) (g.met.H.Store.ListStore.listed s.packets.store) g.H.Packet.AnyPacket.WAY s.nid s.phase s.front.items s.packets.left s.padding _ c.requires.holds in
-    let is : c.content_of-content.result ≡ content_by g.H.Packet.AnyPacket.WAY g.H.Head.head g.B.Own.own (front_row g.H.Packet.AnyPacket.WAY s.nid) s.nid s.front.items list.packets.items list.bits s.padding =
+    let way = g.H.Packet.AnyPacket.WAY in
+    let form = g.H.Packet.AnyPacket.form in
+    let list = g.H.Store.ListStore.list in
+    let k = list i.packets.store in
+    let held = held_in_list form list g.H.Store.PacketStore.holds g.met.H.Store.ListStore.listed s _ c.requires.holds.1 in
+    let is : c.content_of-content.result ≡ content_by way g.H.Head.head g.B.Own.own (front_row way i.nid) i.nid i.front.items k.packets.items k.bits i.padding =
     c.content_of-content.ensures
-    ∙ ap (λ (front : List ℕ). content_by g.H.Packet.AnyPacket.WAY g.H.Head.head g.B.Own.own (front_row g.H.Packet.AnyPacket.WAY s.nid) s.nid front c.into_list-store.result.packets.items c.into_list-store.result.bits s.padding) c.as_slice.ensures.value
-    ∙ ap (λ (l : PacketList _). content_by g.H.Packet.AnyPacket.WAY g.H.Head.head g.B.Own.own (front_row g.H.Packet.AnyPacket.WAY s.nid) s.nid s.front.items l.packets.items l.bits s.padding) c.into_list-store.ensures in
-    subst (IsMessage g.H.Packet.AnyPacket.WAY g.H.Head.head g.B.Own.own g.H.Packet.AnyPacket.form) (sym is) (whole_reads g.H.Packet.AnyPacket.WAY g.H.Head.head g.B.Own.own g.H.Packet.AnyPacket.form g.met.H.Head.laws g.met.B.Own.laws s.nid s.phase s.front.items s.packets.left list s.padding (length s.front.items) s.stands c.requires.ended c.requires.whole held).0
+    ∙ ap (λ (front : List ℕ). content_by way g.H.Head.head g.B.Own.own (front_row way i.nid) i.nid front c.into_list-store.result.packets.items c.into_list-store.result.bits i.padding) c.as_slice.ensures.value
+    ∙ ap (λ (l : PacketList _). content_by way g.H.Head.head g.B.Own.own (front_row way i.nid) i.nid i.front.items l.packets.items l.bits i.padding) c.into_list-store.ensures in
+    let whole = whole_reads way g.H.Head.head g.B.Own.own form list g.met.H.Head.laws g.met.B.Own.laws s c.requires.ended c.requires.whole (c.requires.holds.0, held) in
+    subst (IsMessage way g.H.Head.head g.B.Own.own form) (sym is) (rw (← c.self.view_is) at whole.0)
 
 pub bytes_in-bytes-requires : goal.bytes_in-bytes-requires
 bytes_in-bytes-requires g c = is_message g (goal.at.bytes_in-bytes-requires g c).After-content_of-content

@@ -1,4 +1,4 @@
-use Rattle.std.proofs.Common.{refl, sym, ap, length, ◌∙◌, arith}
+use Rattle.std.proofs.Common.{refl, sym, ap, ◌∙◌, arith}
 use Rattle.etcs_bits.specs.Bits.{bits, part}
 use Rattle.etcs_bits.proofs.Lists.{length-part}
 use Rattle.etcs_vars.specs.declared.var.Var.TheVariants.{OTHER_DATA}
@@ -10,8 +10,7 @@ use Rattle.etcs_messages.proofs.rest.MessageRest.leap_data.Goals as goal
 
 pub returns-clause-some : goal.returns-clause-some
 returns-clause-some g c =
-    let s = c.args.self.now in
-    let pos = (data_parts g.H.Packet.AnyPacket.WAY s.nid s.phase c.args.left (length s.front.items) s.packets.left c.requires.phase s.stands).0 in
+    let pos = (data_parts c.args.self.now c.args.left c.requires.phase).0 in
     record {
       some = omega (arith, c.run_at-run.ensures.some pos, c.len.ensures);
       inside = omega (arith, c.run_at-run.ensures.inside, c.len.ensures);
@@ -23,8 +22,7 @@ returns-clause-some g c =
 
 pub returns-in_err-keep-clause-viable : goal.returns-in_err-keep-clause-viable
 returns-in_err-keep-clause-viable g c =
-    let s = c.args.self.now in
     let xs = bits c.args.piece.now in
-    let pos = (data_parts g.H.Packet.AnyPacket.WAY s.nid s.phase c.args.left (length s.front.items) s.packets.left c.requires.phase s.stands).0 in
+    let pos = (data_parts c.args.self.now c.args.left c.requires.phase).0 in
     let one = length-part c.args.at 1 xs (omega (arith, c.requires.inside)) in
     on_err c.from_residual.result (rw c.requires.phase (bits_viable OTHER_DATA refl c.args.left (part c.args.at 1 xs) (omega (arith, one, pos))))

@@ -1,4 +1,4 @@
-use Rattle.std.proofs.Common.{refl, length, ◌∙◌, arith}
+use Rattle.std.proofs.Common.{refl, ◌∙◌, arith}
 use Rattle.etcs_bits.specs.Bits.{num}
 use Rattle.etcs_bits.proofs.Positions.{length-bits}
 use Rattle.etcs_vars.specs.declared.var.Var.TheVariants.{PADDING}
@@ -18,8 +18,7 @@ number_at-requires-clause-inside g c = omega (arith, c.min-count.ensures, c.requ
 
 pub returns : goal.returns
 returns g c =
-    let s = c.args.self.now in
-    let pos = (padding_parts g.H.Packet.AnyPacket.WAY s.nid s.phase c.args.left (length s.front.items) s.packets.left c.requires.phase s.stands).0 in
+    let pos = (padding_parts c.args.self.now c.args.left c.requires.phase).0 in
     let t = num c.min-count.result c.number_at.result in
     record {
       some = omega (arith, c.min-count.ensures, pos, c.requires.inside, length-bits c.args.piece.now);

@@ -6,10 +6,7 @@ use Rattle.etcs_messages.proofs.rest.MessageRest.new.Goals as goal
 pub invariant_of-result : goal.invariant_of-result
 invariant_of-result g c =
     let l = c.new-2.result.left in
-    record {
-      stands = rw (c.new.ensures, begun_closed c.WAY.result l.carrier l.room l.stage l.stands c.new-2.ensures.left) refl;
-      fits = ∣ rw c.new-2.ensures.store c.requires.none ∣₁;
-    }
+    (rw (c.new.ensures, begun_closed c.WAY.result l.carrier l.room l.stage l.stands c.new-2.ensures.left) refl, tt)
 
 pub returns-clause-left : goal.returns-clause-left
 returns-clause-left g c = new_left g.H.Packet.AnyPacket.WAY

@@ -5,10 +5,10 @@ use Rattle.etcs_messages.proofs.rest.MessageRest.pad.Goals as goal
 
 pub returns-clause-follows : goal.returns-clause-follows
 returns-clause-follows g c =
-    let s = c.args.self.now in
-    padding_follows g.H.Packet.AnyPacket.WAY s.nid s.phase c.behind_bits-self.result c.args.left c.args.count c.args.number s.front.items s.packets.left s.padding (g.H.Store.PacketStore.holds s.packets.store) c.requires.phase c.behind_bits-self.ensures c.requires.within c.requires.small
+    let v = c.self.view_is in
+    rw (← v) (padding_follows _ _ _ _ c.args.left c.args.count c.args.number (rw (← v) at c.requires.phase) c.behind_bits-self-inside.ensures c.requires.within c.requires.small)
 
 pub returns-clause-goes : goal.returns-clause-goes
 returns-clause-goes g c =
-    let s = c.args.self.now in
-    rw c.behind_bits-self.ensures (padding_goes g.H.Packet.AnyPacket.WAY s.nid (c.args.left - c.args.count) s.packets.left)
+    let i = c.self.inside in
+    rw c.behind_bits-self-inside.ensures (padding_goes g.H.Packet.AnyPacket.WAY i.nid (c.args.left - c.args.count) i.packets.left)

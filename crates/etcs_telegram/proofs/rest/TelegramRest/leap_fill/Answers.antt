@@ -1,4 +1,4 @@
-use Rattle.std.proofs.Common.{refl, sym, ap, length, ◌∙◌, arith}
+use Rattle.std.proofs.Common.{refl, sym, ap, ◌∙◌, arith}
 use Rattle.etcs_bits.specs.Bits.{bits, part}
 use Rattle.etcs_bits.proofs.Lists.{length-part}
 use Rattle.etcs_vars.specs.declared.var.Var.TheVariants.{FILL}
@@ -10,8 +10,7 @@ use Rattle.etcs_telegram.proofs.rest.TelegramRest.leap_fill.Goals as goal
 
 pub returns-clause-some : goal.returns-clause-some
 returns-clause-some g c =
-    let s = c.args.self.now in
-    let pos = (fill_parts s.phase c.args.left (length s.header.items) s.packets.left c.requires.phase s.stands).0 in
+    let pos = (fill_parts c.args.self.now c.args.left c.requires.phase).0 in
     record {
       some = omega (arith, c.run_at-run.ensures.some pos, c.len.ensures);
       inside = omega (arith, c.run_at-run.ensures.inside, c.len.ensures);
@@ -25,6 +24,6 @@ pub returns-in_err-fill-clause-viable : goal.returns-in_err-fill-clause-viable
 returns-in_err-fill-clause-viable g c =
     let s = c.args.self.now in
     let xs = bits c.args.piece.now in
-    let pos = (fill_parts s.phase c.args.left (length s.header.items) s.packets.left c.requires.phase s.stands).0 in
+    let pos = (fill_parts s c.args.left c.requires.phase).0 in
     let one = length-part c.args.at 1 xs (omega (arith, c.requires.inside)) in
     on_err c.from_residual.result (rw c.requires.phase (fill_viable s.size c.args.left (part c.args.at 1 xs) (omega (arith, one, pos))))

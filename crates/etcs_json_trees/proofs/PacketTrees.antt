@@ -1,6 +1,6 @@
 -- Packets and their trees.
 use Rattle.std.proofs.Common.{◌≡◌, ℕ, ◌<◌, ◌==◌, Bool, false, List, [], ◌∷◌, ◌++◌, length, Option, Some, None, Result, Ok, Err, map, inl, inr, refl, sym, ap, subst, ◌∙◌, arith, append_assoc, append-nil}
-use Rattle.std.specs.Prelude.{All, IsTrue, IfOk, IfSome, option_map}
+use Rattle.std.specs.Prelude.{All, IsTrue, IfOk, IfSome}
 use Rattle.std.proofs.lemmas.Bool.{cases_lt, eqb-true, ne_eqb}
 use Rattle.std.proofs.lemmas.List.{map_push}
 use Rattle.std.proofs.lemmas.List.Elements.{All-head, All-push, All-tail}
@@ -19,9 +19,10 @@ use Rattle.etcs_rows.specs.laws.OneReading.{Reads-apart}
 use Rattle.etcs_rows.proofs.RowLaws.{one_spelling}
 use Rattle.etcs_packets.specs.PacketValues.{PacketValue, Form, marker, typed, kept, variables_of, IsTypedOf, IsPacketTo}
 use Rattle.etcs_packet_text.specs.Trees.{bits_tree}
-use Rattle.etcs_json_trees.specs.Loose.{stand_in, unnamed}
+use Rattle.etcs_json_trees.specs.Found.{IsFound}
+use Rattle.etcs_json_trees.specs.Loose.{HaveStandIns, OnlyStandIns, stand_in, unnamed}
 use Rattle.etcs_json_trees.specs.TreeParts.{SaysDirection}
-use Rattle.etcs_json_trees.specs.TreeReading.{ArePairTrees, IsPacketTree, ArePacketTrees, marker_tree, typed_tree, kept_tree, plain}
+use Rattle.etcs_json_trees.specs.TreeReading.{ArePairTrees, IsPairList, IsPacketTree, ArePacketTrees, marker_tree, typed_tree, kept_tree, plain}
 use Rattle.etcs_json_trees.proofs.Frames.{framed_small, kept_framed, kept_parts, kept_untyped, typed_framed}
 use Rattle.etcs_json_trees.proofs.OneTrees as trees
 
@@ -59,8 +60,8 @@ framed_row way nid dir row r e (row', e', directed, reads, short) =
     let one : row' ≡ row = cc in
     subst (λ (l : Layout). Reads l [] r) one reads
 
-pub typed_none : (way : Way) (nid dir : ℕ) (row : Layout) (d : Data) (r : Reading) (ps : Items) → row_to way nid ≡ Some row → OnlyNumbers row d None → IsPacketTo way (typed nid dir r) → d ≡ array ps → ArePairTrees r ps → ⊥
-typed_none way nid dir row d r ps e says framed is t =
+pub typed_none : (way : Way) (nid dir : ℕ) (row : Layout) (d : Data) (r : Reading) → row_to way nid ≡ Some row → OnlyNumbers row d None → IsPacketTo way (typed nid dir r) → IsPairList r d → ⊥
+typed_none way nid dir row d r e says framed (ps, is, t) =
     let no = says r ps is (framed_row way nid dir row r e framed) t in
     absurd cc
 
@@ -97,41 +98,41 @@ module _ {P : Type 0} (way : Way) (form : P → Form) where
   value p = (form p).value
 
   pub typed_some : (nid dir : ℕ) (row : Layout) (d : Data) (f g : List ℕ) (E : Type 0) (res : Result (Option P) E) → row_to way nid ≡ Some row → SaysNumbers row d f → g ≡ f → IfOk res (λ o. IfSome o (λ p. Holds p)) → IfOk res (λ o. IfSome o (λ p. IsTypedOf nid dir (value p) × (numbers (variables_of (value p)) ≡ g)))
-      → IfOk res (λ o. IfSome o (λ p. (r : Reading) × (ps : Items) × (value p ≡ typed nid dir r) × (d ≡ array ps) × ArePairTrees r ps))
+      → IfOk res (λ o. IfSome o (λ p. (r : Reading) × (value p ≡ typed nid dir r) × IsPairList r d))
   typed_some nid dir row d f g E (Err x) e says same made some = tt
   typed_some nid dir row d f g E (Ok None) e says same made some = tt
   typed_some nid dir row d f g E (Ok (Some p)) e (r, ps, is, reads, trees, nums) same made some =
-      (r, ps, typed_is way nid dir row r (value p) e reads made.1 some.0 (some.1 ∙ same ∙ sym nums), is, trees)
+      (r, typed_is way nid dir row r (value p) e reads made.1 some.0 (some.1 ∙ same ∙ sym nums), (ps, is, trees))
 
-  pub typed_only : (nid dir : ℕ) (row : Layout) (d : Data) (f g : List ℕ) (E : Type 0) (res : Result (Option P) E) → row_to way nid ≡ Some row → OnlyNumbers row d (Some f) → g ≡ f → IfOk res (λ o. (r : Reading) → IsPacketTo way (typed nid dir r) → g ≡ numbers r → option_map value o ≡ Some (typed nid dir r))
-      → IfOk res (λ o. (r : Reading) (ps : Items) → IsPacketTo way (typed nid dir r) → d ≡ array ps → ArePairTrees r ps → option_map value o ≡ Some (typed nid dir r))
+  pub typed_only : (nid dir : ℕ) (row : Layout) (d : Data) (f g : List ℕ) (E : Type 0) (res : Result (Option P) E) → row_to way nid ≡ Some row → OnlyNumbers row d (Some f) → g ≡ f → IfOk res (λ o. (r : Reading) → IsPacketTo way (typed nid dir r) → g ≡ numbers r → IsFound form (typed nid dir r) o)
+      → IfOk res (λ o. (r : Reading) → IsPacketTo way (typed nid dir r) → IsPairList r d → IsFound form (typed nid dir r) o)
   typed_only nid dir row d f g E (Err x) e says same only = tt
-  typed_only nid dir row d f g E (Ok o) e says same only = λ r ps framed is t.
+  typed_only nid dir row d f g E (Ok o) e says same only = λ r framed (ps, is, t).
       (let two = says r ps is (framed_row way nid dir row r e framed) t in
       let nums : f ≡ numbers r = cc in
       only r framed (same ∙ nums))
 
   -- the packet of a tree with these members
-  pub typed_tree_some : (d x : Data) (nid dir : ℕ) (E : Type 0) (res : Result (Option P) E) → d ≡ typed_tree way dir x (plain nid) → IfOk res (λ o. IfSome o (λ p. (r : Reading) × (ps : Items) × (value p ≡ typed nid dir r) × (x ≡ array ps) × ArePairTrees r ps))
+  pub typed_tree_some : (d x : Data) (nid dir : ℕ) (E : Type 0) (res : Result (Option P) E) → d ≡ typed_tree way dir x (plain nid) → IfOk res (λ o. IfSome o (λ p. (r : Reading) × (value p ≡ typed nid dir r) × IsPairList r x))
       → IfOk res (λ o. IfSome o (λ p. (v : PacketValue) × (value p ≡ unnamed way v) × IsPacketTree way v d))
   typed_tree_some d x nid dir E (Err e) is some = tt
   typed_tree_some d x nid dir E (Ok None) is some = tt
-  typed_tree_some d x nid dir E (Ok (Some p)) is (r, ps, v_is, fields, t) =
+  typed_tree_some d x nid dir E (Ok (Some p)) is (r, v_is, (ps, fields, t)) =
       (typed nid dir r, v_is, (ps, is ∙ ap (λ (y : Data). typed_tree way dir y (plain nid)) fields, t))
 
-  pub typed_tree_only : (d x : Data) (nid dir : ℕ) (E : Type 0) (res : Result (Option P) E) → SaysDirection way dir → d ≡ typed_tree way dir x (plain nid) → IfOk res (λ o. (r : Reading) (ps : Items) → IsPacketTo way (typed nid dir r) → x ≡ array ps → ArePairTrees r ps → option_map value o ≡ Some (typed nid dir r))
-      → IfOk res (λ o. (v : PacketValue) → IsPacketTo way (unnamed way v) → IsPacketTree way v d → option_map value o ≡ Some (unnamed way v))
+  pub typed_tree_only : (d x : Data) (nid dir : ℕ) (E : Type 0) (res : Result (Option P) E) → SaysDirection way dir → d ≡ typed_tree way dir x (plain nid) → IfOk res (λ o. (r : Reading) → IsPacketTo way (typed nid dir r) → IsPairList r x → IsFound form (typed nid dir r) o)
+      → IfOk res (λ o. (v : PacketValue) → IsPacketTo way (unnamed way v) → IsPacketTree way v d → IsFound form (unnamed way v) o)
   typed_tree_only d x nid dir E (Err e) says is only = tt
   typed_tree_only d x nid dir E (Ok o) says is only = of
     where
-      of : (v : PacketValue) → IsPacketTo way (unnamed way v) → IsPacketTree way v d → option_map value o ≡ Some (unnamed way v)
+      of : (v : PacketValue) → IsPacketTo way (unnamed way v) → IsPacketTree way v d → IsFound form (unnamed way v) o
       of (marker n) packet (ps, e, t) = absurd (trees.marker_or_typed way n dir (array ps) x (plain 0) (plain nid) packet (sym e ∙ is))
       of (kept nid' dir' b) packet e = absurd (trees.typed_or_kept way dir dir' x (bits_tree b) (plain nid) (plain nid') (sym is ∙ e))
       of (typed nid' dir' r) packet (ps, e, t) =
           let parts = trees.typed_parts way dir' dir (array ps) x (plain nid') (plain nid) (trees.framed_says way nid' dir' r packet) says (sym e ∙ is) in
           let number : nid' ≡ nid = (let two : plain nid' ≡ plain nid = parts.2 in cc) in
           let v_is : typed nid' dir' r ≡ typed nid dir r = rw (number, parts.0) refl in
-          only r ps (subst (IsPacketTo way) v_is packet) (sym parts.1) t ∙ ap Some (sym v_is)
+          only r (subst (IsPacketTo way) v_is packet) (ps, sym parts.1, t) ∙ ap Some (sym v_is)
 
   pub kept_tree_some : (d x : Data) (nid dir n : ℕ) (E : Type 0) (res : Result (Option P) E) → d ≡ kept_tree way x dir (plain nid) → n ≡ stand_in way nid → IfOk res (λ o. IfSome o (λ p. (b : List Bool) × (value p ≡ kept n dir b) × (x ≡ bits_tree b)))
       → IfOk res (λ o. IfSome o (λ p. (v : PacketValue) × (value p ≡ unnamed way v) × IsPacketTree way v d))
@@ -140,12 +141,12 @@ module _ {P : Type 0} (way : Way) (form : P → Form) where
   kept_tree_some d x nid dir n E (Ok (Some p)) is stands (b, v_is, bits) =
       (kept nid dir b, v_is ∙ ap (λ (m : ℕ). kept m dir b) stands, is ∙ ap (λ (y : Data). kept_tree way y dir (plain nid)) bits)
 
-  pub kept_tree_only : (d x : Data) (nid dir n : ℕ) (E : Type 0) (res : Result (Option P) E) → SaysDirection way dir → d ≡ kept_tree way x dir (plain nid) → n ≡ stand_in way nid → IfOk res (λ o. (b : List Bool) → IsPacketTo way (kept n dir b) → x ≡ bits_tree b → option_map value o ≡ Some (kept n dir b))
-      → IfOk res (λ o. (v : PacketValue) → IsPacketTo way (unnamed way v) → IsPacketTree way v d → option_map value o ≡ Some (unnamed way v))
+  pub kept_tree_only : (d x : Data) (nid dir n : ℕ) (E : Type 0) (res : Result (Option P) E) → SaysDirection way dir → d ≡ kept_tree way x dir (plain nid) → n ≡ stand_in way nid → IfOk res (λ o. (b : List Bool) → IsPacketTo way (kept n dir b) → x ≡ bits_tree b → IsFound form (kept n dir b) o)
+      → IfOk res (λ o. (v : PacketValue) → IsPacketTo way (unnamed way v) → IsPacketTree way v d → IsFound form (unnamed way v) o)
   kept_tree_only d x nid dir n E (Err e) says is stands only = tt
   kept_tree_only d x nid dir n E (Ok o) says is stands only = of
     where
-      of : (v : PacketValue) → IsPacketTo way (unnamed way v) → IsPacketTree way v d → option_map value o ≡ Some (unnamed way v)
+      of : (v : PacketValue) → IsPacketTo way (unnamed way v) → IsPacketTree way v d → IsFound form (unnamed way v) o
       of (marker m) packet (ps, e, t) = absurd (let two : marker_tree (array ps) (plain 0) ≡ kept_tree way x dir (plain nid) = sym e ∙ is in cc)
       of (typed nid' dir' r) packet (ps, e, t) = absurd (trees.typed_or_kept way dir' dir (array ps) x (plain nid') (plain nid) (sym e ∙ is))
       of (kept nid' dir' b) packet e =
@@ -161,12 +162,12 @@ module _ {P : Type 0} (way : Way) (form : P → Form) where
   marker_tree_some_in d E (Ok None) some = tt
   marker_tree_some_in d E (Ok (Some p)) (n, v_is, tree) = (marker n, v_is, tree)
 
-  pub marker_tree_only_in : (d : Data) (E : Type 0) (res : Result (Option P) E) → ((dir nid : ℕ) (x : Data) → dir < 256 → nid < 256 → d ≡ typed_tree way dir x (plain nid) → ⊥) → ((dir nid : ℕ) (x : Data) → dir < 256 → nid < 256 → d ≡ kept_tree way x dir (plain nid) → ⊥) → IfOk res (λ o. (n : ℕ) → IsTrue (is_marker way n) → IsPacketTree way (marker n) d → option_map value o ≡ Some (marker n))
-      → IfOk res (λ o. (v : PacketValue) → IsPacketTo way (unnamed way v) → IsPacketTree way v d → option_map value o ≡ Some (unnamed way v))
+  pub marker_tree_only_in : (d : Data) (E : Type 0) (res : Result (Option P) E) → ((dir nid : ℕ) (x : Data) → dir < 256 → nid < 256 → d ≡ typed_tree way dir x (plain nid) → ⊥) → ((dir nid : ℕ) (x : Data) → dir < 256 → nid < 256 → d ≡ kept_tree way x dir (plain nid) → ⊥) → IfOk res (λ o. (n : ℕ) → IsTrue (is_marker way n) → IsPacketTree way (marker n) d → IsFound form (marker n) o)
+      → IfOk res (λ o. (v : PacketValue) → IsPacketTo way (unnamed way v) → IsPacketTree way v d → IsFound form (unnamed way v) o)
   marker_tree_only_in d E (Err e) no_typed no_kept only = tt
   marker_tree_only_in d E (Ok o) no_typed no_kept only = of
     where
-      of : (v : PacketValue) → IsPacketTo way (unnamed way v) → IsPacketTree way v d → option_map value o ≡ Some (unnamed way v)
+      of : (v : PacketValue) → IsPacketTo way (unnamed way v) → IsPacketTree way v d → IsFound form (unnamed way v) o
       of (marker n) packet tree = only n packet tree
       of (typed nid dir r) packet (ps, e, t) = let small = typed_small way nid dir r packet in absurd (no_typed dir nid (array ps) small.1 small.0 e)
       of (kept nid dir b) packet e = let small = kept_small way nid dir b packet in absurd (no_kept dir nid (bits_tree b) small.1 small.0 e)
@@ -212,18 +213,18 @@ no_trees : (way : Way) (ws : List PacketValue) → ArePacketTrees way ws no_item
 no_trees way [] t = refl
 no_trees way (w ∷ ws) t = elim t [ ]
 
-pub all_listed : (way : Way) (ds : Items) (us : List PacketValue) (fs : Items) → Listed way ds us fs → fs ≡ no_items → (vs : List PacketValue) × (us ≡ map (unnamed way) vs) × ArePacketTrees way vs ds
+pub all_listed : (way : Way) (ds : Items) (us : List PacketValue) (fs : Items) → Listed way ds us fs → fs ≡ no_items → HaveStandIns way ds us
 all_listed way ds us fs l e = (
   l.named,
   l.is,
   subst (λ (x : List PacketValue). ArePacketTrees way x ds) (append-nil l.named) (l.on [] (subst (λ (x : Items). ArePacketTrees way [] x) (sym e) tt)),
 )
 
-pub only_listed : (way : Way) (ds : Items) (us gs : List PacketValue) (fs : Items) → Listed way ds us fs → fs ≡ no_items → All (IsPacketTo way) (map (unnamed way) gs) → ArePacketTrees way gs ds → us ≡ map (unnamed way) gs
-only_listed way ds us gs fs l e a t =
+pub only_listed : (way : Way) (ds : Items) (us : List PacketValue) (fs : Items) → Listed way ds us fs → fs ≡ no_items → OnlyStandIns way ds (Some us)
+only_listed way ds us fs l e gs a t =
     let (ws, begun, a', t') = l.back gs a t in
     let none = no_trees way ws (subst (λ (x : Items). ArePacketTrees way ws x) e t') in
-    sym (begun ∙ ap (λ (x : List PacketValue). us ++ map (unnamed way) x) none ∙ append-nil us)
+    ap Some (sym (begun ∙ ap (λ (x : List PacketValue). us ++ map (unnamed way) x) none ∙ append-nil us))
 
 -- ps are packets that their types admit, listed so
 abbrev pub IsListed : {P : Type 0} → Way → (P → Form) → Items → List P → Items → Type 0

@@ -8,6 +8,7 @@ use Rattle.serde_json.specs.Data.{Data, array, object, Items, no_items, item, Me
 use Rattle.serde_json.specs.Read.{of_json, of_items, of_members, converted}
 use Rattle.serde_json.specs.View.{view, items_view}
 use Rattle.serde_json.specs.declared.value.Value.{Value}
+use Rattle.etcs_json_trees.specs.Found.{first_value, first_items, first_members}
 
 abbrev pick : {A : Type 0} → A → Option A → A
 pick d None = d
@@ -97,13 +98,13 @@ module _ (p : Parse json.Json) where
 -- ---- a value that begins with a bracket or a brace
 
 module _ (depth : ℕ) (ts r : List Token) where
-  pub array_opened : (left : ℕ) → ts ≡ Token.begin_array ∷ r → (1 ≤ depth) × (left ≡ depth - 1) → converted of_json (value depth ts) ≡ parse_map array (converted of_items (items (value left) (length r) r))
+  pub array_opened : (left : ℕ) → ts ≡ Token.begin_array ∷ r → (1 ≤ depth) × (left ≡ depth - 1) → first_value depth ts ≡ parse_map array (first_items left r)
   array_opened left is inner = rw (is, inner.1) (ap (converted of_json) (value-begin_array depth r (omega arith)) ∙ converted-array (items (value (depth - 1)) (length r) r))
 
-  pub object_opened : (left : ℕ) → ts ≡ Token.begin_object ∷ r → (1 ≤ depth) × (left ≡ depth - 1) → converted of_json (value depth ts) ≡ parse_map object (converted (λ ms. of_members ms no_members) (members (value left) (length r) r))
+  pub object_opened : (left : ℕ) → ts ≡ Token.begin_object ∷ r → (1 ≤ depth) × (left ≡ depth - 1) → first_value depth ts ≡ parse_map object (first_members left r)
   object_opened left is inner = rw (is, inner.1) (ap (converted of_json) (value-begin_object depth r (omega arith)) ∙ converted-object (members (value (depth - 1)) (length r) r))
 
-  pub too_deep : (ts ≡ Token.begin_array ∷ r) ⊎ (ts ≡ Token.begin_object ∷ r) → (1 ≤ depth → ⊥) → converted of_json (value depth ts) ≡ None
+  pub too_deep : (ts ≡ Token.begin_array ∷ r) ⊎ (ts ≡ Token.begin_object ∷ r) → (1 ≤ depth → ⊥) → first_value depth ts ≡ None
   unfolding value
   too_deep begun deep =
       let none : depth ≡ 0 = omega (arith, deep) in

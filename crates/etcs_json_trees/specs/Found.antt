@@ -1,8 +1,22 @@
--- What was found where only what fits is made.
-use Rattle.std.specs.Prelude.{◌≡◌, ◌⊎◌, List, Option, Some, None}
+-- What tokens begin with, and what was found where only what fits is made.
+use Rattle.std.specs.Prelude.{◌≡◌, ◌⊎◌, ℕ, List, length, Option, Some, None, option_map}
 use Rattle.json.specs.Token.{Token}
-use Rattle.serde_json.specs.Data.{Data, null, Members, no_members, member}
-use Rattle.etcs_json_trees.specs.Fits.{FitsItem}
+use Rattle.json.specs.Json.{items, members, value}
+use Rattle.serde_json.specs.Data.{Data, null, Items, Members, no_members, member, put}
+use Rattle.serde_json.specs.Read.{of_json, of_items, of_members, converted}
+use Rattle.etcs_packets.specs.PacketValues.{PacketValue, Form}
+use Rattle.etcs_json_trees.specs.declared.place.Place.{Place}
+use Rattle.etcs_json_trees.specs.Fits.{Fits, FitsItem}
+
+-- a value, what is left of a list and what is left of an object, each with the tokens after it
+abbrev pub first_value : ℕ → List Token → Option (Data × List Token)
+first_value depth ts = converted of_json (value depth ts)
+
+abbrev pub first_items : ℕ → List Token → Option (Items × List Token)
+first_items depth ts = converted of_items (items (value depth) (length ts) ts)
+
+abbrev pub first_members : ℕ → List Token → Option (Members × List Token)
+first_members depth ts = converted (λ js. of_members js no_members) (members (value depth) (length ts) ts)
 
 -- what is read is of the kind P, and it was made; or nothing was, and it isn't
 abbrev pub Finds : {A : Type 0} → Option (A × List Token) → (A → Type 0) → Option A → List Token → Type 0
@@ -18,6 +32,14 @@ FindsTree read (Some d) = (read ≡ Some d) × FitsItem d
 abbrev pub Keeps : Type 0 → Data → Data → Type 0
 Keeps P d e = ((d ≡ e) × P) ⊎ ((e ≡ null) × (P → ⊥))
 
+-- the member of the name k that is read, and what is kept of it is put into the members `old`
+abbrev pub FindsMember : Place → ℕ → List ℕ → Option (Data × List Token) → List Token → Members → Members → Type 0
+FindsMember p n k read rest old new = (d : Data) × (e : Data) × (read ≡ Some (d, rest)) × Keeps (Fits p n d) d e × (new ≡ put k e old)
+
 abbrev pub HasNull : Members → Type 0
 HasNull no_members = ⊥
 HasNull (member k d ms) = (d ≡ null) ⊎ HasNull ms
+
+-- o is this packet
+abbrev pub IsFound : {P : Type 0} → (P → Form) → PacketValue → Option P → Type 0
+IsFound form v o = option_map (λ p. (form p).value) o ≡ Some v

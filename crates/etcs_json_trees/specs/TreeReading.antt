@@ -31,6 +31,10 @@ ArePairTrees [] (item d ds) = ⊥
 ArePairTrees (p ∷ r) no_items = ⊥
 ArePairTrees (p ∷ r) (item d ds) = IsPairTree p d × ArePairTrees r ds
 
+-- d is the list of the pairs of a reading
+abbrev pub IsPairList : Reading → Data → Type 0
+IsPairList r d = (ps : Items) × (d ≡ array ps) × ArePairTrees r ps
+
 -- the members of a packet: to the train packet 0 has no Q_DIR, to the track none has one
 abbrev pub marker_tree : Data → Data → Data
 marker_tree fields nid = object (member (codes "fields") fields (member (codes "nid") nid no_members))

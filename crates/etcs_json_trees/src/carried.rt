@@ -1,13 +1,13 @@
 //! Packets that were kept as bits in JSON before they were typed.
 
-ghost use Rattle.std.specs.Prelude.{◌≡◌, ◌+◌, ◌≤◌, ◌<◌, ◌^◌, ◌++◌, Bool, IsTrue, List, All, length, map};
+ghost use Rattle.std.specs.Prelude.{◌≡◌, ◌+◌, ◌≤◌, ◌<◌, ◌^◌, IsTrue, List, All, length, map};
 ghost use Rattle.serde_json.specs.View.{items_view, view};
 ghost use Rattle.etcs_bits.specs.Bits.{bits};
 ghost use Rattle.etcs_vars.specs.Reading.{spelled};
 ghost use Rattle.etcs_tables.specs.declared.row.Way.TheVariants.{ToTrain};
 ghost use Rattle.etcs_packets.specs.PacketReadings.{packets_reading};
 ghost use Rattle.etcs_packets.specs.PacketValues.{IsPacket, PacketValue, packet_value};
-ghost use Rattle.etcs_json_trees.specs.Loose.{is_carried, kept_number, stand_in, unnamed};
+ghost use Rattle.etcs_json_trees.specs.Loose.{Renames, is_carried, kept_number, stand_in, unnamed};
 ghost use Rattle.etcs_json_trees.specs.TreeReading.{ArePacketTrees, IsPacketTree};
 
 use crate::from_packets::kept_members;
@@ -60,7 +60,7 @@ pub fn rename(bytes: &mut [u8], at: usize, packets: &[Packet], trees: &[Value])
     requires room { at + length (spelled (packets_reading (map packet_value packets.now))) ≤ length (bits bytes.old) }
     requires small { length (bits bytes.old) < 2 ^ 64 }
     ensures length { length bytes.new ≡ length bytes.old }
-    ensures bits { (vs : List PacketValue) (front behind : List Bool) → map packet_value packets.now ≡ map (unnamed ToTrain) vs → All IsPacket (map (unnamed ToTrain) vs) → ArePacketTrees ToTrain vs (items_view trees.now) → length front ≡ at → bits bytes.old ≡ front ++ spelled (packets_reading (map (unnamed ToTrain) vs)) ++ behind → bits bytes.new ≡ front ++ spelled (packets_reading vs) ++ behind }
+    ensures bits { Renames at (map packet_value packets.now) (items_view trees.now) (bits bytes.old) (bits bytes.new) }
 {
     let mut place = at;
     for (packet, tree) in packets.iter().zip(trees) {

@@ -1,7 +1,7 @@
 //! Packets of their trees.
 
 ghost use Rattle.std.specs.Prelude.{◌≡◌, ◌≢◌, ◌<◌, ◌∷◌, [], ◌++◌, ℕ, All, List, Bool, None, Some, IfOk, IfSome, IsSome, IsTrue, OnOk, map, option_map};
-ghost use Rattle.serde_json.specs.Data.{Data, Items, Members, array};
+ghost use Rattle.serde_json.specs.Data.{Data, Members};
 ghost use Rattle.serde_json.specs.View.{items_view, members_view, view};
 ghost use Rattle.etcs_vars.specs.declared.var.Var.TheVariants.{NID_VBCMK};
 ghost use Rattle.etcs_vars.specs.Vars.{admits};
@@ -10,9 +10,10 @@ ghost use Rattle.etcs_tables.specs.declared.row.Way.TheVariants.{ToTrain, ToTrac
 ghost use Rattle.etcs_tables.specs.Frames.{is_marker};
 ghost use Rattle.etcs_packets.specs.PacketValues.{PacketValue, IsPacketTo, IsTypedOf, kept, marker, typed, variables_of};
 ghost use Rattle.etcs_packet_text.specs.Trees.{bits_tree, with_dir};
-ghost use Rattle.etcs_json_trees.specs.Loose.{stand_in, unnamed};
+ghost use Rattle.etcs_json_trees.specs.Found.{IsFound};
+ghost use Rattle.etcs_json_trees.specs.Loose.{HaveStandIns, ListHasOnly, ListHasStandIns, OnlyStandIns, stand_in, unnamed};
 ghost use Rattle.etcs_json_trees.specs.TreeParts.{SaysDirection};
-ghost use Rattle.etcs_json_trees.specs.TreeReading.{ArePairTrees, ArePacketTrees, IsPacketTree, kept_tree, marker_tree, plain, typed_tree};
+ghost use Rattle.etcs_json_trees.specs.TreeReading.{IsPacketTree, IsPairList, kept_tree, marker_tree, plain, typed_tree};
 
 use crate::carried::stand_in;
 use crate::digits::{bits_in, byte_in, is_zero};
@@ -35,7 +36,7 @@ fn typed_of<P: AnyPacket>(
 ) -> Result<Option<P>, AllocError>
     ensures made { IfOk result (λ o. IfSome o (λ p. (P.form p).made × IsPacketTo P.WAY (P.form p).value)) }
     ensures some { IfOk result (λ o. IfSome o (λ p. IsTypedOf nid dir (P.form p).value × (numbers (variables_of (P.form p).value) ≡ fields.now))) }
-    ensures only { IfOk result (λ o. (r : Reading) → IsPacketTo P.WAY (typed nid dir r) → fields.now ≡ numbers r → option_map (λ p. (P.form p).value) o ≡ Some (typed nid dir r)) }
+    ensures only { IfOk result (λ o. (r : Reading) → IsPacketTo P.WAY (typed nid dir r) → fields.now ≡ numbers r → IsFound P.form (typed nid dir r) o) }
 {
     match P::of_fields(alloc, nid, dir, fields)? {
         Some(packet) => {
@@ -54,8 +55,8 @@ fn typed_by<P: AnyPacket>(
     fields: &Value,
 ) -> Result<Option<P>, AllocError>
     ensures made { IfOk result (λ o. IfSome o (λ p. (P.form p).made × IsPacketTo P.WAY (P.form p).value)) }
-    ensures some { IfOk result (λ o. IfSome o (λ p. (r : Reading) × (ps : Items) × ((P.form p).value ≡ typed nid dir r) × (view fields.now ≡ array ps) × ArePairTrees r ps)) }
-    ensures only { IfOk result (λ o. (r : Reading) (ps : Items) → IsPacketTo P.WAY (typed nid dir r) → view fields.now ≡ array ps → ArePairTrees r ps → option_map (λ p. (P.form p).value) o ≡ Some (typed nid dir r)) }
+    ensures some { IfOk result (λ o. IfSome o (λ p. (r : Reading) × ((P.form p).value ≡ typed nid dir r) × IsPairList r (view fields.now))) }
+    ensures only { IfOk result (λ o. (r : Reading) → IsPacketTo P.WAY (typed nid dir r) → IsPairList r (view fields.now) → IsFound P.form (typed nid dir r) o) }
 {
     match row_of(P::WAY, nid) {
         Some(row) => match numbers_in(alloc, row, fields)? {
@@ -105,7 +106,7 @@ pub(crate) fn kept_members(way: Way, value: &Value) -> Option<(&Value, u8, u8)>
 pub(crate) fn kept_by<P: AnyPacket>(nid: u8, dir: u8, bits: Bits) -> Option<P>
     ensures made { IfSome result (λ p. (P.form p).made × IsPacketTo P.WAY (P.form p).value) }
     ensures some { IfSome result (λ p. (P.form p).value ≡ kept nid dir bits) }
-    ensures only { IsPacketTo P.WAY (kept nid dir bits) → option_map (λ p. (P.form p).value) result ≡ Some (kept nid dir bits) }
+    ensures only { IsPacketTo P.WAY (kept nid dir bits) → IsFound P.form (kept nid dir bits) result }
 {
     match check_other(P::WAY, nid, dir, bits.len()) {
         Ok(()) => Some(P::of_kept(nid, dir, bits)),
@@ -122,7 +123,7 @@ fn kept_in<P: AnyPacket>(
 ) -> Result<Option<P>, AllocError>
     ensures made { IfOk result (λ o. IfSome o (λ p. (P.form p).made × IsPacketTo P.WAY (P.form p).value)) }
     ensures some { IfOk result (λ o. IfSome o (λ p. (b : List Bool) × ((P.form p).value ≡ kept nid dir b) × (view bits.now ≡ bits_tree b))) }
-    ensures only { IfOk result (λ o. (b : List Bool) → IsPacketTo P.WAY (kept nid dir b) → view bits.now ≡ bits_tree b → option_map (λ p. (P.form p).value) o ≡ Some (kept nid dir b)) }
+    ensures only { IfOk result (λ o. (b : List Bool) → IsPacketTo P.WAY (kept nid dir b) → view bits.now ≡ bits_tree b → IsFound P.form (kept nid dir b) o) }
 {
     match bits_in(alloc, bits)? {
         Some(bits) => Ok(kept_by(nid, dir, bits)),
@@ -155,7 +156,7 @@ fn marker_packet<P: AnyPacket>(
     requires { P.WAY ≡ ToTrain }
     ensures made { IfOk result (λ o. IfSome o (λ p. (P.form p).made × IsPacketTo P.WAY (P.form p).value)) }
     ensures some { IfOk result (λ o. IfSome o (λ p. (n : ℕ) × ((P.form p).value ≡ marker n) × IsPacketTree P.WAY (marker n) (marker_tree (view fields.now) (view nid.now)))) }
-    ensures only { IfOk result (λ o. (n : ℕ) → IsTrue (is_marker P.WAY n) → IsPacketTree P.WAY (marker n) (marker_tree (view fields.now) (view nid.now)) → option_map (λ p. (P.form p).value) o ≡ Some (marker n)) }
+    ensures only { IfOk result (λ o. (n : ℕ) → IsTrue (is_marker P.WAY n) → IsPacketTree P.WAY (marker n) (marker_tree (view fields.now) (view nid.now)) → IsFound P.form (marker n) o) }
 {
     if !is_zero(nid) {
         return Ok(None);
@@ -181,7 +182,7 @@ fn marker_members(value: &Value) -> Option<(&Value, &Value)>
 fn marker_in<P: AnyPacket>(alloc: Global, value: &Value) -> Result<Option<P>, AllocError>
     ensures made { IfOk result (λ o. IfSome o (λ p. (P.form p).made × IsPacketTo P.WAY (P.form p).value)) }
     ensures some { IfOk result (λ o. IfSome o (λ p. (n : ℕ) × ((P.form p).value ≡ marker n) × IsPacketTree P.WAY (marker n) (view value.now))) }
-    ensures only { IfOk result (λ o. (n : ℕ) → IsTrue (is_marker P.WAY n) → IsPacketTree P.WAY (marker n) (view value.now) → option_map (λ p. (P.form p).value) o ≡ Some (marker n)) }
+    ensures only { IfOk result (λ o. (n : ℕ) → IsTrue (is_marker P.WAY n) → IsPacketTree P.WAY (marker n) (view value.now) → IsFound P.form (marker n) o) }
 {
     match (P::WAY, marker_members(value)) {
         (Way::ToTrain, Some((fields, nid))) => marker_packet(alloc, fields, nid),
@@ -193,7 +194,7 @@ fn marker_in<P: AnyPacket>(alloc: Global, value: &Value) -> Result<Option<P>, Al
 fn packet_in<P: AnyPacket>(alloc: Global, value: &Value) -> Result<Option<P>, AllocError>
     ensures made { IfOk result (λ o. IfSome o (λ p. (P.form p).made × IsPacketTo P.WAY (P.form p).value)) }
     ensures some { IfOk result (λ o. IfSome o (λ p. (v : PacketValue) × ((P.form p).value ≡ unnamed P.WAY v) × IsPacketTree P.WAY v (view value.now))) }
-    ensures only { IfOk result (λ o. (v : PacketValue) → IsPacketTo P.WAY (unnamed P.WAY v) → IsPacketTree P.WAY v (view value.now) → option_map (λ p. (P.form p).value) o ≡ Some (unnamed P.WAY v)) }
+    ensures only { IfOk result (λ o. (v : PacketValue) → IsPacketTo P.WAY (unnamed P.WAY v) → IsPacketTree P.WAY v (view value.now) → IsFound P.form (unnamed P.WAY v) o) }
 {
     let way = P::WAY;
     if let Some((fields, dir, nid)) = typed_members(way, value) {
@@ -213,8 +214,8 @@ fn packet_in<P: AnyPacket>(alloc: Global, value: &Value) -> Result<Option<P>, Al
 /// `AllocError` where there is no memory.
 pub fn packets_in<P: AnyPacket>(alloc: Global, value: &Value) -> Result<Option<Vec<P>>, AllocError>
     ensures made { IfOk result (λ o. IfSome o (λ ps. All (λ p. (P.form p).made) ps.items × All (IsPacketTo P.WAY) (map (λ p. (P.form p).value) ps.items))) }
-    ensures some { IfOk result (λ o. IfSome o (λ ps. (vs : List PacketValue) × (ds : Items) × (map (λ p. (P.form p).value) ps.items ≡ map (unnamed P.WAY) vs) × (view value.now ≡ array ds) × ArePacketTrees P.WAY vs ds)) }
-    ensures only { IfOk result (λ o. (vs : List PacketValue) (ds : Items) → All (IsPacketTo P.WAY) (map (unnamed P.WAY) vs) → view value.now ≡ array ds → ArePacketTrees P.WAY vs ds → option_map (λ ps. map (λ p. (P.form p).value) ps.items) o ≡ Some (map (unnamed P.WAY) vs)) }
+    ensures some { IfOk result (λ o. IfSome o (λ ps. ListHasStandIns P.WAY (view value.now) (map (λ p. (P.form p).value) ps.items))) }
+    ensures only { IfOk result (λ o. ListHasOnly P.WAY (view value.now) (option_map (λ ps. map (λ p. (P.form p).value) ps.items) o)) }
 {
     match value.as_array() {
         Some(list) => packets_by(alloc, list.as_slice()),
@@ -225,8 +226,8 @@ pub fn packets_in<P: AnyPacket>(alloc: Global, value: &Value) -> Result<Option<V
 /// The same of the list.
 fn packets_by<P: AnyPacket>(alloc: Global, list: &[Value]) -> Result<Option<Vec<P>>, AllocError>
     ensures made { IfOk result (λ o. IfSome o (λ ps. All (λ p. (P.form p).made) ps.items × All (IsPacketTo P.WAY) (map (λ p. (P.form p).value) ps.items))) }
-    ensures some { IfOk result (λ o. IfSome o (λ ps. (vs : List PacketValue) × (map (λ p. (P.form p).value) ps.items ≡ map (unnamed P.WAY) vs) × ArePacketTrees P.WAY vs (items_view list.now))) }
-    ensures only { IfOk result (λ o. (vs : List PacketValue) → All (IsPacketTo P.WAY) (map (unnamed P.WAY) vs) → ArePacketTrees P.WAY vs (items_view list.now) → option_map (λ ps. map (λ p. (P.form p).value) ps.items) o ≡ Some (map (unnamed P.WAY) vs)) }
+    ensures some { IfOk result (λ o. IfSome o (λ ps. HaveStandIns P.WAY (items_view list.now) (map (λ p. (P.form p).value) ps.items))) }
+    ensures only { IfOk result (λ o. OnlyStandIns P.WAY (items_view list.now) (option_map (λ ps. map (λ p. (P.form p).value) ps.items) o)) }
 {
     let mut packets = Vec::new(alloc);
     for value in list {

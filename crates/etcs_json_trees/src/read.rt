@@ -1,12 +1,11 @@
 //! Reading values: only those are made that an item may have at their place.
 
-ghost use Rattle.std.specs.Prelude.{◌≡◌, ◌≤◌, ◌<◌, ◌⊎◌, ◌++◌, [], ◌∷◌, Err, IfOk, MatchOption, None, OnOk, Some, length, option_map};
-ghost use Rattle.json.specs.Json.{items, members, parse_map, value};
-ghost use Rattle.serde_json.specs.Data.{Data, array, no_members, object, put};
-ghost use Rattle.serde_json.specs.Read.{converted, of_items, of_json, of_members};
+ghost use Rattle.std.specs.Prelude.{◌≡◌, ◌≤◌, ◌<◌, ◌⊎◌, ◌++◌, [], ◌∷◌, Err, IfOk, MatchOption, None, OnOk, length, option_map};
+ghost use Rattle.json.specs.Json.{parse_map};
+ghost use Rattle.serde_json.specs.Data.{array, object, put};
 ghost use Rattle.serde_json.specs.View.{items_view, members_view, view};
 ghost use Rattle.etcs_json_trees.specs.Fits.{Fits, ItemsFit, MembersFit, members_weight};
-ghost use Rattle.etcs_json_trees.specs.Found.{Finds, HasNull, Keeps};
+ghost use Rattle.etcs_json_trees.specs.Found.{Finds, FindsMember, HasNull, first_items, first_members, first_value};
 
 use crate::fault::Fault;
 use crate::number::number;
@@ -26,9 +25,9 @@ pub(crate) fn read(
     place: Place,
     room: usize,
 ) -> Result<Option<Value>, Fault>
-    ensures ok { IfOk result (λ o. Finds (converted of_json (value depth reader.old)) (Fits place room) (option_map view o) reader.new) }
+    ensures ok { IfOk result (λ o. Finds (first_value depth reader.old) (Fits place room) (option_map view o) reader.new) }
     ensures shorter { OnOk result (length reader.new < length reader.old) }
-    ensures err { result ≡ Err Fault.Invalid → converted of_json (value depth reader.old) ≡ None }
+    ensures err { result ≡ Err Fault.Invalid → first_value depth reader.old ≡ None }
 {
     let token = reader.next().ok_or(Fault::Invalid)?;
     match token {
@@ -70,9 +69,9 @@ fn read_array(
     place: Place,
     room: usize,
 ) -> Result<Option<Value>, Fault>
-    ensures ok { IfOk result (λ o. Finds (parse_map array (converted of_items (items (value depth) (length reader.old) reader.old))) (Fits place room) (option_map view o) reader.new) }
+    ensures ok { IfOk result (λ o. Finds (parse_map array (first_items depth reader.old)) (Fits place room) (option_map view o) reader.new) }
     ensures shorter { OnOk result (length reader.new < length reader.old) }
-    ensures err { result ≡ Err Fault.Invalid → converted of_items (items (value depth) (length reader.old) reader.old) ≡ None }
+    ensures err { result ≡ Err Fault.Invalid → first_items depth reader.old ≡ None }
 {
     let Some((inner, left)) = place.list(room) else {
         skip_items(reader, depth)?;
@@ -90,9 +89,9 @@ fn read_items(
     place: Place,
     room: usize,
 ) -> Result<Option<Vec<Value>>, Fault>
-    ensures ok { IfOk result (λ o. Finds (converted of_items (items (value depth) (length reader.old) reader.old)) (ItemsFit place room) (option_map (λ v. items_view v.items) o) reader.new) }
+    ensures ok { IfOk result (λ o. Finds (first_items depth reader.old) (ItemsFit place room) (option_map (λ v. items_view v.items) o) reader.new) }
     ensures shorter { OnOk result (length reader.new < length reader.old) }
-    ensures err { result ≡ Err Fault.Invalid → converted of_items (items (value depth) (length reader.old) reader.old) ≡ None }
+    ensures err { result ≡ Err Fault.Invalid → first_items depth reader.old ≡ None }
 {
     let mut found = Vec::new(alloc);
     let mut left = room;
@@ -130,9 +129,9 @@ fn read_object(
     place: Place,
     room: usize,
 ) -> Result<Option<Value>, Fault>
-    ensures ok { IfOk result (λ o. Finds (parse_map object (converted (λ js. of_members js no_members) (members (value depth) (length reader.old) reader.old))) (Fits place room) (option_map view o) reader.new) }
+    ensures ok { IfOk result (λ o. Finds (parse_map object (first_members depth reader.old)) (Fits place room) (option_map view o) reader.new) }
     ensures shorter { OnOk result (length reader.new < length reader.old) }
-    ensures err { result ≡ Err Fault.Invalid → converted (λ js. of_members js no_members) (members (value depth) (length reader.old) reader.old) ≡ None }
+    ensures err { result ≡ Err Fault.Invalid → first_members depth reader.old ≡ None }
 {
     let Some(left) = place.object(room) else {
         skip_members(reader, depth)?;
@@ -150,9 +149,9 @@ fn read_members(
     place: Place,
     room: usize,
 ) -> Result<Option<Map<String, Value>>, Fault>
-    ensures ok { IfOk result (λ o. Finds (converted (λ js. of_members js no_members) (members (value depth) (length reader.old) reader.old)) (MembersFit place room) (option_map (λ m. members_view m.entries) o) reader.new) }
+    ensures ok { IfOk result (λ o. Finds (first_members depth reader.old) (MembersFit place room) (option_map (λ m. members_view m.entries) o) reader.new) }
     ensures shorter { OnOk result (length reader.new < length reader.old) }
-    ensures err { result ≡ Err Fault.Invalid → converted (λ js. of_members js no_members) (members (value depth) (length reader.old) reader.old) ≡ None }
+    ensures err { result ≡ Err Fault.Invalid → first_members depth reader.old ≡ None }
 {
     let mut found = Map::new(alloc);
     'members: while let Some(name) = reader.next_key()? {
@@ -178,9 +177,9 @@ fn read_member(
     found: &mut Map<String, Value>,
     name: &str,
 ) -> Result<(), Fault>
-    ensures ok { OnOk result ((d : Data) × (e : Data) × (converted of_json (value depth reader.old) ≡ Some (d, reader.new)) × Keeps (Fits place room d) d e × (members_view found.new.entries ≡ put name.now e (members_view found.old.entries))) }
+    ensures ok { OnOk result (FindsMember place room name.now (first_value depth reader.old) reader.new (members_view found.old.entries) (members_view found.new.entries)) }
     ensures shorter { OnOk result (length reader.new < length reader.old) }
-    ensures err { result ≡ Err Fault.Invalid → converted of_json (value depth reader.old) ≡ None }
+    ensures err { result ≡ Err Fault.Invalid → first_value depth reader.old ≡ None }
 {
     set(alloc, found, name, Value::Null)?;
     if let Some(member) = read(alloc, reader, depth, place, room)? {
@@ -205,8 +204,7 @@ fn set(
 
 /// The members, if none is null and they have the room.
 fn finished(found: Map<String, Value>, room: usize) -> Option<Map<String, Value>>
-    ensures { MatchOption result (HasNull (members_view found.entries) ⊎ (room < members_weight (members_view found.entries)))
-        (λ m. (members_view m.entries ≡ members_view found.entries) × (HasNull (members_view found.entries) → ⊥) × (members_weight (members_view found.entries) ≤ room)) }
+    ensures { let ms = members_view found.entries in MatchOption result (HasNull ms ⊎ (room < members_weight ms)) (λ m. (members_view m.entries ≡ ms) × (HasNull ms → ⊥) × (members_weight ms ≤ room)) }
 {
     if has_null(&found) || spend_members(&found, room).is_none() {
         return None;

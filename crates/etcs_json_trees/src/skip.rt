@@ -2,10 +2,10 @@
 
 ghost use Rattle.std.specs.Prelude.{ℕ, ◌≡◌, ◌∷◌, ◌<◌, List, length, false, None, Ok, OnErr, OnOk, Some, true};
 ghost use Rattle.std.specs.Bool.{MatchBool};
-ghost use Rattle.json.specs.Json.{after_end_array, read_key, value};
+ghost use Rattle.json.specs.Json.{after_end_array, read_key};
 ghost use Rattle.json.specs.Token.{begin_array, begin_object};
 ghost use Rattle.serde_json.specs.Data.{Data};
-ghost use Rattle.serde_json.specs.Read.{converted, of_json};
+ghost use Rattle.etcs_json_trees.specs.Found.{first_value};
 ghost use Rattle.etcs_json_trees.specs.Skips.{NoItems, NoMembers, SkipsItems, SkipsMembers};
 
 use crate::number::number;
@@ -21,11 +21,11 @@ enum Shape {
 /// Takes the first token of a value. Not inlined, so that no level of nesting holds its part of the stack.
 #[inline(never)]
 fn begin(reader: &mut Reader<'_>) -> Result<Shape, Invalid>
-    ensures scalar { result ≡ Ok Shape.Scalar → (d : Data) × ((depth : ℕ) → converted of_json (value depth reader.old) ≡ Some (d, reader.new)) }
+    ensures scalar { result ≡ Ok Shape.Scalar → (d : Data) × ((depth : ℕ) → first_value depth reader.old ≡ Some (d, reader.new)) }
     ensures array { result ≡ Ok Shape.Array → reader.old ≡ begin_array ∷ reader.new }
     ensures object { result ≡ Ok Shape.Object → reader.old ≡ begin_object ∷ reader.new }
     ensures shorter { OnOk result (length reader.new < length reader.old) }
-    ensures err { OnErr result ((depth : ℕ) → converted of_json (value depth reader.old) ≡ None) }
+    ensures err { OnErr result ((depth : ℕ) → first_value depth reader.old ≡ None) }
 {
     let token = reader.next().ok_or(Invalid)?;
     match token {
@@ -67,9 +67,9 @@ fn begin_member(reader: &mut Reader<'_>) -> Result<bool, Invalid>
 #[cycle(skip)]
 #[inline(always)]
 pub(crate) fn skip(reader: &mut Reader<'_>, depth: usize) -> Result<(), Invalid>
-    ensures ok { OnOk result ((d : Data) × (converted of_json (value depth reader.old) ≡ Some (d, reader.new))) }
+    ensures ok { OnOk result ((d : Data) × (first_value depth reader.old ≡ Some (d, reader.new))) }
     ensures shorter { OnOk result (length reader.new < length reader.old) }
-    ensures err { OnErr result (converted of_json (value depth reader.old) ≡ None) }
+    ensures err { OnErr result (first_value depth reader.old ≡ None) }
 {
     match begin(reader)? {
         Shape::Scalar => Ok(()),

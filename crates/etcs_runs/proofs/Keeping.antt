@@ -5,7 +5,7 @@ use Rattle.std.proofs.lemmas.List.{append-nil}
 use Rattle.std.proofs.lemmas.List.Elements.{All-append, All-nil}
 use Rattle.etcs_runs.specs.declared.fault.RunFault.{RunFault}
 use Rattle.etcs_runs.specs.Lines.{IsLine, lines_text}
-use Rattle.etcs_runs.specs.Cutting.{LinesStand}
+use Rattle.etcs_runs.specs.Cutting.{IsKept, LinesStand}
 use Rattle.etcs_runs.proofs.LineTexts.{cut_given, lines_few, lines_text-append, one_line}
 
 -- ---- Answers.
@@ -33,16 +33,10 @@ length-zero : (xs : List ℕ) → length xs ≡ 0 → xs ≡ []
 length-zero [] h = refl
 length-zero (x ∷ xs) h = absurd (omega (arith, h))
 
--- there are no more lines than bytes
-pub few_lines : (Took : List (List ℕ) → List ℕ → Type 0) (most : ℕ) (begun : List ℕ) (n line : ℕ) (given told : List ℕ) (h : LinesStand Took most begun n line given told) → (line ≡ length h.lines) × (length h.lines + n ≤ length given)
-few_lines Took most begun n line given told h = (h.line_is, omega (arith, h.n_is, lines_few h.lines, ap length h.given_is, length-append (lines_text h.lines) h.part))
-
-module _ (Took : List (List ℕ) → List ℕ → Type 0) (most : ℕ) (begun : List ℕ) (n line : ℕ) (given told : List ℕ) (h : LinesStand Took most begun n line given told) where
-  pub more_text : (part : List ℕ) → given ++ part ≡ lines_text h.lines ++ (h.part ++ part)
-  more_text part = longer_text (lines_text h.lines) h.part given part h.given_is
-
-  pub more_line : (part : List ℕ) → IsLine part → IsLine (h.part ++ part)
-  more_line part l = All-append (λ c. c ≡ 10 → ⊥) h.part part h.is_line l
+module _ {Took : List (List ℕ) → List ℕ → Type 0} {most : ℕ} {begun : List ℕ} {n line : ℕ} {given told : List ℕ} (h : LinesStand Took most begun n line given told) where
+  -- there are no more lines than bytes
+  pub few_lines : (line ≡ length h.lines) × (length h.lines + n ≤ length given)
+  few_lines = (h.line_is, omega (arith, h.n_is, lines_few h.lines, ap length h.given_is, length-append (lines_text h.lines) h.part))
 
   -- it has no character
   pub no_part : n ≡ 0 → h.part ≡ []
@@ -62,7 +56,7 @@ module _ (Took : List (List ℕ) → List ℕ → Type 0) (most : ℕ) (begun : 
   ]
 
   -- it is
-  pub long_took : most + 1 < n → (rest : List ℕ) → IsLine rest → Took (h.lines ++ (h.part ++ rest) ∷ []) told
+  long_took : most + 1 < n → (rest : List ℕ) → IsLine rest → Took (h.lines ++ (h.part ++ rest) ∷ []) told
   long_took long = elim h.kept [
     | inl k ↦ absurd (omega (arith, k.0, h.n_is, long))
     | inr k ↦ k.1
@@ -71,52 +65,39 @@ module _ (Took : List (List ℕ) → List ℕ → Type 0) (most : ℕ) (begun : 
   pub whole_took : most + 1 < n → Took (h.lines ++ h.part ∷ []) told
   whole_took long = subst (λ (z : List ℕ). Took (h.lines ++ z ∷ []) told) (append-nil h.part) (long_took long [] (All-nil (λ c. c ≡ 10 → ⊥)))
 
-  -- a part more is kept
-  pub keeps : (part begun' : List ℕ) (n' : ℕ) → begun' ≡ begun ++ part → n' ≡ n + length part → n' ≤ most + 1 → IsLine part → LinesStand Took most begun' n' line (given ++ part) told
-  keeps part begun' n' e m short l =
-      let before : n ≤ most + 1 = omega (arith, m, short) in
-      let long : n' ≡ length (h.part ++ part) = omega (arith, m, h.n_is, length-append h.part part) in
-      record {
-        lines = h.lines;
-        part = h.part ++ part;
-        given_is = more_text part;
-        is_line = more_line part l;
-        n_is = long;
-        line_is = h.line_is;
-        kept = inl (omega (arith, long, short), e ∙ ap (λ (z : List ℕ). z ++ part) (short_begun before), short_took before);
-      }
+  -- with a part more
+  module _ (part : List ℕ) where
+    pub more_text : given ++ part ≡ lines_text h.lines ++ (h.part ++ part)
+    more_text = longer_text (lines_text h.lines) h.part given part h.given_is
 
-  -- a part more is skipped
-  pub skips : (part begun' : List ℕ) (n' : ℕ) → n' ≡ n + length part → most + 1 < n → IsLine part → LinesStand Took most begun' n' line (given ++ part) told
-  skips part begun' n' m long l =
-      let more : n' ≡ length (h.part ++ part) = omega (arith, m, h.n_is, length-append h.part part) in
-      record {
-        lines = h.lines;
-        part = h.part ++ part;
-        given_is = more_text part;
-        is_line = more_line part l;
-        n_is = more;
-        line_is = h.line_is;
-        kept = inr (omega (arith, more, m, long), λ rest r. subst (λ (z : List ℕ). Took (h.lines ++ z ∷ []) told) (sym (append_assoc h.part part rest)) (long_took long (part ++ rest) (All-append (λ c. c ≡ 10 → ⊥) part rest l r)));
-      }
+    pub more_line : IsLine part → IsLine (h.part ++ part)
+    more_line l = All-append (λ c. c ≡ 10 → ⊥) h.part part h.is_line l
 
-  -- with it the line is too long, and was reported
-  pub reported : (Took' : List (List ℕ) → List ℕ → Type 0) (most' : ℕ) (part begun' : List ℕ) (n' : ℕ) (told' : List ℕ) → most' ≡ most → n' ≡ n + length part → most + 1 < n' → IsLine part → ((rest : List ℕ) → IsLine rest → Took' (h.lines ++ ((h.part ++ part) ++ rest) ∷ []) told') → LinesStand Took' most' begun' n' line (given ++ part) told'
-  reported Took' most' part begun' n' told' same m long l took =
-      let more : n' ≡ length (h.part ++ part) = omega (arith, m, h.n_is, length-append h.part part) in
-      record {
-        lines = h.lines;
-        part = h.part ++ part;
-        given_is = more_text part;
-        is_line = more_line part l;
-        n_is = more;
-        line_is = h.line_is;
-        kept = inr (omega (arith, same, more, long), took);
-      }
+    -- it becomes too long
+    pub longer : most + 1 < n + length part → most + 1 < length (h.part ++ part)
+    longer long = omega (arith, long, h.n_is, length-append h.part part)
 
-  -- it becomes too long in vain
-  pub keep_refused : (P : List ℕ → Type 0) (part more : List ℕ) → P (lines_text h.lines ++ ((h.part ++ part) ++ more)) → P (given ++ (part ++ more))
-  keep_refused P part more = subst P (sym (longer_text (lines_text h.lines) (h.part ++ part) (given ++ part) more (more_text part)) ∙ append_assoc given part more)
+    pub keep_refused : (P : List ℕ → Type 0) (more : List ℕ) → P (lines_text h.lines ++ ((h.part ++ part) ++ more)) → P (given ++ (part ++ more))
+    keep_refused P more = subst P (sym (longer_text (lines_text h.lines) (h.part ++ part) (given ++ part) more more_text) ∙ append_assoc given part more)
+
+    continued : {Took' : List (List ℕ) → List ℕ → Type 0} {most' : ℕ} {begun' : List ℕ} {n' : ℕ} {told' : List ℕ} → IsLine part → n' ≡ n + length part → IsKept Took' most' h.lines (h.part ++ part) begun' told' → LinesStand Took' most' begun' n' line (given ++ part) told'
+    continued l m kept =
+        record { lines = h.lines; part = h.part ++ part; given_is = more_text; is_line = more_line l; n_is = omega (arith, m, h.n_is, length-append h.part part); line_is = h.line_is; kept = kept }
+
+    -- the part is kept
+    pub keeps : {begun' : List ℕ} {n' : ℕ} → IsLine part → begun' ≡ begun ++ part → n' ≡ n + length part → n' ≤ most + 1 → LinesStand Took most begun' n' line (given ++ part) told
+    keeps l e m short =
+        let before : n ≤ most + 1 = omega (arith, m, short) in
+        continued l m (inl (omega (arith, m, short, h.n_is, length-append h.part part), e ∙ ap (λ (z : List ℕ). z ++ part) (short_begun before), short_took before))
+
+    -- it is skipped
+    pub skips : {begun' : List ℕ} {n' : ℕ} → IsLine part → n' ≡ n + length part → most + 1 < n → LinesStand Took most begun' n' line (given ++ part) told
+    skips l m long =
+        continued l m (inr (omega (arith, long, h.n_is, length-append h.part part), λ rest r. subst (λ (z : List ℕ). Took (h.lines ++ z ∷ []) told) (sym (append_assoc h.part part rest)) (long_took long (part ++ rest) (All-append (λ c. c ≡ 10 → ⊥) part rest l r))))
+
+    -- the line was reported
+    pub reported : {Took' : List (List ℕ) → List ℕ → Type 0} {most' : ℕ} {begun' : List ℕ} {n' : ℕ} {told' : List ℕ} → IsLine part → most' ≡ most → n' ≡ n + length part → most + 1 < length (h.part ++ part) → ((rest : List ℕ) → IsLine rest → Took' (h.lines ++ ((h.part ++ part) ++ rest) ∷ []) told') → LinesStand Took' most' begun' n' line (given ++ part) told'
+    reported l same m long took = continued l m (inr (omega (arith, same, long), took))
 
 -- ---- A line that ends.
 
@@ -124,8 +105,8 @@ module _ (lines : List (List ℕ)) (raw given part : List ℕ) (is : given ++ pa
   line_text : (more : List ℕ) → given ++ (part ++ 10 ∷ more) ≡ lines_text lines ++ (raw ++ 10 ∷ more)
   line_text more = sym (append_assoc given part (10 ∷ more)) ∙ longer_text (lines_text lines) raw (given ++ part) (10 ∷ more) is
 
-  pub line_taken : (Took : List (List ℕ) → List ℕ → Type 0) (most : ℕ) (begun : List ℕ) (n line : ℕ) (told : List ℕ) → begun ≡ [] → n ≡ 0 → line ≡ length lines + 1 → Took (lines ++ raw ∷ []) told → LinesStand Took most begun n line (given ++ (part ++ 10 ∷ [])) told
-  line_taken Took most begun n line told e z m took = record {
+  pub line_taken : {Took : List (List ℕ) → List ℕ → Type 0} {most : ℕ} {begun : List ℕ} {n line : ℕ} {told : List ℕ} → begun ≡ [] → n ≡ 0 → line ≡ length lines + 1 → Took (lines ++ raw ∷ []) told → LinesStand Took most begun n line (given ++ (part ++ 10 ∷ [])) told
+  line_taken e z m took = record {
     lines = lines ++ raw ∷ [];
     part = [];
     given_is =

@@ -45,12 +45,6 @@ wrote_some E zero piece h = absurd (h refl)
 wrote_some E (suc n) [] h = refl
 wrote_some E (suc n) (x ∷ xs) h = refl
 
--- a read that gave nothing
-pub Consumes-end : (u v w : Option (List ℕ)) (a buffer : List ℕ) (n : ℕ) → n ≡ 0 → Consumes u v a → Consumes v w (take n buffer) → Consumes u w a
-Consumes-end u v w a buffer n e x y =
-    let none : take n buffer ≡ [] = ap (λ k. take k buffer) e in
-    subst (λ z. Consumes u w z) (ap (λ (z : List ℕ). a ++ z) none ∙ append-nil a) (Consumes-then u v w a (take n buffer) x y)
-
 -- a read to the front of a buffer is one to the whole buffer
 pub front_bound : {E : Type 0} (r : Result ℕ E) (front rest : List ℕ) → ReadsAtMost r front → ReadsAtMost r (front ++ rest)
 front_bound (Ok n) front rest h = (omega (arith, h.0, length-append front rest), h.1 ∙ ap length (sym (take-append-le n front rest h.0)))

@@ -1,5 +1,9 @@
 -- What is kept of lines that come in pieces.
-use Rattle.std.specs.Prelude.{◌≡◌, ℕ, ◌+◌, ◌<◌, ◌≤◌, ◌⊎◌, List, [], ◌∷◌, ◌++◌, length}
+use Rattle.std.specs.Prelude.{◌≡◌, ℕ, ◌+◌, ◌^◌, ◌<◌, ◌≤◌, ◌⊎◌, List, [], ◌∷◌, ◌++◌, length, Result, OnOk, OnErr}
+use Rattle.etcs_runs.specs.declared.cutter.Lines.{Lines}
+use Rattle.etcs_runs.specs.declared.cutter.LineHandler.{Ghosts as HandlerOf}
+use Rattle.etcs_runs.specs.declared.fault.RunFault.{RunFault}
+use Rattle.etcs_runs.specs.Faults.{IfFault}
 use Rattle.etcs_runs.specs.Lines.{IsLine, lines_text}
 
 -- of the line that begins so, all is kept, and those before it were taken; or it is too long, and was taken with them
@@ -19,3 +23,30 @@ pub record LinesStand (Took : List (List ℕ) → List ℕ → Type 0) (most : �
   pub n_is : n ≡ length part
   pub line_is : line ≡ length lines
   pub kept : IsKept Took most lines part begun told
+
+module _ {H J T : Type 0} (h : HandlerOf H J T) where
+  -- these bytes were given to the cutter, and its handler wrote this text of them
+  abbrev pub Stands : Lines H J T → List ℕ → List ℕ → Type 0
+  Stands s given told = LinesStand (h.took s.handler) (h.most (h.job s.handler)) s.begun.items s.count s.line given told
+
+  module _ (old : Lines H J T) (text : List ℕ) where
+    -- some were, and this many more may be
+    abbrev pub HasRoom : ℕ → Type 0
+    HasRoom n = (given : List ℕ) × (told : List ℕ) × Stands old given (told ++ text) × (length given + n < 2 ^ 62)
+
+    -- whatever they are, and whatever text was written before this one
+    abbrev pub WhereGiven : (List ℕ → List ℕ → Type 0) → Type 0
+    WhereGiven Holds = (given told : List ℕ) → Stands old given (told ++ text) → Holds given told
+
+    module _ (text' : List ℕ) (r : Result Unit RunFault) where
+      -- this part more is taken
+      abbrev pub TakesPart : Lines H J T → List ℕ → Type 0
+      TakesPart new part = WhereGiven (λ given told. OnOk r (Stands new (given ++ part) (told ++ text')))
+
+      -- each input that continues with these bytes stops so
+      abbrev pub StopsAt : List ℕ → Type 0
+      StopsAt bytes = WhereGiven (λ given told. IfFault r ((h.promises (h.job old.handler)).Stops (given ++ bytes) (told ++ text')))
+
+      -- where it fails, the handler says this
+      abbrev pub SaysSo : Lines H J T → Type 0
+      SaysSo new = WhereGiven (λ given told. OnErr r (h.said new.handler (told ++ text')))

@@ -1,5 +1,5 @@
 -- The line of each fault, and which faults are of the input.
-use Rattle.std.specs.Prelude.{ℕ, List, ◌++◌, codes}
+use Rattle.std.specs.Prelude.{ℕ, List, ◌++◌, codes, Result, IfErr}
 use Rattle.std.specs.Fmt.{decimal}
 use Rattle.etcs_vars.specs.Vars.{name}
 use Rattle.etcs_runs.specs.declared.fault.RunFault.{RunFault}
@@ -26,3 +26,7 @@ IsOfEngine Read = ⊥
 IsOfEngine (Write sent) = ⊥
 IsOfEngine Endless = Unit {0}
 IsOfEngine Memory = Unit {0}
+
+-- where this fails, the fault is of the engine, and this holds of it
+abbrev pub IfFault : {T : Type 0} → Result T RunFault → (RunFault → Type 0) → Type 0
+IfFault r Holds = IfErr r (λ e. IsOfEngine e × Holds e)

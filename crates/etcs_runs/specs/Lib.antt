@@ -5,6 +5,7 @@ pub mod Pipes
 pub mod Promises
 pub mod Passes
 pub mod Runs
+pub mod Handling
 pub mod Cutting
 pub mod Digits
 pub mod Cuts

@@ -1,6 +1,8 @@
 -- What a run did.
 use Rattle.std.specs.Prelude.{◌≡◌, ℕ, ◌+◌, ◌*◌, ◌%◌, ◌^◌, ◌≤◌, ◌⊎◌, List, Option, Result, Err, length, IfOk, IfErr, OnOk}
 use Rattle.std.specs.Io.KnownBytes.{Consumes, IsAtEnd}
+use Rattle.etcs_runs.specs.declared.ends.Sink.{Ghosts as SinkOf}
+use Rattle.etcs_runs.specs.declared.ends.Source.{Ghosts as SourceOf}
 use Rattle.etcs_runs.specs.declared.fault.RunFault.{RunFault}
 use Rattle.etcs_runs.specs.declared.fault.RunFault.TheVariants.{Read, Write, Endless, Memory}
 use Rattle.etcs_runs.specs.Ends.{FailedBy, FlushedOnlyWhere}
@@ -23,3 +25,8 @@ pub record Ran {T : Type 0} (p : Promises T) (most : ℕ) (left left' : Option (
   pub memory : IfErr result (λ e. e ≡ Memory → Piped (StarvesIn p) left left' held held')
   pub failures : IfErr result (λ e. FailedBy e missed missed' failed failed')
   pub pieces : (given : List ℕ) × Consumes left left' given × (length given + 4096 * reads ≤ 4096 * reads')
+
+-- of a source and a sink
+abbrev pub RanOver : {S W T : Type 0} → SourceOf S → SinkOf W → Promises T → ℕ → (source source' : S) (sink sink' : W) → Result T RunFault → Type 0
+RanOver s w p most source source' sink sink' r =
+    Ran p most (s.remaining source) (s.remaining source') (s.reads source) (s.reads source') (s.failures source) (s.failures source') (w.contents sink) (w.contents sink') (w.failures sink) (w.failures sink') (w.flushes sink) (w.flushes sink') r

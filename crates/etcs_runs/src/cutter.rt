@@ -1,10 +1,8 @@
 //! Cuts text into lines.
 
-ghost use Rattle.std.specs.Prelude.{◌≡◌, ◌+◌, ◌-◌, ◌^◌, ◌<◌, ◌≤◌, ◌++◌, ◌∷◌, ℕ, List, [], length, vec_len, IfOk, IfErr, OnErr, OnOk};
-ghost use Rattle.etcs_runs.specs.Faults.{IsOfEngine};
-ghost use Rattle.etcs_runs.specs.Lines.{IsLine, lines_text, strip_cr};
-ghost use Rattle.etcs_runs.specs.Cutting.{LinesStand};
-ghost use Rattle.etcs_runs.specs.laws.CutLaws.{lines_tell};
+ghost use Rattle.std.specs.Prelude.{◌≡◌, ◌+◌, ◌^◌, ◌<◌, ◌++◌, ◌∷◌, ℕ, List, [], length, OnErr};
+ghost use Rattle.etcs_runs.specs.Lines.{IsLine};
+ghost use Rattle.etcs_runs.specs.Handling.{EndsLong, EndsWith, SaysAfter, StopsAtLine, StopsAtLong, StopsLong, StopsWith, TakesLine, TakesLong, TookSome};
 
 use crate::engine::{Engine, MOST_READ};
 use crate::fault::RunFault;
@@ -48,11 +46,11 @@ pub trait LineHandler {
     ///
     /// Where each input that begins so ends so, and `Memory`. The text of the items in front was appended.
     fn handle_line(&mut self, line: &[u8], number: u64, text: &mut Vec<u8>) -> Result<(), RunFault>
-        requires took { (lines : List (List ℕ)) × (told : List ℕ) × took self.old lines told × (length lines < 2 ^ 62) }
+        requires took { TookSome (took self.old) }
         ensures job { job self.new ≡ job self.old }
-        ensures ok { (lines : List (List ℕ)) (raw told : List ℕ) → took self.old lines (told ++ text.old.items) → IsLine raw → line.now ≡ strip_cr raw → OnOk result (took self.new (lines ++ raw ∷ []) (told ++ text.new.items)) }
-        ensures err { (lines : List (List ℕ)) (raw more told : List ℕ) → took self.old lines (told ++ text.old.items) → IsLine raw → line.now ≡ strip_cr raw → number ≡ length lines + 1 → IfErr result (λ e. IsOfEngine e × (promises (job self.old)).Stops (lines_text lines ++ (raw ++ 10 ∷ more)) (told ++ text.new.items) e) }
-        ensures said { (lines : List (List ℕ)) (told : List ℕ) → took self.old lines (told ++ text.old.items) → OnErr result (said self.new (told ++ text.new.items)) };
+        ensures ok { TakesLine (took self.old) (took self.new) line.now text.old.items text.new.items result }
+        ensures err { StopsAtLine (took self.old) (promises (job self.old)) line.now number text.old.items text.new.items result }
+        ensures said { SaysAfter (took self.old) (said self.new) text.old.items text.new.items result };
 
     /// The line of this number has more characters than `most` and a CR, and isn't kept. Where this answers `Ok`, it has
     /// reported the line, whatever else it has, and the next call is of the line after it, or `close`.
@@ -61,11 +59,11 @@ pub trait LineHandler {
     ///
     /// As `handle_line`.
     fn refuse_long(&mut self, number: u64, text: &mut Vec<u8>) -> Result<(), RunFault>
-        requires took { (lines : List (List ℕ)) × (told : List ℕ) × took self.old lines told × (length lines < 2 ^ 62) }
+        requires took { TookSome (took self.old) }
         ensures job { job self.new ≡ job self.old }
-        ensures ok { (lines : List (List ℕ)) (part told : List ℕ) → took self.old lines (told ++ text.old.items) → IsLine part → most (job self.old) + 1 < length part → OnOk result ((rest : List ℕ) → IsLine rest → took self.new (lines ++ (part ++ rest) ∷ []) (told ++ text.new.items)) }
-        ensures err { (lines : List (List ℕ)) (part more told : List ℕ) → took self.old lines (told ++ text.old.items) → IsLine part → most (job self.old) + 1 < length part → number ≡ length lines + 1 → IfErr result (λ e. IsOfEngine e × (promises (job self.old)).Stops (lines_text lines ++ (part ++ more)) (told ++ text.new.items) e) }
-        ensures said { (lines : List (List ℕ)) (told : List ℕ) → took self.old lines (told ++ text.old.items) → OnErr result (said self.new (told ++ text.new.items)) };
+        ensures ok { TakesLong (took self.old) (took self.new) (most (job self.old)) text.old.items text.new.items result }
+        ensures err { StopsAtLong (took self.old) (promises (job self.old)) (most (job self.old)) number text.old.items text.new.items result }
+        ensures said { SaysAfter (took self.old) (said self.new) text.old.items text.new.items result };
 
     /// Takes the last line, of this number, which may be empty and has no LF; and writes what comes at the end.
     ///
@@ -78,10 +76,10 @@ pub trait LineHandler {
         number: u64,
         text: &mut Vec<u8>,
     ) -> Result<Self::Tally, RunFault>
-        requires took { (lines : List (List ℕ)) × (told : List ℕ) × took self.old lines told × (length lines < 2 ^ 62) }
+        requires took { TookSome (took self.old) }
         requires empty { text.old.items ≡ [] }
-        ensures ok { (lines : List (List ℕ)) (told : List ℕ) → took self.old lines told → IsLine line.now → IfOk result (λ tally. (promises (job self.old)).Ends (lines_text lines ++ line.now) (told ++ text.new.items) tally) }
-        ensures err { (lines : List (List ℕ)) (told : List ℕ) → took self.old lines told → IsLine line.now → number ≡ length lines + 1 → IfErr result (λ e. IsOfEngine e × (promises (job self.old)).StopsAtEnd (lines_text lines ++ line.now) (told ++ text.new.items) e) }
+        ensures ok { EndsWith (took self.old) (promises (job self.old)) line.now text.new.items result }
+        ensures err { StopsWith (took self.old) (promises (job self.old)) line.now number text.new.items result }
         ensures said { (lines : List (List ℕ)) (told : List ℕ) → took self.old lines told → OnErr result (said self.new (told ++ text.new.items)) };
 
     /// The last line was too long, and was reported: writes what comes at the end.
@@ -90,10 +88,10 @@ pub trait LineHandler {
     ///
     /// What is wrong with an input that ends so, and `Memory`.
     fn close(&mut self, text: &mut Vec<u8>) -> Result<Self::Tally, RunFault>
-        requires took { (lines : List (List ℕ)) × (told : List ℕ) × took self.old lines told × (length lines < 2 ^ 62) }
+        requires took { TookSome (took self.old) }
         requires empty { text.old.items ≡ [] }
-        ensures ok { (lines : List (List ℕ)) (last told : List ℕ) → took self.old (lines ++ last ∷ []) told → IsLine last → most (job self.old) + 1 < length last → IfOk result (λ tally. (promises (job self.old)).Ends (lines_text lines ++ last) (told ++ text.new.items) tally) }
-        ensures err { (lines : List (List ℕ)) (last told : List ℕ) → took self.old (lines ++ last ∷ []) told → IsLine last → most (job self.old) + 1 < length last → IfErr result (λ e. IsOfEngine e × (promises (job self.old)).StopsAtEnd (lines_text lines ++ last) (told ++ text.new.items) e) }
+        ensures ok { EndsLong (took self.old) (promises (job self.old)) (most (job self.old)) text.new.items result }
+        ensures err { StopsLong (took self.old) (promises (job self.old)) (most (job self.old)) text.new.items result }
         ensures said { (lines : List (List ℕ)) (told : List ℕ) → took self.old lines told → OnErr result (said self.new (told ++ text.new.items)) };
 
     ghost sound: { (t : Self) → Sound (promises (job t)) };
@@ -117,6 +115,8 @@ pub struct Lines<T: LineHandler> {
 }
 
 impl<T: LineHandler> Lines<T> {
+    ghost use Rattle.etcs_runs.specs.Cutting.{HasRoom, SaysSo, StopsAt, TakesPart};
+
     /// Nothing has come yet.
     pub fn new(alloc: Global, handler: T) -> Lines<T>
         requires { T.took handler [] [] }
@@ -137,13 +137,13 @@ impl<T: LineHandler> Lines<T> {
     ///
     /// Those of the handler where the line becomes too long, and `Memory`.
     fn keep(&mut self, part: &[u8], text: &mut Vec<u8>) -> Result<(), RunFault>
-        requires stands { (given : List ℕ) × (told : List ℕ) × LinesStand (T.took self.old.handler) (T.most (T.job self.old.handler)) self.old.begun.items self.old.count self.old.line given (told ++ text.old.items) × (length given + length part.now < 2 ^ 62) }
+        requires stands { HasRoom T.LineHandler self.old text.old.items (length part.now) }
         requires line { IsLine part.now }
         ensures job { T.job self.new.handler ≡ T.job self.old.handler }
         ensures line { self.new.line ≡ self.old.line }
-        ensures ok { (given told : List ℕ) → LinesStand (T.took self.old.handler) (T.most (T.job self.old.handler)) self.old.begun.items self.old.count self.old.line given (told ++ text.old.items) → OnOk result (LinesStand (T.took self.new.handler) (T.most (T.job self.new.handler)) self.new.begun.items self.new.count self.new.line (given ++ part.now) (told ++ text.new.items)) }
-        ensures err { (given told more : List ℕ) → LinesStand (T.took self.old.handler) (T.most (T.job self.old.handler)) self.old.begun.items self.old.count self.old.line given (told ++ text.old.items) → IfErr result (λ e. IsOfEngine e × (T.promises (T.job self.old.handler)).Stops (given ++ (part.now ++ more)) (told ++ text.new.items) e) }
-        ensures said { (given told : List ℕ) → LinesStand (T.took self.old.handler) (T.most (T.job self.old.handler)) self.old.begun.items self.old.count self.old.line given (told ++ text.old.items) → OnErr result (T.said self.new.handler (told ++ text.new.items)) }
+        ensures ok { TakesPart T.LineHandler self.old text.old.items text.new.items result self.new part.now }
+        ensures err { (more : List ℕ) → StopsAt T.LineHandler self.old text.old.items text.new.items result (part.now ++ more) }
+        ensures said { SaysSo T.LineHandler self.old text.old.items text.new.items result self.new }
     {
         let most = self.handler.most() + 1;
         let before = self.count;
@@ -162,12 +162,12 @@ impl<T: LineHandler> Lines<T> {
 
     /// A line ends here, of which this is the last part. One that lies whole in it isn't kept.
     fn end_line(&mut self, part: &[u8], text: &mut Vec<u8>) -> Result<(), RunFault>
-        requires stands { (given : List ℕ) × (told : List ℕ) × LinesStand (T.took self.old.handler) (T.most (T.job self.old.handler)) self.old.begun.items self.old.count self.old.line given (told ++ text.old.items) × (length given + length part.now < 2 ^ 62) }
+        requires stands { HasRoom T.LineHandler self.old text.old.items (length part.now) }
         requires line { IsLine part.now }
         ensures job { T.job self.new.handler ≡ T.job self.old.handler }
-        ensures ok { (given told : List ℕ) → LinesStand (T.took self.old.handler) (T.most (T.job self.old.handler)) self.old.begun.items self.old.count self.old.line given (told ++ text.old.items) → OnOk result (LinesStand (T.took self.new.handler) (T.most (T.job self.new.handler)) self.new.begun.items self.new.count self.new.line (given ++ (part.now ++ 10 ∷ [])) (told ++ text.new.items)) }
-        ensures err { (given told more : List ℕ) → LinesStand (T.took self.old.handler) (T.most (T.job self.old.handler)) self.old.begun.items self.old.count self.old.line given (told ++ text.old.items) → IfErr result (λ e. IsOfEngine e × (T.promises (T.job self.old.handler)).Stops (given ++ (part.now ++ 10 ∷ more)) (told ++ text.new.items) e) }
-        ensures said { (given told : List ℕ) → LinesStand (T.took self.old.handler) (T.most (T.job self.old.handler)) self.old.begun.items self.old.count self.old.line given (told ++ text.old.items) → OnErr result (T.said self.new.handler (told ++ text.new.items)) }
+        ensures ok { TakesPart T.LineHandler self.old text.old.items text.new.items result self.new (part.now ++ 10 ∷ []) }
+        ensures err { (more : List ℕ) → StopsAt T.LineHandler self.old text.old.items text.new.items result (part.now ++ 10 ∷ more) }
+        ensures said { SaysSo T.LineHandler self.old text.old.items text.new.items result self.new }
     {
         if self.count == 0 {
             self.line += 1;
@@ -187,6 +187,9 @@ impl<T: LineHandler> Lines<T> {
 }
 
 impl<T: LineHandler> Engine for Lines<T> {
+    ghost use Rattle.etcs_runs.specs.Cutting.{Stands};
+    ghost use Rattle.etcs_runs.specs.laws.CutLaws.{lines_tell};
+
     type Job = T::Job;
 
     type Tally = T::Tally;
@@ -195,7 +198,7 @@ impl<T: LineHandler> Engine for Lines<T> {
 
     ghost promises = { T.promises };
 
-    ghost stands = { λ s given told. LinesStand (T.took s.handler) (T.most (T.job s.handler)) s.begun.items s.count s.line given told };
+    ghost stands = { Stands T.LineHandler };
 
     ghost said = { λ s told. T.said s.handler told };
 

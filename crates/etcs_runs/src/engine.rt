@@ -1,7 +1,7 @@
 //! What is fed with the input, and writes text of it.
 
-ghost use Rattle.std.specs.Prelude.{◌≡◌, ◌<◌, ◌≤◌, ◌+◌, ◌^◌, ℕ, List, [], ◌++◌, length, IfOk, IfErr, OnErr, OnOk};
-ghost use Rattle.etcs_runs.specs.Faults.{IsOfEngine};
+ghost use Rattle.std.specs.Prelude.{◌≡◌, ◌<◌, ◌≤◌, ◌+◌, ◌^◌, ℕ, List, [], ◌++◌, length, IfOk, OnErr, OnOk};
+ghost use Rattle.etcs_runs.specs.Faults.{IfFault};
 
 use crate::fault::RunFault;
 
@@ -45,7 +45,7 @@ pub trait Engine {
         requires empty { text.old.items ≡ [] }
         ensures job { job self.new ≡ job self.old }
         ensures ok { (given told : List ℕ) → stands self.old given told → OnOk result (stands self.new (given ++ piece.now) (told ++ text.new.items)) }
-        ensures err { (given told : List ℕ) → stands self.old given told → IfErr result (λ e. IsOfEngine e × (promises (job self.old)).Stops (given ++ piece.now) (told ++ text.new.items) e) }
+        ensures err { (given told : List ℕ) → stands self.old given told → IfFault result ((promises (job self.old)).Stops (given ++ piece.now) (told ++ text.new.items)) }
         ensures said { (given told : List ℕ) → stands self.old given told → OnErr result (said self.new (told ++ text.new.items)) };
 
     /// The input ends here.
@@ -57,7 +57,7 @@ pub trait Engine {
         requires stands { (given : List ℕ) × (told : List ℕ) × stands self.old given told × (length given < 2 ^ 62) }
         requires empty { text.old.items ≡ [] }
         ensures ok { (given told : List ℕ) → stands self.old given told → IfOk result (λ tally. (promises (job self.old)).Ends given (told ++ text.new.items) tally) }
-        ensures err { (given told : List ℕ) → stands self.old given told → IfErr result (λ e. IsOfEngine e × (promises (job self.old)).StopsAtEnd given (told ++ text.new.items) e) }
+        ensures err { (given told : List ℕ) → stands self.old given told → IfFault result ((promises (job self.old)).StopsAtEnd given (told ++ text.new.items)) }
         ensures said { (given told : List ℕ) → stands self.old given told → OnErr result (said self.new (told ++ text.new.items)) };
 
     ghost sound: { (e : Self) → Sound (promises (job e)) };

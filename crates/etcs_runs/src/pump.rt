@@ -1,15 +1,14 @@
 //! Bytes from a source through an engine to a sink.
 
-ghost use Rattle.std.specs.Prelude.{◌≡◌, ◌+◌, ◌-◌, ◌%◌, ◌^◌, ◌<◌, ◌≤◌, ◌⊎◌, ◌++◌, ℕ, List, [], length, take, IfOk, IfErr, OnErr, OnOk};
+ghost use Rattle.std.specs.Prelude.{◌≡◌, ◌+◌, ◌-◌, ◌%◌, ◌^◌, ◌<◌, ◌≤◌, ℕ, List, [], length, IfErr, OnErr, OnOk};
 ghost use Rattle.std.specs.Io.{ReadsAtMost};
 ghost use Rattle.std.specs.Io.KnownBytes.{Appends, ReadConsumes};
-ghost use Rattle.etcs_runs.specs.Ends.{FlushedOnlyWhere, failed_calls};
+ghost use Rattle.etcs_runs.specs.Ends.{failed_calls};
 ghost use Rattle.etcs_runs.specs.declared.fault.RunFault.{RunFault};
 ghost use Rattle.etcs_runs.specs.Faults.{IsOfEngine};
-ghost use Rattle.etcs_runs.specs.Promises.{EndsWhole};
 ghost use Rattle.etcs_runs.specs.Pipes.{Piped};
-ghost use Rattle.etcs_runs.specs.Passes.{Stopped, Broken, counted};
-ghost use Rattle.etcs_runs.specs.Runs.{Ran};
+ghost use Rattle.etcs_runs.specs.Passes.{Closes, ClosesNot, FlushesLast, HasRoom, Passes, PassesNot, Starves, TookFirst, counted};
+ghost use Rattle.etcs_runs.specs.Runs.{RanOver};
 
 use crate::ends::{Failed, Sink, Source};
 use crate::engine::{Engine, MOST_READ};
@@ -30,7 +29,7 @@ fn write_all<W: Sink>(sink: &mut W, text: &[u8], sent: &mut u64) -> Result<(), R
     ensures sent { (n : ℕ) → sent.old ≡ counted n → OnOk result (sent.new ≡ counted (n + length text.now)) }
     ensures broke { IfErr result (λ e. (k : ℕ) × (e ≡ RunFault.Write k)) }
     ensures one { OnErr result (W.failures sink.new ≡ W.failures sink.old + 1) }
-    ensures part { (n : ℕ) → sent.old ≡ counted n → IfErr result (λ e. (k : ℕ) × (k ≤ length text.now) × (e ≡ RunFault.Write (counted (n + k))) × Appends (W.contents sink.old) (W.contents sink.new) (take k text.now)) }
+    ensures part { (n : ℕ) → sent.old ≡ counted n → IfErr result (TookFirst W.Sink sink.old sink.new n text.now) }
     ensures unflushed { W.flushes sink.new ≡ W.flushes sink.old }
 {
     let mut count = 0;
@@ -50,12 +49,12 @@ fn pass<E: Engine, W: Sink>(
     sink: &mut W,
     sent: &mut u64,
 ) -> Result<(), RunFault>
-    requires stands { (given : List ℕ) × (told : List ℕ) × E.stands engine.old given told × (length given + length piece.now < 2 ^ 62) }
+    requires stands { HasRoom E.Engine engine.old (length piece.now) }
     requires failures { W.failures sink.old < 2 ^ 63 }
     ensures job { E.job engine.new ≡ E.job engine.old }
-    ensures ok { (given told : List ℕ) → E.stands engine.old given told → sent.old ≡ counted (length told) → OnOk result (E.stands engine.new (given ++ piece.now) (told ++ text.new.items) × Appends (W.contents sink.old) (W.contents sink.new) text.new.items × (sent.new ≡ counted (length (told ++ text.new.items))) × (W.failures sink.new ≡ W.failures sink.old)) }
-    ensures err { (given told : List ℕ) → E.stands engine.old given told → sent.old ≡ counted (length told) → IfErr result (λ e. Stopped ((E.promises (E.job engine.old)).Stops (given ++ piece.now)) told text.new.items (W.contents sink.old) (W.contents sink.new) e ⊎ Broken ((E.promises (E.job engine.old)).Prints (given ++ piece.now)) told text.new.items (W.contents sink.old) (W.contents sink.new) (W.failures sink.old) (W.failures sink.new) e) }
-    ensures said { (given told : List ℕ) → E.stands engine.old given told → IfErr result (λ e. e ≡ RunFault.Memory → E.said engine.new (told ++ text.new.items)) }
+    ensures ok { Passes E.Engine engine.old W.Sink sink.old sink.new text.new.items sent.old engine.new piece.now sent.new result }
+    ensures err { PassesNot E.Engine engine.old W.Sink sink.old sink.new text.new.items sent.old piece.now result }
+    ensures said { Starves E.Engine engine.old engine.new text.new.items result }
     ensures uncounted { IfErr result (λ e. IsOfEngine e → W.failures sink.new ≡ W.failures sink.old) }
     ensures unflushed { W.flushes sink.new ≡ W.flushes sink.old }
 {
@@ -74,12 +73,12 @@ fn close<E: Engine, W: Sink>(
 ) -> Result<E::Tally, RunFault>
     requires stands { (given : List ℕ) × (told : List ℕ) × E.stands engine.old given told × (length given < 2 ^ 62) }
     requires failures { W.failures sink.old < 2 ^ 63 }
-    ensures ok { (given told : List ℕ) → E.stands engine.old given told → sent.old ≡ counted (length told) → IfOk result (λ tally. (E.promises (E.job engine.old)).Ends given (told ++ text.new.items) tally × Appends (W.contents sink.old) (W.contents sink.new) text.new.items × (W.failures sink.new ≡ W.failures sink.old)) }
-    ensures err { (given told : List ℕ) → E.stands engine.old given told → sent.old ≡ counted (length told) → IfErr result (λ e. Stopped ((E.promises (E.job engine.old)).StopsAtEnd given) told text.new.items (W.contents sink.old) (W.contents sink.new) e ⊎ Broken (λ t. (E.promises (E.job engine.old)).Prints given t ⊎ EndsWhole (E.promises (E.job engine.old)) given t) told text.new.items (W.contents sink.old) (W.contents sink.new) (W.failures sink.old) (W.failures sink.new) e) }
-    ensures said { (given told : List ℕ) → E.stands engine.old given told → IfErr result (λ e. e ≡ RunFault.Memory → E.said engine.new (told ++ text.new.items)) }
+    ensures ok { Closes E.Engine engine.old W.Sink sink.old sink.new text.new.items sent.old result }
+    ensures err { ClosesNot E.Engine engine.old W.Sink sink.old sink.new text.new.items sent.old result }
+    ensures said { Starves E.Engine engine.old engine.new text.new.items result }
     ensures uncounted { IfErr result (λ e. IsOfEngine e → W.failures sink.new ≡ W.failures sink.old) }
     ensures flushed { OnOk result (W.flushes sink.new ≡ (W.flushes sink.old + 1) % 2 ^ 64) }
-    ensures unflushed { (given told : List ℕ) → E.stands engine.old given told → sent.old ≡ counted (length told) → IfErr result (λ e. FlushedOnlyWhere (W.flushes sink.old) (W.flushes sink.new) ((e ≡ RunFault.Write (counted (length (told ++ text.new.items)))) × Appends (W.contents sink.old) (W.contents sink.new) text.new.items × EndsWhole (E.promises (E.job engine.old)) given (told ++ text.new.items))) }
+    ensures unflushed { FlushesLast E.Engine engine.old W.Sink sink.old sink.new text.new.items sent.old result }
 {
     text.clear();
     let finished = engine.finish(text);
@@ -116,6 +115,7 @@ fn read_wanted<E: Engine, S: Source>(
 ///
 /// Those of the engine, after what it wrote before them; `Read` and `Write` of a call that failed; `Endless` after
 /// `most_reads` reads.
+#[inline(never)]
 pub fn run_engine<E: Engine, S: Source, W: Sink>(
     engine: &mut E,
     most_reads: u64,
@@ -128,7 +128,7 @@ pub fn run_engine<E: Engine, S: Source, W: Sink>(
     requires reads { S.reads source.old < 2 ^ 63 }
     requires read_failures { S.failures source.old < 2 ^ 63 }
     requires write_failures { W.failures sink.old < 2 ^ 63 }
-    ensures ran { Ran (E.promises (E.job engine.old)) most_reads (S.remaining source.old) (S.remaining source.new) (S.reads source.old) (S.reads source.new) (S.failures source.old) (S.failures source.new) (W.contents sink.old) (W.contents sink.new) (W.failures sink.old) (W.failures sink.new) (W.flushes sink.old) (W.flushes sink.new) result }
+    ensures ran { RanOver S.Source W.Sink (E.promises (E.job engine.old)) most_reads source.old source.new sink.old sink.new result }
     ensures said { IfErr result (λ e. e ≡ RunFault.Memory → Piped (λ given told. E.said engine.new told) (S.remaining source.old) (S.remaining source.new) (W.contents sink.old) (W.contents sink.new)) }
 {
     let mut text = Vec::new(alloc);

@@ -1,4 +1,4 @@
-use Rattle.std.proofs.Common.{◌≡◌, ◌+◌, drop, sym, ap, ◌∙◌, Some, arith}
+use Rattle.std.proofs.Common.{◌≡◌, ◌+◌, drop, sym, ap, ◌∙◌, arith}
 use Rattle.std.proofs.lemmas.List.{at_drop_more, at_drop_all}
 use Rattle.serde_json.specs.Data.{item}
 use Rattle.serde_json.specs.View.{view, items_view}
@@ -30,5 +30,4 @@ pub returns-clause-some : goal.returns-clause-some
 returns-clause-some g c = all_listed g.P.AnyPacket.WAY _ _ _ c.loop-value.invariant.0 (at_drop_all items_view c.args.list.now c.loop-value.value-index (omega arith))
 
 pub returns-clause-only : goal.returns-clause-only
-returns-clause-only g c = λ vs all trees.
-    ap Some (only_listed g.P.AnyPacket.WAY _ _ vs _ c.loop-value.invariant.0 (at_drop_all items_view c.args.list.now c.loop-value.value-index (omega arith)) all trees)
+returns-clause-only g c = only_listed g.P.AnyPacket.WAY _ _ _ c.loop-value.invariant.0 (at_drop_all items_view c.args.list.now c.loop-value.value-index (omega arith))

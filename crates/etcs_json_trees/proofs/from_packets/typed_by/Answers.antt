@@ -20,8 +20,8 @@ returns-in-Some-2-clause-only g c =
     typed_only g.P.AnyPacket.WAY g.P.AnyPacket.form c.args.nid c.args.dir (layout items) (view c.args.fields.now) c.in-Some-2.numbers.items c.as_slice.result.now _ c.typed_of.result found only c.as_slice.ensures.value c.typed_of.ensures.only
 
 pub returns-in-None-2-clause-only : goal.returns-in-None-2-clause-only
-returns-in-None-2-clause-only g c = λ r ps framed is t.
+returns-in-None-2-clause-only g c = λ r framed pairs.
     (let items = c.in-Some.row.items.now in
     let found = row_found (row_to g.P.AnyPacket.WAY c.args.nid) items (rw c.WAY.ensures at c.in-Some.ensures) in
     let only = rw c.in-None-2.is at c.in_ok-numbers-in-Some.ensures.only in
-    absurd (typed_none g.P.AnyPacket.WAY c.args.nid c.args.dir (layout items) (view c.args.fields.now) r ps found only framed is t))
+    absurd (typed_none g.P.AnyPacket.WAY c.args.nid c.args.dir (layout items) (view c.args.fields.now) r found only framed pairs))

@@ -1,8 +1,9 @@
 use Rattle.std.proofs.Common.{◌≡◌, ℕ, ◌+◌, ◌*◌, ◌≤◌, length}
 use Rattle.json.specs.Json.{items, members, value, parse_map}
-use Rattle.serde_json.specs.Data.{Members, no_members}
+use Rattle.serde_json.specs.Data.{Members}
 use Rattle.serde_json.specs.Read.{of_items, of_members, converted}
 use Rattle.serde_json.specs.View.{items_view, members_view}
+use Rattle.etcs_json_trees.specs.Found.{first_items, first_members}
 use Rattle.etcs_json_trees.specs.Fits.{items_weight, ItemsHaveShape}
 use Rattle.etcs_json_trees.proofs.ObjectsFit.{FitsNamed, Masked}
 use Rattle.etcs_json_trees.proofs.Reading.{items_before}
@@ -29,7 +30,7 @@ decreases-read_member l = 4 * l.depth + 1
 abbrev pub invariant-read_items-items : goal.invariant-read_items-items
 invariant-read_items-items l =
     (n : ℕ) × (length l.reader ≤ n)
-    × (converted of_items (items (value l.depth) (length l.initial.reader) l.initial.reader) ≡ parse_map (items_before l.found.items) (converted of_items (items (value l.depth) n l.reader)))
+    × (first_items l.depth l.initial.reader ≡ parse_map (items_before l.found.items) (converted of_items (items (value l.depth) n l.reader)))
     × (length l.reader ≤ length l.initial.reader)
     × ItemsHaveShape l.place (items_view l.found.items)
     × (items_weight (items_view l.found.items) + l.left ≡ l.room)
@@ -40,7 +41,7 @@ decreases-read_items-items l = length l.reader
 abbrev pub invariant-read_members-members : goal.invariant-read_members-members
 invariant-read_members-members l =
     (n : ℕ) × (old : Members) × (length l.reader ≤ n)
-    × (converted (λ js. of_members js no_members) (members (value l.depth) (length l.initial.reader) l.initial.reader) ≡ converted (λ js. of_members js old) (members (value l.depth) n l.reader))
+    × (first_members l.depth l.initial.reader ≡ converted (λ js. of_members js old) (members (value l.depth) n l.reader))
     × (length l.reader ≤ length l.initial.reader)
     × Masked (FitsNamed l.place l.room) old (members_view l.found.entries)
 

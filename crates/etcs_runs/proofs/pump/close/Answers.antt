@@ -1,9 +1,6 @@
 use Rattle.std.proofs.Common.{◌++◌, length, inr}
-use Rattle.std.specs.Prelude.{◌⊎◌}
 use Rattle.std.proofs.lemmas.Result.{err_from_is_err_and}
-use Rattle.etcs_runs.specs.Promises.{EndsWhole}
 use Rattle.etcs_runs.proofs.Printing.{finished_prints}
-use Rattle.etcs_runs.proofs.Endings.{broke}
 use Rattle.etcs_runs.proofs.pump.close.Goals as goal
 
 pub returns-in_err-write_all-clause-err : goal.returns-in_err-write_all-clause-err
@@ -15,5 +12,4 @@ returns-in_err-write_all-clause-err g c = λ given told stands sent.
     let prints = finished_prints p given text finished.result (g.met.E.Engine.sound c.args.engine.now) (finished.ensures.ok given told stands) (finished.ensures.err given told stands) in
     let r = err_from_is_err_and c.from_residual.result c.from_residual.ensures.1 in
     let why = c.in_err-write_all.ensures in
-    rw (r.1, r.2)
-    (inr (broke (g.W.Sink.contents c.args.sink.now) (g.W.Sink.contents c.write_all.new.sink) told finished.new.text.items c.as_slice.result.now c.as_slice.ensures.value (λ t. p.Prints given t ⊎ EndsWhole p given t) (g.W.Sink.failures c.args.sink.now) (g.W.Sink.failures c.write_all.new.sink) c.in_err-write_all.field-0.0 (why.part (length told) sent) why.one prints))
+    rw (r.1, r.2) (inr (rw c.as_slice.ensures.value at (why.part (length told) sent), prints, why.one))

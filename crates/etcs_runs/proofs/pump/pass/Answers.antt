@@ -1,7 +1,6 @@
 use Rattle.std.proofs.Common.{◌++◌, length, inr}
 use Rattle.std.proofs.lemmas.Result.{err_from_is_err_and}
 use Rattle.etcs_runs.proofs.Printing.{fed_prints}
-use Rattle.etcs_runs.proofs.Endings.{broke}
 use Rattle.etcs_runs.proofs.pump.pass.Goals as goal
 
 pub returns-in_err-write_all-clause-err : goal.returns-in_err-write_all-clause-err
@@ -16,5 +15,4 @@ returns-in_err-write_all-clause-err g c = λ given told stands sent.
     let r = err_from_is_err_and c.from_residual.result c.from_residual.ensures.1 in
     let prints = fed_prints e.promises job (e.job s) bytes text (e.stands s bytes text) c.feed-fed.result (met.sound c.args.engine.now) fed.job (met.stands_tells s bytes text) (fed.ok given told stands) (fed.err given told stands) in
     let why = c.in_err-write_all.ensures in
-    rw (r.1, r.2)
-    (inr (broke (g.W.Sink.contents c.args.sink.now) (g.W.Sink.contents c.write_all.new.sink) told c.feed-fed.new.text.items c.as_slice.result.now c.as_slice.ensures.value ((e.promises job).Prints bytes) (g.W.Sink.failures c.args.sink.now) (g.W.Sink.failures c.write_all.new.sink) c.in_err-write_all.field-0.0 (why.part (length told) sent) why.one prints))
+    rw (r.1, r.2) (inr (rw c.as_slice.ensures.value at (why.part (length told) sent), prints, why.one))

@@ -1,7 +1,6 @@
-use Rattle.std.proofs.Common.{◌≡◌, ℕ, ◌+◌, ◌<◌, ◌≤◌, List, ◌++◌, refl, ap, ◌∙◌, arith, length-append}
-use Rattle.std.specs.Prelude.{IfErr}
+use Rattle.std.proofs.Common.{◌≡◌, ℕ, List, ◌++◌, refl, ap, ◌∙◌, arith, length-append}
 use Rattle.std.proofs.lemmas.Result.{err_from_is_err_and}
-use Rattle.etcs_runs.specs.Faults.{IsOfEngine}
+use Rattle.etcs_runs.specs.Faults.{IfFault, IsOfEngine}
 use Rattle.etcs_runs.specs.Lines.{lines_text, strip_cr}
 use Rattle.etcs_runs.proofs.Keeping.{few_lines, line_stops, line_taken, more_text, no_part, short_begun, short_took, then_ok, whole_took}
 use Rattle.etcs_runs.proofs.cutter.Lines.end_line.Goals as goal
@@ -10,49 +9,30 @@ use Rattle.etcs_runs.proofs.cutter.Lines.end_line.Goals.{then-count-most+in_ok-h
 pub overflow_add-self : goal.overflow_add-self
 overflow_add-self g c =
     let (given, told, h, short) = c.requires.stands in
-    let s = c.args.self.now in
-    let t = g.T.LineHandler in
-    omega (arith, few_lines (t.took s.handler) (t.most (t.job s.handler)) s.begun.items s.count s.line given (told ++ c.args.text.now.items) h, short)
+    omega (arith, few_lines h, short)
 
 pub handle_line-requires : goal.handle_line-requires
 handle_line-requires g c =
     let (given, told, h, short) = c.requires.stands in
-    let s = c.args.self.now in
-    let t = g.T.LineHandler in
-    let most = t.most (t.job s.handler) in
-    let text = told ++ c.args.text.now.items in
-    let few = few_lines (t.took s.handler) most s.begun.items s.count s.line given text h in
-    record { took = (h.lines, text, short_took (t.took s.handler) most s.begun.items s.count s.line given text h (omega (arith, c.if-self-eq0.true)), omega (arith, few, short)) }
+    record { took = (h.lines, told ++ c.args.text.now.items, short_took h (omega (arith, c.if-self-eq0.true)), omega (arith, few_lines h, short)) }
 
 pub returns-then-self-eq0-clause-ok : goal.returns-then-self-eq0-clause-ok
 returns-then-self-eq0-clause-ok g c given told h =
-    let s = c.args.self.now in
-    let t = g.T.LineHandler in
-    let most = t.most (t.job s.handler) in
     let part = c.args.part.now in
-    let text = told ++ c.args.text.now.items in
-    let zero : s.count ≡ 0 = c.if-self-eq0.true in
-    let short : s.count ≤ most + 1 = omega (arith, zero) in
-    let none = no_part (t.took s.handler) most s.begun.items s.count s.line given text h zero in
-    let is : given ++ part ≡ lines_text h.lines ++ part = more_text (t.took s.handler) most s.begun.items s.count s.line given text h part ∙ ap (λ (z : List ℕ). lines_text h.lines ++ (z ++ part)) none in
-    let s' = c.handle_line.new.self in
-    let took = short_took (t.took s.handler) most s.begun.items s.count s.line given text h short in
-    then_ok c.handle_line.result (line_taken h.lines part given part is (t.took s') (t.most (t.job s')) s.begun.items s.count (s.line + 1) (told ++ c.handle_line.new.text.items) (short_begun (t.took s.handler) most s.begun.items s.count s.line given text h short ∙ none) zero (omega (arith, h.line_is)))
-    (c.handle_line.ensures.ok h.lines part told took c.requires.line c.without_cr.ensures)
+    let zero = c.if-self-eq0.true in
+    let none = no_part h zero in
+    let is : given ++ part ≡ lines_text h.lines ++ part = more_text h part ∙ ap (λ (z : List ℕ). lines_text h.lines ++ (z ++ part)) none in
+    then_ok c.handle_line.result (line_taken h.lines part given part is (short_begun h (omega (arith, zero)) ∙ none) zero (omega (arith, h.line_is)))
+    (c.handle_line.ensures.ok h.lines part told (short_took h (omega (arith, zero))) c.requires.line c.without_cr.ensures)
 
 pub returns-then-self-eq0-clause-err : goal.returns-then-self-eq0-clause-err
-returns-then-self-eq0-clause-err g c given told more h =
-    let s = c.args.self.now in
-    let t = g.T.LineHandler in
-    let most = t.most (t.job s.handler) in
+returns-then-self-eq0-clause-err g c more given told h =
     let part = c.args.part.now in
-    let text = told ++ c.args.text.now.items in
-    let zero : s.count ≡ 0 = c.if-self-eq0.true in
-    let none = no_part (t.took s.handler) most s.begun.items s.count s.line given text h zero in
-    let is : given ++ part ≡ lines_text h.lines ++ part = more_text (t.took s.handler) most s.begun.items s.count s.line given text h part ∙ ap (λ (z : List ℕ). lines_text h.lines ++ (z ++ part)) none in
-    let took = short_took (t.took s.handler) most s.begun.items s.count s.line given text h (omega (arith, zero)) in
-    line_stops h.lines part given part is (λ (z : List ℕ). IfErr c.handle_line.result (λ e. IsOfEngine e × (t.promises (t.job s.handler)).Stops z (told ++ c.handle_line.new.text.items) e)) more
-    (c.handle_line.ensures.err h.lines part more told took c.requires.line c.without_cr.ensures (omega (arith, h.line_is)))
+    let p = g.T.LineHandler.promises (g.T.LineHandler.job c.args.self.now.handler) in
+    let zero = c.if-self-eq0.true in
+    let is : given ++ part ≡ lines_text h.lines ++ part = more_text h part ∙ ap (λ (z : List ℕ). lines_text h.lines ++ (z ++ part)) (no_part h zero) in
+    line_stops h.lines part given part is (λ (z : List ℕ). IfFault c.handle_line.result (p.Stops z (told ++ c.handle_line.new.text.items))) more
+    (c.handle_line.ensures.err h.lines part more told (short_took h (omega (arith, zero))) c.requires.line c.without_cr.ensures (omega (arith, h.line_is)))
 
 pub returns-in_err-keep-clause-said : goal.returns-in_err-keep-clause-said
 returns-in_err-keep-clause-said g c given told h =
@@ -62,71 +42,45 @@ returns-in_err-keep-clause-said g c given told h =
 pub overflow_add-self-2 : goal.overflow_add-self-2
 overflow_add-self-2 g c =
     let (given, told, h, short) = c.requires.stands in
-    let s = c.args.self.now in
-    let t = g.T.LineHandler in
-    omega (arith, c.keep.ensures.line, few_lines (t.took s.handler) (t.most (t.job s.handler)) s.begun.items s.count s.line given (told ++ c.args.text.now.items) h, short)
+    omega (arith, c.keep.ensures.line, few_lines h, short)
 
 pub handle_line-requires-then-count-most : goal.handle_line-requires-then-count-most
 handle_line-requires-then-count-most g c =
     let (given, told, h, short) = c.requires.stands in
-    let s = c.keep.new.self in
-    let t = g.T.LineHandler in
-    let most = t.most (t.job s.handler) in
-    let part = c.args.part.now in
-    let text = told ++ c.keep.new.text.items in
     let whole = c.in_ok-keep.ensures.ok given told h in
-    let few = few_lines (t.took s.handler) most s.begun.items s.count s.line (given ++ part) text whole in
-    record { took = (whole.lines, text, short_took (t.took s.handler) most s.begun.items s.count s.line (given ++ part) text whole (omega (arith, c.most.ensures.value, c.if-count-most.true)), omega (arith, few, short, length-append given part)) }
+    record { took = (whole.lines, told ++ c.keep.new.text.items, short_took whole (omega (arith, c.most.ensures.value, c.if-count-most.true)), omega (arith, few_lines whole, short, length-append given c.args.part.now)) }
 
 pub returns-in_err-handle_line-clause-err : goal.returns-in_err-handle_line-clause-err
-returns-in_err-handle_line-clause-err g c given told more h =
-    let s = c.keep.new.self in
-    let t = g.T.LineHandler in
-    let most = t.most (t.job s.handler) in
-    let part = c.args.part.now in
-    let text = told ++ c.keep.new.text.items in
-    let text' = told ++ c.handle_line-then-count-most.new.text.items in
+returns-in_err-handle_line-clause-err g c more given told h =
+    let p = g.T.LineHandler.promises (g.T.LineHandler.job c.keep.new.self.handler) in
+    let text = told ++ c.handle_line-then-count-most.new.text.items in
     let e = c.in_err-handle_line.field-0.0 in
     let whole = c.in_ok-keep.ensures.ok given told h in
-    let short : s.count ≤ most + 1 = omega (arith, c.most.ensures.value, c.if-count-most.true) in
-    let took = short_took (t.took s.handler) most s.begun.items s.count s.line (given ++ part) text whole short in
-    let cut = c.without_cr-then-count-most.ensures ∙ ap strip_cr (c.as_slice.ensures.value ∙ short_begun (t.took s.handler) most s.begun.items s.count s.line (given ++ part) text whole short) in
+    let took = short_took whole (omega (arith, c.most.ensures.value, c.if-count-most.true)) in
+    let cut = c.without_cr-then-count-most.ensures ∙ ap strip_cr (c.as_slice.ensures.value ∙ short_begun whole (omega (arith, c.most.ensures.value, c.if-count-most.true))) in
     let r = err_from_is_err_and c.from_residual-in_err-handle_line.result c.from_residual-in_err-handle_line.ensures.1 in
-    let stops = line_stops whole.lines whole.part given part whole.given_is (λ (z : List ℕ). IsOfEngine e × (t.promises (t.job s.handler)).Stops z text' e) more
+    let stops = line_stops whole.lines whole.part given c.args.part.now whole.given_is (λ (z : List ℕ). IsOfEngine e × p.Stops z text e) more
     (c.in_err-handle_line.ensures.err whole.lines whole.part more told took whole.is_line cut (omega (arith, whole.line_is))) in
     rw (r.1, r.2) (rw c.keep.ensures.job at stops)
 
 pub returns-in_err-handle_line-clause-said : goal.returns-in_err-handle_line-clause-said
 returns-in_err-handle_line-clause-said g c given told h =
-    let s = c.keep.new.self in
-    let t = g.T.LineHandler in
-    let most = t.most (t.job s.handler) in
     let whole = c.in_ok-keep.ensures.ok given told h in
-    let short : s.count ≤ most + 1 = omega (arith, c.most.ensures.value, c.if-count-most.true) in
-    let took = short_took (t.took s.handler) most s.begun.items s.count s.line (given ++ c.args.part.now) (told ++ c.keep.new.text.items) whole short in
+    let took = short_took whole (omega (arith, c.most.ensures.value, c.if-count-most.true)) in
     let r = err_from_is_err_and c.from_residual-in_err-handle_line.result c.from_residual-in_err-handle_line.ensures.1 in
     rw r.1 (c.in_err-handle_line.ensures.said whole.lines told took)
 
 pub returns-clause-ok : goal.returns-clause-ok
 returns-clause-ok g c given told h =
-    let s = c.keep.new.self in
-    let t = g.T.LineHandler in
-    let most = t.most (t.job s.handler) in
     let part = c.args.part.now in
-    let text = told ++ c.keep.new.text.items in
     let whole = c.in_ok-keep.ensures.ok given told h in
     elim c.if-count-most.branch [
       | then-count-most+in_ok-handle_line w ↦
-          let short : s.count ≤ most + 1 = omega (arith, c.most.ensures.value, w.if-count-most.true) in
-          let took = short_took (t.took s.handler) most s.begun.items s.count s.line (given ++ part) text whole short in
-          let cut = w.without_cr-then-count-most.ensures ∙ ap strip_cr (w.as_slice.ensures.value ∙ short_begun (t.took s.handler) most s.begun.items s.count s.line (given ++ part) text whole short) in
-          let s' = w.handle_line-then-count-most.new.self in
+          let took = short_took whole (omega (arith, c.most.ensures.value, w.if-count-most.true)) in
+          let cut = w.without_cr-then-count-most.ensures ∙ ap strip_cr (w.as_slice.ensures.value ∙ short_begun whole (omega (arith, c.most.ensures.value, w.if-count-most.true))) in
           rw (w.self-is, w.text-is)
-          (line_taken whole.lines whole.part given part whole.given_is (t.took s') (t.most (t.job s')) c.clear.new.self.items 0 (s.line + 1) (told ++ w.handle_line-then-count-most.new.text.items) c.clear.ensures.items refl (omega (arith, whole.line_is))
-          (w.in_ok-handle_line.ensures.ok whole.lines whole.part told took whole.is_line cut))
+          (line_taken whole.lines whole.part given part whole.given_is c.clear.ensures.items refl (omega (arith, whole.line_is)) (w.in_ok-handle_line.ensures.ok whole.lines whole.part told took whole.is_line cut))
       | else-count-most w ↦
-          let long : most + 1 < s.count = omega (arith, c.most.ensures.value, w.if-count-most.false) in
           rw (w.self-is, w.text-is)
-          (line_taken whole.lines whole.part given part whole.given_is (t.took s.handler) most c.clear.new.self.items 0 (s.line + 1) text c.clear.ensures.items refl (omega (arith, whole.line_is))
-          (whole_took (t.took s.handler) most s.begun.items s.count s.line (given ++ part) text whole long))
+          (line_taken whole.lines whole.part given part whole.given_is c.clear.ensures.items refl (omega (arith, whole.line_is)) (whole_took whole (omega (arith, c.most.ensures.value, w.if-count-most.false))))
     ]

@@ -1,9 +1,9 @@
-use Rattle.std.proofs.Common.{◌≡◌, ℕ, ◌+◌, List, ◌++◌, ◌∷◌, [], length, refl, sym, ap, subst, ◌∙◌, arith, append_assoc, length-append}
-use Rattle.std.specs.Prelude.{OnOk, IfErr}
+use Rattle.std.proofs.Common.{◌≡◌, ℕ, List, ◌++◌, ◌∷◌, [], length, refl, sym, ap, subst, ◌∙◌, arith, append_assoc, length-append}
+use Rattle.std.specs.Prelude.{OnOk}
 use Rattle.std.proofs.lemmas.List.{append-nil}
 use Rattle.std.proofs.lemmas.Result.{err_from_is_err_and}
-use Rattle.etcs_runs.specs.Faults.{IsOfEngine}
-use Rattle.etcs_runs.specs.Cutting.{LinesStand}
+use Rattle.etcs_runs.specs.Faults.{IfFault, IsOfEngine}
+use Rattle.etcs_runs.specs.Cutting.{Stands}
 use Rattle.etcs_runs.proofs.LineTexts.{cut_line, cut_given}
 use Rattle.etcs_runs.proofs.Keeping.{none_told, piece_stops}
 use Rattle.etcs_runs.proofs.cutter.LinesEngine.feed.Goals as goal
@@ -14,18 +14,14 @@ loop-line-init g c = record {
   job_is = refl;
   all = refl;
   stands = λ given told h. (
-      let s = c.args.self.now in
-      let t = g.T.LineHandler in
-      subst (λ (z : List ℕ). LinesStand (t.took s.handler) (t.most (t.job s.handler)) s.begun.items s.count s.line z (told ++ c.args.text.now.items)) (sym (append-nil given))
-      (none_told (LinesStand (t.took s.handler) (t.most (t.job s.handler)) s.begun.items s.count s.line given) told c.args.text.now.items c.requires.empty h)
+      subst (λ (z : List ℕ). Stands g.T.LineHandler c.args.self.now z (told ++ c.args.text.now.items)) (sym (append-nil given))
+      (none_told (Stands g.T.LineHandler c.args.self.now given) told c.args.text.now.items c.requires.empty h)
       );
 }
 
 pub loop-line-preserved : goal.loop-line-preserved
 loop-line-preserved g c =
     let before = c.loop-line.invariant in
-    let s = c.end_line.new.self in
-    let t = g.T.LineHandler in
     let ended = c.in_ok-end_line.ensures in
     let line = c.in-Some.line.now in
     let behind = c.in-Some.behind.now in
@@ -34,7 +30,7 @@ loop-line-preserved g c =
       job_is = ended.job ∙ before.job_is;
       all = cut_line c.args.piece.now before.front c.loop-line.rest.now line behind before.all c.in-Some.ensures.some.0;
       stands = λ given told h. (
-          subst (λ (z : List ℕ). LinesStand (t.took s.handler) (t.most (t.job s.handler)) s.begun.items s.count s.line z (told ++ c.end_line.new.text.items)) (append_assoc given before.front (line ++ 10 ∷ []))
+          subst (λ (z : List ℕ). Stands g.T.LineHandler c.end_line.new.self z (told ++ c.end_line.new.text.items)) (append_assoc given before.front (line ++ 10 ∷ []))
           (ended.ok (given ++ before.front) told (before.stands given told h))
           );
     }
@@ -62,34 +58,29 @@ keep-requires g c =
 pub returns-in_err-end_line-clause-err : goal.returns-in_err-end_line-clause-err
 returns-in_err-end_line-clause-err g c given told h =
     let before = c.loop-line.invariant in
-    let t = g.T.LineHandler in
-    let s = c.loop-line.self in
+    let p = g.T.LineHandler.promises (g.T.LineHandler.job c.loop-line.self.handler) in
     let piece = c.args.piece.now in
     let text = c.end_line.new.text.items in
     let e = c.in_err-end_line.field-0.0 in
     let r = err_from_is_err_and c.from_residual.result c.from_residual.ensures.1 in
-    let stops = c.in_err-end_line.ensures.err (given ++ before.front) told c.in-Some.behind.now (before.stands given told h) in
-    let all = piece_stops (λ (z : List ℕ). IsOfEngine e × (t.promises (t.job s.handler)).Stops z (told ++ text) e) given piece before.front c.loop-line.rest.now c.in-Some.line.now c.in-Some.behind.now before.all c.in-Some.ensures.some.0 stops in
+    let stops = c.in_err-end_line.ensures.err c.in-Some.behind.now (given ++ before.front) told (before.stands given told h) in
+    let all = piece_stops (λ (z : List ℕ). IsOfEngine e × p.Stops z (told ++ text) e) given piece before.front c.loop-line.rest.now c.in-Some.line.now c.in-Some.behind.now before.all c.in-Some.ensures.some.0 stops in
     rw (r.1, r.2) (rw before.job_is at all)
 
 pub returns-clause-ok : goal.returns-clause-ok
 returns-clause-ok g c given told h =
     let before = c.loop-line.invariant in
-    let s = c.keep.new.self in
-    let t = g.T.LineHandler in
-    let rest = c.loop-line.rest.now in
-    subst (λ (z : List ℕ). OnOk c.keep.result (LinesStand (t.took s.handler) (t.most (t.job s.handler)) s.begun.items s.count s.line z (told ++ c.keep.new.text.items))) (cut_given given c.args.piece.now before.front rest before.all)
+    subst (λ (z : List ℕ). OnOk c.keep.result (Stands g.T.LineHandler c.keep.new.self z (told ++ c.keep.new.text.items))) (cut_given given c.args.piece.now before.front c.loop-line.rest.now before.all)
     (c.keep.ensures.ok (given ++ before.front) told (before.stands given told h))
 
 pub returns-clause-err : goal.returns-clause-err
 returns-clause-err g c given told h =
     let before = c.loop-line.invariant in
-    let t = g.T.LineHandler in
-    let s = c.loop-line.self in
+    let p = g.T.LineHandler.promises (g.T.LineHandler.job c.loop-line.self.handler) in
     let rest = c.loop-line.rest.now in
     let all : (given ++ before.front) ++ (rest ++ []) ≡ given ++ c.args.piece.now = ap (λ (z : List ℕ). (given ++ before.front) ++ z) (append-nil rest) ∙ cut_given given c.args.piece.now before.front rest before.all in
-    let stops = subst (λ (z : List ℕ). IfErr c.keep.result (λ e. IsOfEngine e × (t.promises (t.job s.handler)).Stops z (told ++ c.keep.new.text.items) e)) all
-    (c.keep.ensures.err (given ++ before.front) told [] (before.stands given told h)) in
+    let stops = subst (λ (z : List ℕ). IfFault c.keep.result (p.Stops z (told ++ c.keep.new.text.items))) all
+    (c.keep.ensures.err [] (given ++ before.front) told (before.stands given told h)) in
     rw before.job_is at stops
 
 pub returns-in_err-end_line-clause-said : goal.returns-in_err-end_line-clause-said

@@ -1,12 +1,18 @@
 //! What items of a kind have.
 
+ghost use Rattle.std.specs.Prelude.{◌≡◌};
+ghost use Rattle.etcs_bits.specs.Bits.{bits};
+ghost use Rattle.etcs_reasons.specs.Kinds.{way_of, way_of_message, user_bits, wanted_bytes};
+
 use etcs_bits::peek;
 use etcs_tables::Way;
 use etcs_telegram::Size;
 use etcs_text::Kind;
 
 /// The way of the items of a kind.
-pub fn way_of(kind: Kind) -> Way {
+pub fn way_of(kind: Kind) -> Way
+    ensures { result ≡ way_of kind }
+{
     match kind {
         Kind::Long | Kind::Short | Kind::Radio => Way::ToTrain,
         Kind::Train => Way::ToTrack,
@@ -14,7 +20,9 @@ pub fn way_of(kind: Kind) -> Way {
 }
 
 /// The way of messages of this number, typed or not, where it is known (SUBSET-026, 8.5).
-pub fn way_of_message(number: u8) -> Option<Way> {
+pub fn way_of_message(number: u8) -> Option<Way>
+    ensures { result ≡ way_of_message number }
+{
     match number {
         2..=45 => Some(Way::ToTrain),
         129..=159 => Some(Way::ToTrack),
@@ -23,7 +31,9 @@ pub fn way_of_message(number: u8) -> Option<Way> {
 }
 
 /// How many bits items of a kind have before PAD: 0 where L_MESSAGE says it.
-pub fn user_bits(kind: Kind) -> usize {
+pub fn user_bits(kind: Kind) -> usize
+    ensures { result ≡ user_bits kind }
+{
     match kind {
         Kind::Long => Size::Long.user_bits(),
         Kind::Short => Size::Short.user_bits(),
@@ -32,7 +42,9 @@ pub fn user_bits(kind: Kind) -> usize {
 }
 
 /// How many bytes an item has that begins with these: of a message, what L_MESSAGE says, as far as it is there.
-pub fn wanted_bytes(kind: Kind, bytes: &[u8]) -> Option<usize> {
+pub fn wanted_bytes(kind: Kind, bytes: &[u8]) -> Option<usize>
+    ensures { result ≡ wanted_bytes kind (bits bytes.now) }
+{
     match kind {
         Kind::Long => Some(104),
         Kind::Short => Some(27),

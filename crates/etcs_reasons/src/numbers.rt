@@ -1,10 +1,14 @@
 //! The last byte of a number, and counts in words.
 
+ghost use Rattle.std.specs.Prelude.{◌≡◌, ◌%◌};
+
 use crate::text::Text;
 use std::alloc::AllocError;
 
 /// The last 8 bits of a number.
-pub fn low_byte(number: u64) -> u8 {
+pub fn low_byte(number: u64) -> u8
+    ensures { result ≡ number % 256 }
+{
     (number & 255) as u8
 }
 

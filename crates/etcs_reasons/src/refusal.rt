@@ -1,11 +1,12 @@
 //! Why bytes are no item.
 
-ghost use Rattle.std.specs.Prelude.{◌≡◌, ◌<◌, ℕ, length, string_bytes, take, IfOk, IfSome, IsNone};
+ghost use Rattle.std.specs.Prelude.{◌≡◌, ◌<◌, ℕ, length, string_bytes, take, IfOk, IfSome, IsNone, IsTrue};
 ghost use Rattle.etcs_bits.specs.Bits.{bits};
 ghost use Rattle.etcs_vars.specs.declared.var.Var.{Var};
 ghost use Rattle.etcs_vars.specs.Reading.{readings_of};
 ghost use Rattle.etcs_vars.specs.Walking.{Refuses};
-ghost use Rattle.etcs_text.specs.Entries.{EntryReads};
+ghost use Rattle.etcs_text.specs.Entries.{EntryValue, EntryReads};
+ghost use Rattle.etcs_text.specs.Verdicts.{IsItem};
 ghost use Rattle.etcs_reasons.specs.declared.account.End.{End};
 ghost use Rattle.etcs_reasons.specs.declared.account.Part.{Part};
 ghost use Rattle.etcs_reasons.specs.Sentences.{IsWritten};
@@ -48,13 +49,17 @@ static ADVICE: [(Kind, &str); 4] = [
 /// # Errors
 ///
 /// Where memory is refused.
-pub fn is_item(alloc: Global, kind: Kind, bytes: &[u8]) -> Result<bool, AllocError> {
+pub fn is_item(alloc: Global, kind: Kind, bytes: &[u8]) -> Result<bool, AllocError>
+    ensures { IfOk result (λ b. IsTrue b → (e : EntryValue) × IsItem kind bytes.now e) }
+{
     // no item of the kind has another number of bytes
     if wanted_bytes(kind, bytes) != Some(bytes.len()) {
         return Ok(false);
     }
-    let verdict = SingleReader::new(alloc, kind).read(bytes)?;
-    Ok(matches!(verdict, Verdict::Item(_)))
+    match SingleReader::new(alloc, kind).read(bytes)? {
+        Verdict::Item(_) => Ok(true),
+        _ => Ok(false),
+    }
 }
 
 /// Whether the bytes are an item of a kind, and may be meant so: not as a message that is kept whole, which any bytes may be.

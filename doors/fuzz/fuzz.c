@@ -118,6 +118,10 @@ static size_t unit_of(int which)
 /* The number of the item for `show`. */
 static uint64_t item_number;
 
+/* The variable, its number and Q_SCALE for the call of meanings. */
+static etcs_field asked;
+static uint32_t asked_scale;
+
 static uint64_t any_number(void)
 {
     static const uint64_t numbers[] = {0, 9, 10, UINT32_MAX, UINT64_MAX};
@@ -135,6 +139,9 @@ static etcs_status call(int which, etcs_kind kind, const uint8_t *in, size_t len
     case FROM_JSON: status = etcs_from_json(kind, in, len, out, room, a); break;
     case FIELDS: status = etcs_fields(kind, in, len, (etcs_field *)(void *)out, room, a); break;
     case FROM_FIELDS: status = etcs_from_fields(kind, (const etcs_field *)(const void *)in, len, out, room, a); break;
+    case MEANING: status = etcs_meaning(kind, asked.var, asked.number, asked_scale, out, room, a); break;
+    case LINE_BYTES: status = etcs_line_bytes(in, len, out, room, a); break;
+    case VERSION: status = etcs_version(out, room, a); break;
     case EXPLAIN: status = etcs_explain(kind, in, len, out, room, a); break;
     case FIELDS_BEFORE: status = etcs_fields_before(kind, in, len, (etcs_field *)(void *)out, room, a); break;
     case EXPLAIN_JSON: status = etcs_explain_json(kind, in, len, out, room, a); break;
@@ -434,6 +441,124 @@ static void try_followed(etcs_kind kind, const uint8_t *bytes, size_t taken)
     HOLDS(is_same(&followed, &alone) && followed.answer.written == alone.answer.written && !memcmp(followed.out, kept, size));
 }
 
+/* The digits of a line: their bytes written again say the same, and what is in front of them is in the line. */
+static void try_digits(const uint8_t *line, size_t len)
+{
+    static uint8_t digits[2 * MOST_INPUT], bytes[MOST_INPUT];
+    const uint8_t *lf = len ? memchr(line, '\n', len) : NULL;
+    len = lf ? (size_t)(lf - line) : len;
+    result r = ask(LINE_BYTES, ETCS_LONG, line, len);
+    size_t front = etcs_line_front(line, len);
+    HOLDS(front <= len);
+    HOLDS(r.status == ETCS_OK || r.status == ETCS_EMPTY_LINE || r.status == ETCS_NO_DIGITS || r.status == ETCS_ODD_DIGITS);
+    HOLDS(r.status != ETCS_ODD_DIGITS || r.answer.taken % 2 == 1);
+    if (r.status != ETCS_OK)
+        return;
+    size_t count = r.answer.written;
+    HOLDS(count > 0 && 2 * count <= len - front);
+    memcpy(bytes, r.out, count);
+    for (size_t i = 0; i < count; i++)
+        sprintf((char *)digits + 2 * i, "%02X", bytes[i]);
+    result again = ask(LINE_BYTES, ETCS_LONG, digits, 2 * count);
+    HOLDS(again.status == ETCS_OK && again.answer.written == count && !memcmp(again.out, bytes, count));
+    HOLDS(etcs_line_front(digits, 2 * count) == 0);
+}
+
+/* A line of an item's digits says its bytes, whatever is in front of it; the time in front is what comes before them. */
+static void try_logged(const uint8_t *bytes, size_t taken)
+{
+    static const char *const fronts[] = {"", "12:00:00.5 rx ", "2026-01-01T00:00:00Z;"};
+    static char line[2 * ETCS_MOST_BYTES + 80];
+    const char *front = fronts[chance(3)];
+    size_t at = (size_t)sprintf(line, "%s", front), before = at && front[at - 1] == ' ' ? at - 1 : at;
+    for (size_t i = 0; i < taken; i++)
+        at += (size_t)sprintf(line + at, chance(2) ? "%02X" : "%02x", bytes[i]);
+    result r = ask(LINE_BYTES, ETCS_LONG, line, at);
+    HOLDS(r.status == ETCS_OK && r.answer.written == taken && !memcmp(r.out, bytes, taken));
+    HOLDS(etcs_line_front((const uint8_t *)line, at) == before);
+}
+
+/* A number of each variable means a text, or nothing, of every kind. */
+static void try_meanings(etcs_kind kind, const etcs_field *fields, size_t count)
+{
+    for (int i = 0; i < 4 && count; i++) {
+        asked = fields[chance(count)], asked_scale = (uint32_t)chance(4);
+        if (chance(4) == 0)
+            asked.number = any_number();
+        result r = ask(MEANING, kind, NULL, 0);
+        HOLDS(r.status == ETCS_OK && !strcmp(r.answer.var, etcs_var_name(asked.var)));
+        HOLDS(!r.answer.written || is_sentence(r.out, r.answer.written));
+    }
+    asked.var = ETCS_VAR_COUNT + (uint32_t)chance(UINT32_MAX - ETCS_VAR_COUNT);
+    HOLDS(ask(MEANING, kind, NULL, 0).status == ETCS_BAD_FIELDS);
+    result version = ask(VERSION, kind, NULL, 0);
+    HOLDS(version.status == ETCS_OK && !memcmp(version.out, ETCS_VERSION, sizeof ETCS_VERSION) && version.answer.written == sizeof ETCS_VERSION);
+}
+
+static etcs_status assemble(const etcs_telegram *telegrams, size_t count, etcs_group *group, etcs_answer *a)
+{
+    static const etcs_group as_before = {{7, 7, 7, 7, 7, 7, 7, 7}, 7};
+    *group = as_before, *a = (etcs_answer){0};
+    is_inside = 1;
+    etcs_status status = etcs_assemble(telegrams, count, group, a);
+    is_inside = 0;
+    HOLDS(live == 0);
+    HOLDS(status == ETCS_OK || !memcmp(group, &as_before, sizeof as_before));
+    return status;
+}
+
+/* The telegrams of a group: the first that isn't held doesn't depend on those after it, nor what they make on their order. */
+static void try_group(etcs_telegram *telegrams, size_t count)
+{
+    etcs_group group, other;
+    etcs_answer a, b;
+    etcs_status status = assemble(telegrams, count, &group, &a);
+    if (status != ETCS_OK) {
+        HOLDS(a.taken < count && assemble(telegrams, a.taken, &other, &b) == ETCS_OK);
+        HOLDS(assemble(telegrams, a.taken + 1, &other, &b) == status && b.taken == a.taken);
+        count = a.taken;
+        HOLDS(assemble(telegrams, count, &group, &a) == ETCS_OK);
+    }
+    int missing = 0;
+    for (int i = 0; i < 8; i++)
+        missing += group.missing[i];
+    HOLDS(group.is_complete == (count > 0 && !missing));
+    if (count < 2)
+        return;
+    size_t i = chance(count), k = chance(count);
+    etcs_telegram moved = telegrams[i];
+    telegrams[i] = telegrams[k], telegrams[k] = moved;
+    HOLDS(assemble(telegrams, count, &other, &b) == ETCS_OK && !memcmp(&group, &other, sizeof group));
+    taken_times = 0;
+    assemble(telegrams, count, &other, &b);
+    for (size_t at = 1, all = taken_times; at <= all && at <= 40; at++) {
+        taken_times = 0, refused_from = at, refused_to = at + 1;
+        status = assemble(telegrams, count, &other, &b);
+        refused_from = refused_to = 0;
+        HOLDS(status == ETCS_NO_MEMORY || (status == ETCS_OK && !memcmp(&group, &other, sizeof group)));
+    }
+}
+
+/* Telegrams made of an item: each N_PIG of its N_TOTAL, and one with a bit turned. */
+static void try_telegrams(etcs_kind kind, const uint8_t *bytes, size_t taken)
+{
+    static etcs_telegram telegrams[10];
+    size_t count = 1 + chance(10);
+    for (size_t i = 0; i < count; i++) {
+        etcs_telegram *t = &telegrams[i];
+        *t = (etcs_telegram){kind, {0}};
+        memcpy(t->bytes, bytes, taken);
+        /* N_PIG is in bits 9 to 11. */
+        uint8_t place = (uint8_t)chance(8);
+        t->bytes[1] = (uint8_t)((t->bytes[1] & 0x8F) | place << 4);
+        if (chance(6) == 0)
+            t->bytes[chance(taken)] ^= (uint8_t)(1 << chance(8));
+        if (chance(40) == 0)
+            t->kind = (uint32_t)chance(6);
+    }
+    try_group(telegrams, count);
+}
+
 /* An item is what its JSON and its fields say, `show` prints it, and no shorter bytes hold it. */
 static void try_item(etcs_kind kind, const uint8_t *bytes, size_t taken)
 {
@@ -457,6 +582,12 @@ static void try_item(etcs_kind kind, const uint8_t *bytes, size_t taken)
     HOLDS(ask(CHECK, kind, bytes, taken - 1).status == ETCS_MORE);
     if (chance(4) == 0)
         try_followed(kind, bytes, taken);
+    if (chance(4) == 0) {
+        try_meanings(kind, fields, count);
+        try_logged(bytes, taken);
+    }
+    if (chance(4) == 0 && (kind == ETCS_LONG || kind == ETCS_SHORT))
+        try_telegrams(kind, bytes, taken);
     change_fields(fields, &count);
     try_fields(kind, fields, count);
 }
@@ -575,6 +706,8 @@ static void try_line(etcs_kind kind, const uint8_t *line, size_t len)
 static void try_unknown(const uint8_t *data, size_t size)
 {
     int which = (int)chance(CALLS);
+    if (which == LINE_BYTES || which == VERSION)
+        return;
     etcs_kind kind = chance(8) ? 5 + (etcs_kind)chance(1u << 31) : 0;
     HOLDS(ask(which, kind, data, size / (which == FROM_FIELDS ? sizeof(etcs_field) : 1)).status == ETCS_UNKNOWN_KIND);
 }
@@ -591,7 +724,10 @@ int LLVMFuzzerTestOneInput(const uint8_t *data, size_t size)
     is_starved = data[0] >= STARVED;
     etcs_kind kind = 1 + data[0] % 4;
     switch (data[0] / 4 % 4) {
-    case LINE: try_line(kind, data + 1, size - 1); break;
+    case LINE:
+        try_line(kind, data + 1, size - 1);
+        try_digits(data + 1, size - 1);
+        break;
     case SENT: try_fields(kind, fields, fields_in(data + 1, size - 1, fields)); break;
     default: try_bytes(kind, data + 1, size - 1);
     }

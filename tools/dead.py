@@ -21,10 +21,7 @@ import sys
 TOP = os.path.dirname(os.path.dirname(os.path.realpath(__file__)))
 NEWLINE = "\n"
 # What stays though nothing uses it, as `crates/etcs_bits/specs/Bits.antt: name`, each with why.
-EXCEPTIONS = {
-    # For an item whose whole packets were taken in one pass, as Feeder::after is.
-    "crates/etcs_reader/src/inner.rt: etcs_reader::inner::pass_front": "the front of an item that is read on",
-}
+EXCEPTIONS: dict[str, str] = {}
 
 
 def files(ending, *parts):

@@ -25,3 +25,4 @@ pub mod RoundTrips
 pub mod Equality
 pub mod FrontsAtOnce
 pub mod MessagesAtOnce
+pub mod Parts

@@ -46,7 +46,7 @@ counted way hd bd form m len xs r inside is reads e =
 
 -- ---- Bits of a piece, one part after another.
 
-parts : (at s t all : ℕ) (xs a b : List Bool) → a ≡ part at s xs → b ≡ part (at + s) t xs → s + t ≡ all → a ++ b ≡ part at all xs
+pub parts : (at s t all : ℕ) (xs a b : List Bool) → a ≡ part at s xs → b ≡ part (at + s) t xs → s + t ≡ all → a ++ b ≡ part at all xs
 parts at s t all xs a b e f same = ap (λ (l : List Bool). l ++ b) e ∙ ap (λ (l : List Bool). part at s xs ++ l) f ∙ sym (part-add at s t xs) ∙ ap (λ k. part at k xs) same
 
 -- NID_MESSAGE, L_MESSAGE and what follows them

@@ -13,14 +13,15 @@ use Rattle.etcs_sequence.specs.Labels.{labelled, widths}
 use Rattle.etcs_sequence.specs.Lefts.{ahead}
 use Rattle.etcs_sequence.specs.Held.{packets_so_far}
 use Rattle.etcs_sequence.specs.Holdings.{HeldIn}
+use Rattle.etcs_sequence.specs.Readables.{IsPart}
 use Rattle.etcs_messages.specs.declared.phase.Phase.{Phase}
 use Rattle.etcs_messages.specs.declared.phase.Phase.TheVariants as phase
-use Rattle.etcs_messages.specs.Messages.{padding_room, MessageLanguage, values_of}
+use Rattle.etcs_messages.specs.Messages.{padding_room, MessageLanguage, MessageReads, values_of}
 use Rattle.etcs_tables.specs.declared.row.Way.{Way}
 use Rattle.etcs_messages.specs.declared.message.Content.{Content}
 use Rattle.etcs_messages.specs.Kinds.{HeadOf, OwnOf}
 use Rattle.etcs_messages.specs.Readings.{content_by}
-use Rattle.etcs_messages.specs.Lefts.{front_row, front_vars, headed, MessageState, HoldsIn}
+use Rattle.etcs_messages.specs.Lefts.{front_row, front_vars, headed, MessageState, Left, HoldsIn, Follows}
 
 -- NID_MESSAGE, the L_MESSAGE of a message with this many bits more, and these variables
 abbrev pub measured : ℕ → Reading → ℕ → Reading
@@ -58,6 +59,11 @@ message_by way head own list s = content_by way head own (front_row way s.nid) s
 -- q are the variables so far, of which so much is held, of a message of this way
 abbrev pub OwnHeld : {S : Type 0} → (S → Holds) → Way → MessageState S → Reading → Type 0
 OwnHeld holds way s q = (s.way ≡ way) × HoldsIn holds s q
+
+-- ---- What one pass leaves of a message, after the first n bits of a piece.
+
+abbrev pub IsMessagePart : {S : Type 0} → (S → Holds) → Way → List Bool → MessageState S → ℕ → Type 0
+IsMessagePart holds way xs rest n = IsPart Left (Follows holds) (OwnHeld holds way) (MessageReads way) 1023 xs rest n
 
 -- ---- What it holds between two pieces.
 

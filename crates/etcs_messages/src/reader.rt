@@ -112,8 +112,9 @@ impl<H: Head, B: Own<Front = H>> ItemRest for MessageRest<H, B> {
         room: &mut Room<H::Packet>,
         _size: (),
         piece: &[u8],
+        part: &mut Option<(Self, usize)>,
     ) -> Option<(MessageOf<H, B>, usize)> {
-        message_at(room, piece)
+        message_at(room, piece, part)
     }
 
     #[inline(always)]

@@ -1,12 +1,15 @@
 //! What is left of a message, for the one reader.
 
-ghost use Rattle.std.specs.Prelude.{◌≡◌, ℕ, ◌-◌, ◌+◌, ◌^◌, ◌<◌, ◌≤◌, nat_lt, if◌then◌else◌, [], ◌∷◌, Some, length, IsTrue, OnOk, OnErr, IfOk, IfSome, IsNone};
+ghost use Rattle.std.specs.Prelude.{◌≡◌, ℕ, ◌-◌, ◌+◌, ◌^◌, ◌<◌, ◌≤◌, nat_lt, if◌then◌else◌, Bool, List, [], ◌∷◌, Some, length, IsTrue, OnOk, OnErr, IfOk, IfSome, IsNone};
 ghost use Rattle.etcs_bits.specs.Bits.{bits, num, part};
 ghost use Rattle.etcs_vars.specs.Reading.{kept, Viable};
 ghost use Rattle.etcs_vars.specs.declared.var.Var.{Var};
 ghost use Rattle.etcs_vars.specs.declared.var.Var.TheVariants.{NID_MESSAGE, L_MESSAGE, PADDING, OTHER_DATA};
 ghost use Rattle.etcs_vars.proofs.Languages.{Same};
 ghost use Rattle.etcs_reader.specs.Rests.{Goes, Starts};
+ghost use Rattle.etcs_rows.specs.declared.frames.Carrier.TheVariants.{Message};
+ghost use Rattle.etcs_packets.specs.PacketValues.{PacketValue};
+ghost use Rattle.etcs_sequence.specs.AtOnce.{RunSome};
 ghost use Rattle.etcs_messages.specs.Messages.{MessageLanguage};
 ghost use Rattle.etcs_messages.specs.Lefts.{stands_at, behind_packets, behind_front, Left, next_var, MayAsk, HoldsIn, Follows, Leaps};
 ghost use Rattle.etcs_messages.specs.laws.RestLaws.{rest_regular, rest_begins, rest_ended, follows_none, follows_along};
@@ -19,7 +22,7 @@ use etcs_packets::inner::AnyPacket;
 use etcs_reader::Rest;
 use etcs_rows::inner::{Carrier, message_lengths};
 use etcs_sequence::inner::{bits_at, number_at, run_at};
-use etcs_sequence::{PacketStore, PacketsRest, PacketsState, Stage};
+use etcs_sequence::{ListStore, PacketStore, PacketsRest, PacketsState, Stage};
 use etcs_vars::{Var, begins};
 use std::alloc::AllocError;
 use std::marker::{Model, PhantomData};
@@ -156,6 +159,37 @@ impl<H: Head, B: Own<Front = H>> MessageRest<H, B> {
         packets.pass(var, number)?;
         self.phase = behind_packets(&packets.left);
         Ok(())
+    }
+
+    /// Whether the packets come next, in a room of this many bits, and none was read yet.
+    pub(crate) fn is_at_packets(&self, room: usize) -> bool
+        ensures phase { IsTrue result → self.now.phase ≡ Phase.Packets }
+        ensures stage { IsTrue result → self.now.left.stage ≡ Stage.Number }
+        ensures room { IsTrue result → self.now.left.room ≡ room }
+        ensures none { IsTrue result → (vs : List PacketValue) → H.Store.holds self.now.store vs [] [] → vs ≡ [] }
+    {
+        let packets = &self.packets;
+        match (self.phase, &packets.left.stage) {
+            (Phase::Packets, Stage::Number) => {
+                packets.left.room == room && packets.store.list().packets.is_empty()
+            }
+            _ => false,
+        }
+    }
+
+    /// Continues after the packets that a store has taken of their room, of which this many bits are left, where none was read
+    /// yet.
+    pub(crate) fn resume(&mut self, store: H::Store, left: usize)
+        requires phase { self.old.phase ≡ Phase.Packets }
+        requires stage { self.old.left.stage ≡ Stage.Number }
+        requires none { (vs : List PacketValue) → H.Store.holds self.old.store vs [] [] → vs ≡ [] }
+        requires run { (xs : List Bool) × (at : ℕ) × RunSome (Message H.Packet.WAY) self.old.left.room (H.Store.holds store) xs at left }
+        ensures { (xs : List Bool) (at : ℕ) → RunSome (Message H.Packet.WAY) self.old.left.room (H.Store.holds store) xs at left → Leaps H.Store.holds self.old self.new xs at (self.old.left.room - left) }
+    {
+        self.phase = Phase::Whole;
+        let packets = &mut self.packets;
+        packets.resume(store, left);
+        self.phase = behind_packets(&packets.left);
     }
 
     /// Takes variables of the packets together where a piece has such, and says how many bits they are.

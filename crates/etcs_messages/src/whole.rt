@@ -1,27 +1,33 @@
 //! A message that lies whole in a piece, in one pass.
 
-ghost use Rattle.std.specs.Prelude.{◌≡◌, ◌+◌, ◌*◌, ◌≤◌, ◌<◌, ◌^◌, ◌++◌, ◌∷◌, [], ℕ, List, Some, None, length, IfSome, OnSome};
+ghost use Rattle.std.specs.Prelude.{◌≡◌, ◌+◌, ◌-◌, ◌*◌, ◌≤◌, ◌<◌, ◌^◌, ◌++◌, ◌∷◌, [], ℕ, List, Some, None, length, IfSome, OnSome};
+ghost use Rattle.etcs_bits.specs.Bits as bit_lists;
 ghost use Rattle.etcs_bits.specs.Bits.{bits, num, part};
 ghost use Rattle.etcs_vars.specs.declared.var.Var.{Var};
 ghost use Rattle.etcs_vars.specs.Reading.{Reading, spelled};
 ghost use Rattle.etcs_tables.specs.Layouts.{layout};
 ghost use Rattle.etcs_flat.specs.Flats.{variables};
+ghost use Rattle.etcs_rows.specs.declared.frames.Carrier.TheVariants.{Message};
+ghost use Rattle.etcs_sequence.specs.AtOnce.{RunSome};
 ghost use Rattle.etcs_sequence.specs.Fronts.{FrontAt};
 ghost use Rattle.etcs_messages.specs.Messages.{MessageReads, message_value, IsMessage};
 ghost use Rattle.etcs_messages.specs.Kinds.{IsFrontBy};
 ghost use Rattle.etcs_messages.specs.Lefts.{front_row, front_vars, front_bits};
+ghost use Rattle.etcs_messages.specs.Readers.{IsMessagePart};
 
 use crate::kind::{Head, Own};
 use crate::message::{Content, MessageOf};
 use crate::phase::front_bits;
 use crate::reader::front_by;
+use crate::rest::MessageRest;
 use arrayvec::ArrayVec;
 use etcs_bits::{BitSlice, Bits, SliceWalker};
 use etcs_bodies::ListOf;
 use etcs_packets::inner::AnyPacket;
+use etcs_reader::inner::pass_front;
 use etcs_rows::inner::Carrier;
-use etcs_sequence::ListStore;
-use etcs_sequence::inner::{Room, bits_at, number_at, take_run};
+use etcs_sequence::inner::{Room, Run, bits_at, number_at, take_run};
+use etcs_sequence::{ListStore, PacketList};
 use etcs_tables::{RowItem, head_row, message_row};
 use etcs_vars::Var;
 use std::alloc::Global;
@@ -33,15 +39,19 @@ const NUMBER_BITS: usize = 8;
 const LENGTH_BITS: usize = 10;
 
 /// The message that a piece begins with, and how many bytes it has. It may always return `None`, as where the piece begins
-/// with none, and where memory is refused.
+/// with none, and where memory is refused. In `part` it may then put what is left after this many bits of the piece.
 pub(crate) fn message_at<H: Head, B: Own<Front = H>>(
     room: &mut Room<H::Packet>,
     piece: &[u8],
+    part: &mut Option<(MessageRest<H, B>, usize)>,
 ) -> Option<(MessageOf<H, B>, usize)>
-    requires { length (bits piece.now) < 2 ^ 64 }
+    requires small { length (bits piece.now) < 2 ^ 64 }
+    requires part { IfSome part.old (λ t. IsMessagePart H.Store.holds H.Packet.WAY (bits piece.now) t.0 t.1) }
     ensures within { IfSome result (λ t. t.1 ≤ length piece.now) }
     ensures value { IfSome result (λ t. IsMessage H.Packet.WAY H.head B.own H.Packet.form t.0) }
-    ensures reads { IfSome result (λ t. (r : Reading) × MessageReads H.Packet.WAY (message_value H.Packet.WAY H.head B.own H.Packet.form t.0) r × (spelled r ≡ part 0 (8 * t.1) (bits piece.now))) }
+    ensures reads { IfSome result (λ t. (r : Reading) × MessageReads H.Packet.WAY (message_value H.Packet.WAY H.head B.own H.Packet.form t.0) r × (spelled r ≡ bit_lists.part 0 (8 * t.1) (bits piece.now))) }
+    ensures left { IfSome result (λ t. part.new ≡ part.old) }
+    ensures part { IfSome part.new (λ t. IsMessagePart H.Store.holds H.Packet.WAY (bits piece.now) t.0 t.1) }
 {
     if piece.len() < 3 {
         return None;
@@ -52,7 +62,7 @@ pub(crate) fn message_at<H: Head, B: Own<Front = H>>(
         return None;
     }
     match front_bits(H::Packet::WAY, nid) {
-        Some(front) => Some((typed_at(room, nid, front, piece, bytes)?, bytes)),
+        Some(front) => Some((typed_at(room, nid, front, piece, bytes, part)?, bytes)),
         None => Some((kept_at(room.alloc(), nid, piece, bytes)?, bytes)),
     }
 }
@@ -93,15 +103,19 @@ fn typed_at<H: Head, B: Own<Front = H>>(
     front: usize,
     piece: &[u8],
     bytes: usize,
+    part: &mut Option<(MessageRest<H, B>, usize)>,
 ) -> Option<MessageOf<H, B>>
     requires inside { 8 * bytes ≤ length (bits piece.now) }
     requires small { length (bits piece.now) < 2 ^ 64 }
     requires most { bytes < 2 ^ 10 }
     requires typed { (vars : List Var) × (front_row H.Packet.WAY nid ≡ Some vars) × (front ≡ front_bits vars) }
-    requires number { num 8 nid ≡ part 0 8 (bits piece.now) }
-    requires length { num 10 bytes ≡ part 8 10 (bits piece.now) }
+    requires number { num 8 nid ≡ bit_lists.part 0 8 (bits piece.now) }
+    requires length { num 10 bytes ≡ bit_lists.part 8 10 (bits piece.now) }
+    requires part { IfSome part.old (λ t. IsMessagePart H.Store.holds H.Packet.WAY (bits piece.now) t.0 t.1) }
     ensures value { IfSome result (λ m. IsMessage H.Packet.WAY H.head B.own H.Packet.form m) }
-    ensures reads { IfSome result (λ m. (r : Reading) × MessageReads H.Packet.WAY (message_value H.Packet.WAY H.head B.own H.Packet.form m) r × (spelled r ≡ part 0 (8 * bytes) (bits piece.now))) }
+    ensures reads { IfSome result (λ m. (r : Reading) × MessageReads H.Packet.WAY (message_value H.Packet.WAY H.head B.own H.Packet.form m) r × (spelled r ≡ bit_lists.part 0 (8 * bytes) (bits piece.now))) }
+    ensures left { IfSome result (λ t. part.new ≡ part.old) }
+    ensures part { IfSome part.new (λ t. IsMessagePart H.Store.holds H.Packet.WAY (bits piece.now) t.0 t.1) }
 {
     let end = 8 * bytes;
     if front > end {
@@ -109,13 +123,14 @@ fn typed_at<H: Head, B: Own<Front = H>>(
     }
     let (head, body) = front_at(nid, bits_at(piece, 0, front))?;
     let mut store = H::Store::over(room.take());
-    let left = take_run(
-        &mut store,
-        Carrier::Message(H::Packet::WAY),
-        end - front,
-        piece,
-        front,
-    )?;
+    let carrier = Carrier::Message(H::Packet::WAY);
+    let left = match take_run(&mut store, carrier, end - front, piece, front)? {
+        Run::All(left) => left,
+        Run::Some(left) => {
+            resume(room.alloc(), store, front, end, left, piece, part);
+            return None;
+        }
+    };
     let padding = number_at(piece, end - left, left) as u8;
     Some(MessageOf {
         content: Content::Typed {
@@ -126,6 +141,37 @@ fn typed_at<H: Head, B: Own<Front = H>>(
         },
         bytes,
     })
+}
+
+/// Puts into `part` what is left of a typed message of which the first packets were taken in one pass. Its packets have the
+/// room from `front` to `end`, of which this many bits are left. The variables in front of them are passed once more. It may
+/// always put nothing.
+#[cold]
+#[inline(never)]
+fn resume<H: Head, B: Own<Front = H>>(
+    alloc: Global,
+    store: H::Store,
+    front: usize,
+    end: usize,
+    left: usize,
+    piece: &[u8],
+    part: &mut Option<(MessageRest<H, B>, usize)>,
+)
+    requires some { 0 < front }
+    requires order { front ≤ end }
+    requires inside { end ≤ length (bits piece.now) }
+    requires most { end ≤ 8 * 1023 }
+    requires small { length (bits piece.now) < 2 ^ 64 }
+    requires run { RunSome (Message H.Packet.WAY) (end - front) (H.Store.holds store) (bits piece.now) front left }
+    requires part { IfSome part.old (λ t. IsMessagePart H.Store.holds H.Packet.WAY (bits piece.now) t.0 t.1) }
+    ensures { IfSome part.new (λ t. IsMessagePart H.Store.holds H.Packet.WAY (bits piece.now) t.0 t.1) }
+{
+    let mut rest = MessageRest::new(H::Store::over(PacketList::new(alloc)));
+    if !pass_front(&mut rest, piece, front) || !rest.is_at_packets(end - front) {
+        return;
+    }
+    rest.resume(store, left);
+    *part = Some((rest, end - left));
 }
 
 /// What is in front of the packets of a typed message of this number, after L_MESSAGE, where each variable admits its

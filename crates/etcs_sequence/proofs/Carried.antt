@@ -1,6 +1,7 @@
 -- A packet that is taken at once.
 use Rattle.std.proofs.Common.{◌≡◌, ℕ, ◌+◌, ◌-◌, ◌≤◌, Bool, List, [], ◌∷◌, ◌++◌, length, Some, refl, sym, ap, subst, ◌∙◌, arith}
-use Rattle.std.proofs.lemmas.List.Elements.{All-head}
+use Rattle.std.specs.Prelude.{All}
+use Rattle.std.proofs.lemmas.List.Elements.{All-head, All-tail}
 use Rattle.etcs_bits.specs.Bits.{num, part}
 use Rattle.etcs_bits.proofs.Lists.{length-part, part-add}
 use Rattle.etcs_vars.specs.declared.var.Var.TheVariants.{NID_PACKET, L_PACKET}
@@ -17,13 +18,14 @@ use Rattle.etcs_tables.specs.declared.row.Way.{Way}
 use Rattle.etcs_tables.specs.Frames.{frame_bits, head_bits, directed}
 use Rattle.etcs_packets.specs.PacketValues as packets
 use Rattle.etcs_packets.specs.PacketValues.{PacketValue, variables_of, IsTypedOf, bits_to, IsPacketTo}
-use Rattle.etcs_packets.specs.PacketReadings.{in_frame, reading_to}
+use Rattle.etcs_packets.specs.PacketReadings.{in_frame, reading_to, readings_to}
 use Rattle.etcs_packets.specs.laws.PacketReadings.{frame_is, directed-append, bits_are}
-use Rattle.etcs_sequence.specs.AtOnce.{FrameAt}
+use Rattle.etcs_reader.specs.laws.FieldLaws.{residual_none, residual_along}
+use Rattle.etcs_sequence.specs.AtOnce.{Holds, FrameAt, WholeAt}
 use Rattle.etcs_sequence.specs.Contents.{Carries, PacketsIn, ReadsPackets}
 use Rattle.etcs_sequence.specs.laws.Agreement.{packet_agree, packet_fit, numbered}
 use Rattle.etcs_sequence.proofs.OneSpelling.{packet_same, closed_apart}
-use Rattle.etcs_sequence.specs.laws.RunSteps.{behind, in_front, carried_packet}
+use Rattle.etcs_sequence.specs.laws.RunSteps.{behind, both_length, in_front, carried_packet}
 use Rattle.etcs_sequence.specs.laws.Others.{kept_parts, kept_untyped}
 use Rattle.etcs_sequence.specs.laws.Framed.{frame_head}
 
@@ -53,6 +55,28 @@ behind_packet c room v carried le = record {
   to = λ q (us, run). begins c room v us q carried run;
   from = λ q l. in_front c room (bits_to (way_of c) v) v q carried (bits_are (way_of c) v) le l;
 }
+
+-- so it is after one of a piece
+pub behind_whole : (c : Carrier) (room : ℕ) (H H' : Holds) (xs : List Bool) (at l : ℕ) (w : WholeAt c H H' xs at l) → l ≤ room → Residual (PacketsIn c room) (reading_to (way_of c) w.packet) (PacketsIn c (room - l))
+behind_whole c room H H' xs at l w le =
+    let long = w.long in
+    subst (λ (n : ℕ). Residual (PacketsIn c room) (reading_to (way_of c) w.packet) (PacketsIn c (room - n))) long (behind_packet c room w.packet w.carried (omega (arith, le, long)))
+
+-- and after several
+pub behind_packets : (c : Carrier) (room left : ℕ) (vs : List PacketValue) → All (Carries c) vs → length (spelled (readings_to (way_of c) vs)) + left ≡ room → Residual (PacketsIn c room) (readings_to (way_of c) vs) (PacketsIn c left)
+behind_packets c room left [] all long =
+    let same : room ≡ left = omega (arith, long) in
+    subst (λ (n : ℕ). Residual (PacketsIn c room) [] (PacketsIn c n)) same (residual_none (PacketsIn c room))
+behind_packets c room left (v ∷ vs) all long =
+    let way = way_of c in
+    let one = reading_to way v in
+    let rest = readings_to way vs in
+    let bits = bits_to way v in
+    let size = bits_are way v in
+    let both = both_length one rest in
+    let first = behind_packet c room v (All-head (Carries c) v vs all) (omega (arith, long, both, size)) in
+    let others = behind_packets c (room - bits) left vs (All-tail (Carries c) v vs all) (omega (arith, long, both, size)) in
+    residual_along (PacketsIn c room) one (PacketsIn c (room - bits)) rest (PacketsIn c left) first others
 
 -- the packet of a row, of its bits
 typed_by : (way : Way) (nid dir : ℕ) (row : Layout) (v : PacketValue) → row_to way nid ≡ Some row → IsPacketTo way v → IsTypedOf nid dir v → reading_to way v ≡ in_frame way nid dir (length (spelled (variables_of v))) (variables_of v)

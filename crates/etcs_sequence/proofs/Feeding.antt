@@ -26,8 +26,8 @@ use Rattle.etcs_reader.specs.Feeders.{FeederValue}
 use Rattle.etcs_reader.specs.laws.FieldLaws.{residual_along}
 use Rattle.etcs_reader.proofs.Passing.{passed_viable, passed_language, passed_owner, passed_owners, passed_refuses}
 use Rattle.etcs_sequence.specs.declared.list.PacketList.{PacketList}
-use Rattle.etcs_sequence.specs.Progress.{Progress, reading, finished, asks_memory, asked_from, Feeds, fault_by, seen_of, Reached, IsReader}
-use Rattle.etcs_sequence.specs.Readables.{Readable, seen_at, progress_at}
+use Rattle.etcs_sequence.specs.Progress.{Progress, reading, finished, stopped, starved, progress_by, asks_memory, asked_from, Feeds, fault_by, seen_of, Reached, IsReader}
+use Rattle.etcs_sequence.specs.Readables.{Readable, seen_at, progress_at, IsFed, IsFedTo}
 
 -- ---- Bytes.
 
@@ -57,6 +57,15 @@ whole_part : (L : Reading → Type 0) → Regular L → (r : Reading) (part : Li
 whole_part L regular r part l (q, c, m, e) =
     let all : spelled r ++ (part ++ c) ≡ spelled q ++ [] = sym (append_assoc (spelled r) part c) ∙ sym e ∙ sym (append-nil (spelled q)) in
     no_front part c (apart r q (part ++ c) [] (regular.agree r q l m) (regular.fit r l) (regular.fit q m) all).1
+
+-- ---- What a feeder's answer says.
+
+module _ {R : Type 0} (left : R → Reading → Type 0) (next : R → Option Var) (v : FeederValue R) (n : ℕ) (found : Option Var) (here : found ≡ next v.rest) where
+  pub fed_more : (x : Var) → found ≡ Some x → (v.stop ≡ None → IfSome found (Owner (left v.rest) v.part)) → IsFed left next v (Ok n) (Ok More)
+  fed_more x is own = rw (sym here, is) (refl, λ none. rw is at own none)
+
+  pub fed_done : found ≡ None → (v.stop ≡ None → IsNone found → (v.part ≡ []) × left v.rest []) → IsFed left next v (Ok n) (Ok (Done (n / 8)))
+  fed_done is ended = rw (sym here, is) (refl, λ none. (ended none (rw is refl)).1)
 
 module _ {R V W P : Type 0} {left : R → Reading → Type 0} {next : R → Option Var} {follows : R → Reading → R → Type 0} {fails : R → Type 0} {far : R → Reading} {holds : R → Reading → Type 0} {Reads : W → Reading → Type 0} {value : V → W} {IsValue : V → Type 0} {size : V → ℕ} {made : R → V} {store : R → PacketList P} {Members : List P → List ℕ → List Bool → Reading → Type 0} {most least : ℕ} (w : Readable R V W P left next follows fails far holds Reads value IsValue size made store Members most least) where
   abbrev L : Reading → Type 0
@@ -111,6 +120,10 @@ module _ {R V W P : Type 0} {left : R → Reading → Type 0} {next : R → Opti
   whole_reading v at e =
       let l = subst (left v.rest) (w.ended v.rest e at.goes.0 at.goes.1) at.goes.1 in
       subst L (append-nil (far v.rest)) (at.residual.from [] l)
+
+  -- so where a reader hasn't stopped and nothing comes next
+  pub ended_reading : (v : FeederValue R) → Is v → is_some v.stop ≡ false → is_some (next v.rest) ≡ false → L (far v.rest)
+  ended_reading v is stop end = whole_reading v (at_of v (none_there v.stop stop) is) (none_there (next v.rest) end)
 
   pub whole_seen : (v : FeederValue R) → At v → next v.rest ≡ None → seen v ≡ spelled (far v.rest)
   whole_seen v at e =
@@ -323,22 +336,17 @@ module _ {R V W P : Type 0} {left : R → Reading → Type 0} {next : R → Opti
 
     -- ---- By what a feeder answers.
 
-    pub answers_more : (result : Result ℕ Stop) (n : ℕ) (found : Option Var) (x : Var) → feeders.Feeds R left next follows fails old xs result new → result ≡ Ok n → found ≡ Some x → found ≡ next new.rest → (new.stop ≡ None → IfSome found (Owner (left new.rest) new.part)) → Answer old new piece (Ok More)
-    answers_more result n found x h is some e own =
-        let (stop, count, t) = rw is at h in
-        more n x stop count t (sym e ∙ some) (rw some at (own stop))
-
-    pub answers_done : (result : Result ℕ Stop) (n : ℕ) (found : Option Var) → feeders.Feeds R left next follows fails old xs result new → result ≡ Ok n → found ≡ None → found ≡ next new.rest → (new.stop ≡ None → IsNone found → (new.part ≡ []) × left new.rest []) → Answer old new piece (Ok (Done (n / 8)))
-    answers_done result n found h is none e ended =
-        let (stop, count, t) = rw is at h in
-        done n stop count t (sym e ∙ none) ([], (ended stop (rw none refl)).1)
-
     stops : (stop : Stop) → feeders.Feeds R left next follows fails old xs (Err stop) new → Answer old new piece (Err (fault_by stop))
     stops (Refused i x) (stop, count, n, e, h) = refuses i n x stop count e h
     stops Memory (stop, n, count, h) = starves n stop count h
 
-    pub answers_err : (result : Result ℕ Stop) (stop : Stop) (fault : ReadFault) → feeders.Feeds R left next follows fails old xs result new → result ≡ Err stop → fault ≡ fault_by stop → Answer old new piece (Err fault)
-    answers_err result stop fault h is e = rw e (stops stop (rw is at h))
+    pub answers_fed : (answer : Result ℕ Stop) (result : Result Fed ReadFault) → feeders.Feeds R left next follows fails old xs answer new → IsFed left next new answer result → Answer old new piece result
+    answers_fed (Ok n) result (stop, count, t) fed = by_next (next new.rest) refl fed
+      where
+        by_next : (o : Option Var) → next new.rest ≡ o → IsFedTo left new n o result → Answer old new piece result
+        by_next (Some x) e (is, own) = rw is (more n x stop count t e (own stop))
+        by_next None e (is, ended) = rw is (done n stop count t e ([], ended stop))
+    answers_fed (Err stop) result h is = rw is (stops stop h)
 
   -- ---- By a reader's value.
 
@@ -350,6 +358,16 @@ module _ {R V W P : Type 0} {left : R → Reading → Type 0} {next : R → Opti
   answers old new piece result s none g a e b h =
       let same = same_bits (seen old) b (sym (going_progress old none g) ∙ e ∙ h) in
       subst (λ (t : List Bool). Feeds Reads value IsValue least t (bits piece) result (progress new)) same a.fed
+
+  -- where it reads, it hasn't stopped and something comes next
+  pub still_reads : (v : FeederValue R) (b : List Bool) → progress v ≡ reading b → (v.stop ≡ None) × (is_some (next v.rest) ≡ true)
+  still_reads v b = by_stop (next v.rest) v.stop
+    where
+      by_stop : (o : Option Var) (stop : Option Stop) → progress_by o (seen v) (made v.rest) v.count stop ≡ reading b → (stop ≡ None) × (is_some o ≡ true)
+      by_stop (Some x) None e = (refl, refl)
+      by_stop None None e = let two : ◌≡◌ {A = Progress V} (finished (made v.rest)) (reading b) = e in absurd cc
+      by_stop o (Some (Refused i x)) e = let two : ◌≡◌ {A = Progress V} (stopped i x) (reading b) = e in absurd cc
+      by_stop o (Some Memory) e = let two : ◌≡◌ {A = Progress V} (starved v.count) (reading b) = e in absurd cc
 
   -- how many bits it counted
   pub counted : (v : FeederValue R) → Is v → v.count ≡ seen_of size (progress v)
@@ -376,10 +394,10 @@ module _ {R V W P : Type 0} {left : R → Reading → Type 0} {next : R → Opti
     none_far : [] ≡ far v.rest
     none_far = w.far_is v.rest [] first_goes held
 
-    none_seen : seen v ≡ []
+    pub none_seen : seen v ≡ []
     none_seen = ap (λ (r : Reading). spelled r ++ v.part) (sym none_far) ∙ part
 
-    first_at : At v
+    pub first_at : At v
     first_at = record {
       residual =
           let d : Residual L [] (left v.rest) = record { to = λ q l. (same q).1 l; from = λ q l. (same q).0 l } in

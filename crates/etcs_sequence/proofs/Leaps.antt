@@ -1,13 +1,14 @@
 -- What a leap over packets comes to, for what reads them in a frame of its own.
-use Rattle.std.proofs.Common.{◌≡◌, ℕ, Bool, List, [], ◌++◌, None, Some, Result, Ok, Err, OnErr, refl}
+use Rattle.std.proofs.Common.{◌≡◌, ℕ, Bool, List, [], None, Some, Result, Ok, Err, OnErr, refl}
 use Rattle.std.specs.Prelude.{IsNone, IfSome, Option}
 use mathlib.Core.HLevel.{is_prop→PathP}
 use Rattle.etcs_vars.specs.Reading.{Reading}
 use Rattle.etcs_reader.specs.Rests.{Goes, LeapsBy}
-use Rattle.etcs_packets.specs.PacketValues.{PacketValue}
 use Rattle.etcs_sequence.specs.declared.state.PacketsState.{PacketsState}
-use Rattle.etcs_sequence.specs.Lefts.{left_of, HoldsAt, Moved}
-use Rattle.etcs_sequence.specs.laws.LeftLaws.{moved_none, held_none}
+use Rattle.etcs_sequence.specs.AtOnce.{Holds}
+use Rattle.etcs_sequence.specs.Leaps.{Follows}
+use Rattle.etcs_sequence.specs.Lefts.{left_of}
+use Rattle.etcs_sequence.specs.laws.Leaps.{follows_none}
 
 -- what holds however a call ended
 pub on_err : {T E P : Type 0} (r : Result T E) → P → OnErr r P
@@ -15,17 +16,17 @@ on_err (Ok x) p = tt
 on_err (Err e) p = p
 
 -- from packets to others by these variables
-abbrev pub Steps : (l l' : PacketsState) (holds holds' : List PacketValue → List ℕ → List Bool → Type 0) → Reading → Type 0
-Steps l l' holds holds' p = Moved l.carrier l.room l.stage p l'.carrier l'.room l'.stage × ((q : Reading) → HoldsAt l.carrier l.stage holds q → HoldsAt l'.carrier l'.stage holds' (q ++ p))
+abbrev pub Steps : (l l' : PacketsState) (holds holds' : Holds) → Reading → Type 0
+Steps l l' holds holds' p = Follows l holds p l' holds'
 
 -- a leap that takes nothing goes by no variable
-pub steps : (l l' : PacketsState) (holds holds' : List PacketValue → List ℕ → List Bool → Type 0) (xs : List Bool) (at : ℕ) (o : Option ℕ) → (IsNone o → (l' ≡ l) × (holds' ≡ holds))
+pub steps : (l l' : PacketsState) (holds holds' : Holds) (xs : List Bool) (at : ℕ) (o : Option ℕ) → (IsNone o → (l' ≡ l) × (holds' ≡ holds))
     → IfSome o (λ n. LeapsBy (left_of l'.carrier l'.room l'.stage) (Steps l l' holds holds') xs at n) → (p : Reading) × Steps l l' holds holds' p
-steps l l' holds holds' xs at None same h = ([], rw ((same refl).0, (same refl).1) (moved_none l.carrier l.room l.stage, held_none l.carrier l.stage holds))
+steps l l' holds holds' xs at None same h = ([], rw ((same refl).0, (same refl).1) (follows_none l holds))
 steps l l' holds holds' xs at (Some n) same h = (h.whole, h.follows)
 
 -- and one that takes some, in a frame of its own
-pub leaps_on : (l l' : PacketsState) (holds holds' : List PacketValue → List ℕ → List Bool → Type 0) (xs : List Bool) (at : ℕ) (o : Option ℕ) {Left F : Reading → Type 0} → (Goes (left_of l'.carrier l'.room l'.stage) → Goes Left) → ((p : Reading) → Goes (left_of l'.carrier l'.room l'.stage) → Steps l l' holds holds' p → F p)
+pub leaps_on : (l l' : PacketsState) (holds holds' : Holds) (xs : List Bool) (at : ℕ) (o : Option ℕ) {Left F : Reading → Type 0} → (Goes (left_of l'.carrier l'.room l'.stage) → Goes Left) → ((p : Reading) → Goes (left_of l'.carrier l'.room l'.stage) → Steps l l' holds holds' p → F p)
     → IfSome o (λ n. LeapsBy (left_of l'.carrier l'.room l'.stage) (Steps l l' holds holds') xs at n) → IfSome o (λ n. LeapsBy Left F xs at n)
 leaps_on l l' holds holds' xs at None goes on h = tt
 leaps_on l l' holds holds' xs at (Some n) goes on h = record {

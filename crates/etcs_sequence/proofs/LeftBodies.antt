@@ -19,11 +19,10 @@ use Rattle.etcs_tables.specs.Rows.{row_to}
 use Rattle.etcs_tables.specs.Frames.{is_kept, frame_bits, head_bits, kept_limit, is_direction, directed}
 use Rattle.etcs_tables.specs.declared.row.Way.{Way}
 use Rattle.etcs_packets.specs.PacketValues as packets
-use Rattle.etcs_packets.specs.PacketValues.{PacketValue, bits_to, IsPacketTo}
+use Rattle.etcs_packets.specs.PacketValues.{IsPacketTo}
 use Rattle.etcs_packets.specs.PacketReadings.{in_frame, reading_to}
-use Rattle.etcs_packets.specs.laws.PacketReadings.{length-kept, frame_is, directed-append, in_frame-append, bits_are}
+use Rattle.etcs_packets.specs.laws.PacketReadings.{length-kept, frame_is, directed-append, in_frame-append}
 use Rattle.etcs_sequence.specs.Contents.{Carries, PacketsIn, BodyIn, KeptIn, BodyLeft, AfterLength, LengthLeft}
-use Rattle.etcs_sequence.proofs.Carried.{behind_packet}
 use Rattle.etcs_sequence.specs.laws.RunSteps.{framed_carried}
 use Rattle.etcs_sequence.proofs.Turns.{residual_same, behind_length, typed_body, kept_body}
 use Rattle.etcs_sequence.proofs.Wholes.{kept_behind, kept_ends, kept_append}
@@ -245,12 +244,11 @@ here_whole c nid dir row f h direction next goes k =
     let is : IsPacketTo way v = (k.row, k.typed, direction, reads.0, short) in
     (k.read, (framed_carried c v is (typed_framed way nid k.row k.typed), k.numbers_are, k.here ∙ ap (λ (b : ℕ). in_frame way nid dir b k.read) (sym reads.1)))
 
--- ---- A whole packet.
+-- ---- Whole packets.
 
-pub packet_passed : (c : Carrier) (room : ℕ) (s' : Stage) (v : PacketValue) → Carries c v → bits_to (way_of c) v ≤ room → Same (left_of c (room - bits_to (way_of c) v) s') (PacketsIn c (room - bits_to (way_of c) v)) → ahead c (room - bits_to (way_of c) v) s' ≡ room - bits_to (way_of c) v → Moved c room Number (reading_to (way_of c) v) c (room - bits_to (way_of c) v) s'
-packet_passed c room s' v carried le same e =
-    let left = room - bits_to (way_of c) v in record {
-      same = refl;
-      residual = residual_same (PacketsIn c room) (reading_to (way_of c) v) (PacketsIn c left) (left_of c left s') (behind_packet c room v carried le) (same_back (left_of c left s') (PacketsIn c left) same);
-      ahead_is = omega (arith, bits_are (way_of c) v, le, e);
-    }
+pub reading_passed : (c : Carrier) (room left : ℕ) (s' : Stage) (p : Reading) → Residual (PacketsIn c room) p (PacketsIn c left) → length (spelled p) + left ≡ room → Same (left_of c left s') (PacketsIn c left) → ahead c left s' ≡ left → Moved c room Number p c left s'
+reading_passed c room left s' p behind long same e = record {
+  same = refl;
+  residual = residual_same (PacketsIn c room) p (PacketsIn c left) (left_of c left s') behind (same_back (left_of c left s') (PacketsIn c left) same);
+  ahead_is = omega (arith, long, e);
+}

@@ -18,6 +18,7 @@ pub mod OneHolding
 pub mod OneSpelling
 pub mod PacketLemmas
 pub mod Padding
+pub mod Resuming
 pub mod RoundTrips
 pub mod RowBits
 pub mod RunLemmas

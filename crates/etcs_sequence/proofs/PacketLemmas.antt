@@ -24,7 +24,7 @@ use Rattle.etcs_sequence.specs.declared.stage.Stage.{Stage}
 use Rattle.etcs_sequence.specs.declared.stage.Event.{Event}
 use Rattle.etcs_sequence.specs.declared.stage.Keep.{Keep}
 use Rattle.etcs_sequence.specs.declared.stage.Stage.TheVariants.{Direction, Row, Kept, Closed}
-use Rattle.etcs_sequence.specs.Lefts.{next_of, is_closed, may_grow, keeps_at, numbers_with, bits_with, Here, After, Becomes, HoldsAt}
+use Rattle.etcs_sequence.specs.Lefts.{next_of, is_closed, may_grow, keeps_at, numbers_with, bits_with, Here, After, Becomes, HoldsAt, MayFinish, Finishes}
 use Rattle.etcs_sequence.specs.laws.Framed.{frame_between}
 use Rattle.etcs_sequence.specs.laws.RunSteps.{carried_packet}
 use Rattle.etcs_sequence.specs.declared.stage.Keep.TheVariants as keep
@@ -42,10 +42,6 @@ packets_push way (w ∷ vs) v = ap (λ (t : Reading). reading_to way w ++ t) (pa
 
 pub held_whole : (c : Carrier) (s : Stage) (H : Holds) (vs : List PacketValue) (v : PacketValue) → H (vs ++ v ∷ []) [] [] → All (Carries c) vs → Carries c v → Here c s [] [] [] → HoldsAt c s H (readings_to (way_of c) vs ++ reading_to (way_of c) v)
 held_whole c s H vs v held all carried here = (vs ++ v ∷ [], [], [], [], held, All-push (Carries c) vs v all carried, here, sym (packets_push (way_of c) vs v) ∙ sym (append-nil (readings_to (way_of c) (vs ++ v ∷ []))))
-
--- by an event what H holds becomes what H' holds
-abbrev pub Finishes : Way → Holds → Holds → Event → Type 0
-Finishes way H H' e = (c : Carrier) (s : Stage) (vs : List PacketValue) (f : List ℕ) (k : List Bool) (h : Reading) → way_of c ≡ way → H vs f k → All (Carries c) vs → After c s f k h e → HoldsAt c s H' (readings_to (way_of c) vs ++ h)
 
 -- a store's packets go its way
 pub its_packet : (way : Way) (c : Carrier) (v : PacketValue) → way_of c ≡ way → Carries c v → IsPacketTo way v
@@ -162,8 +158,8 @@ pub number_taken : (c : Carrier) (s s' : Stage) (x : Var) (n : ℕ) (e : Event) 
     → Becomes c s x n e s' → (q : Reading) → HoldsAt c s H q → Taken c s' M e (q ++ (x, n) ∷ [])
 number_taken c s s' x n e H M keep same absorbed here = taken c s s' (λ f. numbers_with (keeps_at s) f n) (λ k. bits_with (keeps_at s) k n) ((x, n) ∷ []) e H M (rw same at absorbed) here
 
-pub event_held : (way : Way) {c : Carrier} {s : Stage} {M : Holds} {e : Event} {t : Reading} → way_of c ≡ way → Taken c s M e t → (d : Carrier) × ((t : Stage) × ((vs : List PacketValue) × ((f : List ℕ) × ((k : List Bool) × ((h : Reading) × ((way_of d ≡ way) × (M vs f k × After d t f k h e)))))))
-event_held way {c} {s} to x = (c, (s, (x.whole, (x.numbers, (x.bits, (x.last, (to, (x.held, x.after))))))))
+pub event_held : (way : Way) {c : Carrier} {s : Stage} {M : Holds} {e : Event} {t : Reading} → way_of c ≡ way → Taken c s M e t → MayFinish way M e
+event_held way {c} {s} to x = (c, s, x.whole, x.numbers, x.bits, x.last, to, x.held, x.after)
 
 pub more_held : (way : Way) {c : Carrier} {s : Stage} {M : Holds} {e : Event} {t : Reading} → way_of c ≡ way → (N : Holds) (c' : Carrier) → c' ≡ c → Finishes way M N e → Taken c s M e t → HoldsAt c' s N t
 more_held way {c} {s} to N c' same fin x = rw (same, x.reading_is) (fin c s x.whole x.numbers x.bits x.last to x.held x.carried x.after)

@@ -1,8 +1,8 @@
 -- Packets that lie whole in a piece, one after another.
 use Rattle.std.proofs.Common.{◌≡◌, ℕ, ◌+◌, ◌-◌, ◌/◌, ◌%◌, ◌^◌, ◌≤◌, ◌<◌, Bool, true, ◌&&◌, List, [], ◌∷◌, ◌++◌, length, None, refl, sym, ap, subst, ◌∙◌, arith, append-nil}
-use Rattle.std.specs.Prelude.{IsTrue, All}
+use Rattle.std.specs.Prelude.{IsTrue}
 use Rattle.std.proofs.lemmas.Bool.{le-leb}
-use Rattle.std.proofs.lemmas.List.Elements.{All-nil, All-push}
+use Rattle.std.proofs.lemmas.List.Elements.{All-push}
 use Rattle.etcs_bits.specs.Bits.{num, part}
 use Rattle.etcs_bits.specs.NextBits.{AreNext}
 use Rattle.etcs_bits.proofs.ByteBits.{num_low}
@@ -26,7 +26,7 @@ use Rattle.etcs_packets.specs.PacketReadings.{in_frame, reading_to, readings_to}
 use Rattle.etcs_packets.specs.laws.PacketReadings.{bits_are}
 use Rattle.etcs_sequence.specs.declared.run.Frame.{Frame}
 use Rattle.etcs_sequence.specs.Contents.{closing, Fills, Carries}
-use Rattle.etcs_sequence.specs.AtOnce.{FrameAt, Holds, IsFrameIn, WholeAt, RunAt, ClosesAt}
+use Rattle.etcs_sequence.specs.AtOnce.{FrameAt, Holds, IsFrameIn, WholeAt, RunAt, RunTo, ClosesAt}
 use Rattle.etcs_sequence.specs.laws.Others.{kept_parts, kept_framed}
 use Rattle.etcs_sequence.specs.laws.RunSteps.{both_length, fills_before, framed_carried}
 use Rattle.etcs_sequence.proofs.Carried.{frame_spelled}
@@ -64,6 +64,10 @@ word_frame ToTrack word at xs f next (nid, dir, len) least within =
       direction = refl;
       long = ap (num 13) len ∙ num_low 13 (word / 2 ^ 43 % 2 ^ 13) (word / 2 ^ 43) (omega arith) ∙ long;
     }
+
+pub frame_short : (way : Way) (word : ℕ) (f : Frame) → IsFrameIn way word f → f.len < 2 ^ 13
+frame_short ToTrain word f (nid, dir, len) = omega (arith, len)
+frame_short ToTrack word f (nid, dir, len) = omega (arith, len)
 
 -- packet 255 in them
 pub closes_telegram : (left at word : ℕ) (xs : List Bool) → AreNext word xs at → at + left ≤ length xs → 8 ≤ left → word / 2 ^ 56 ≡ 255 → ClosesAt Telegram left xs at
@@ -110,15 +114,6 @@ kept_at way c to H H' xs at l nid dir body frame within same fine held =
     record { packet = v; carried = framed_carried c v is (kept_framed own nid k.0); bits = bits; long = omega (arith, size, least); held = held }
 
 -- ---- One after another.
-
--- the bits from at on are those of whole packets, which leave this many bits of the room, and H holds the packets
-pub record RunTo (c : Carrier) (room : ℕ) (H : Holds) (xs : List Bool) (at left : ℕ) : Type 0 where
-  pub packets : List PacketValue
-  pub held : H packets [] []
-  pub carried : All (Carries c) packets
-  pub within : left ≤ room
-  pub long : length (spelled (readings_to (way_of c) packets)) + left ≡ room
-  pub bits : spelled (readings_to (way_of c) packets) ≡ part at (room - left) xs
 
 -- more after the bits so far
 more_bits : (at place room left l : ℕ) (xs : List Bool) (r q : Reading) → spelled r ≡ part at (room - left) xs → spelled q ≡ part place l xs → left ≤ room → l ≤ left → place + left ≡ at + room → spelled (r ++ q) ≡ part at (room - (left - l)) xs

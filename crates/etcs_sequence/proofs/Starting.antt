@@ -16,15 +16,15 @@ use Rattle.etcs_sequence.proofs.Fits.{number_some, some_number, length_some, som
 use Rattle.etcs_sequence.specs.laws.OpenLaws.{GoesOn}
 
 pub starts_number : (c : Carrier) (room rest bits : ℕ) (result : Bool) → room ≤ 8191 → IsTrue result ↔ ((n : ℕ) × (n / 2 ^ rest ≡ bits) × NumberFits c room n) → IsTrue result ↔ GoesOn (AfterNumber c room) rest bits
-starts_number c room rest bits result small told = (
-  λ yes. (let (n, e, fits) = told.0 yes in let r = number_some c room n small fits in (n, r.0, e, r.1)),
-  λ (n, r, e, a). told.1 (n, e, some_number c room n r a),
+starts_number c room rest bits result small iff = (
+  λ yes. (let (n, e, fits) = iff.0 yes in let r = number_some c room n small fits in (n, r.0, e, r.1)),
+  λ (n, r, e, a). iff.1 (n, e, some_number c room n r a),
 )
 
 pub starts_length : (c : Carrier) (nid room rest bits : ℕ) (result : Bool) → room ≤ 8191 → IsTrue result ↔ ((l : ℕ) × (l / 2 ^ rest ≡ bits) × LengthFits c nid room l) → IsTrue result ↔ GoesOn (AfterLength c nid room) rest bits
-starts_length c nid room rest bits result small told = (
-  λ yes. (let (l, e, fits) = told.0 yes in let r = length_some c nid room l small fits in (l, r.0, e, r.1)),
-  λ (l, r, e, a). told.1 (l, e, some_length c nid room l r a),
+starts_length c nid room rest bits result small iff = (
+  λ yes. (let (l, e, fits) = iff.0 yes in let r = length_some c nid room l small fits in (l, r.0, e, r.1)),
+  λ (l, r, e, a). iff.1 (l, e, some_length c nid room l r a),
 )
 
 some_goes : (After : ℕ → Reading → Type 0) (k rest bits : ℕ) → k ≡ rest → (n : ℕ) × (r : Reading) × (n / 2 ^ k ≡ bits) × After n r → GoesOn After rest bits

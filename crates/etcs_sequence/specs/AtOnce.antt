@@ -1,15 +1,17 @@
 -- Packets that lie whole in a piece, taken in one pass.
-use Rattle.std.specs.Prelude.{◌≡◌, ℕ, ◌+◌, ◌-◌, ◌/◌, ◌%◌, ◌^◌, ◌≤◌, Bool, List, [], ◌∷◌, ◌++◌, length}
+use Rattle.std.specs.Prelude.{◌≡◌, ℕ, ◌+◌, ◌-◌, ◌/◌, ◌%◌, ◌^◌, ◌≤◌, ◌<◌, Bool, List, [], ◌∷◌, ◌++◌, length, All, IsTrue}
 use Rattle.etcs_bits.specs.Bits.{num, part}
 use Rattle.etcs_vars.specs.Reading.{Reading, spelled}
 use Rattle.etcs_tables.specs.declared.row.Way.{Way}
 use Rattle.etcs_tables.specs.declared.row.Way.TheVariants.{ToTrain, ToTrack}
 use Rattle.etcs_tables.specs.Frames.{directed, frame_bits, head_bits}
 use Rattle.etcs_rows.specs.declared.frames.Carrier.{Carrier}
-use Rattle.etcs_rows.specs.Frames.{way_of}
+use Rattle.etcs_rows.specs.Frames.{way_of, may_be_left}
 use Rattle.etcs_packets.specs.PacketValues.{PacketValue, bits_to}
 use Rattle.etcs_packets.specs.PacketReadings.{reading_to, readings_to}
 use Rattle.etcs_sequence.specs.declared.run.Frame.{Frame}
+use Rattle.etcs_sequence.specs.declared.run.Run.{Run}
+use Rattle.etcs_sequence.specs.declared.run.Run.TheVariants as taken
 use Rattle.etcs_sequence.specs.Contents.{closing, Carries, Fills, ReadsPackets}
 
 -- what a store holds: these packets, and of the next one these numbers or bits
@@ -53,6 +55,24 @@ pub record RunAt (c : Carrier) (room : ℕ) (H : Holds) (xs : List Bool) (at lef
   pub within : left ≤ room
   pub long : length (spelled (run_reading c packets)) + left ≡ room
   pub bits : spelled (run_reading c packets) ≡ part at (room - left) xs
+
+-- the bits from at on are those of whole packets, which leave this many bits of the room, and H holds the packets
+pub record RunTo (c : Carrier) (room : ℕ) (H : Holds) (xs : List Bool) (at left : ℕ) : Type 0 where
+  pub packets : List PacketValue
+  pub held : H packets [] []
+  pub carried : All (Carries c) packets
+  pub within : left ≤ room
+  pub long : length (spelled (readings_to (way_of c) packets)) + left ≡ room
+  pub bits : spelled (readings_to (way_of c) packets) ≡ part at (room - left) xs
+
+-- there are some, and after them others may come, or what closes them
+abbrev pub RunSome : Carrier → ℕ → Holds → List Bool → ℕ → ℕ → Type 0
+RunSome c room H xs at left = RunTo c room H xs at left × (left < room) × IsTrue (may_be_left c left)
+
+-- how far packets were taken of the bits from at on
+abbrev pub RunIs : Carrier → ℕ → Holds → List Bool → ℕ → Run → Type 0
+RunIs c room H xs at (taken.All left) = RunAt c room H xs at left
+RunIs c room H xs at (taken.Some left) = RunSome c room H xs at left
 
 -- what closes the packets comes next, where this many bits of their room are left
 abbrev pub ClosesAt : Carrier → ℕ → List Bool → ℕ → Type 0

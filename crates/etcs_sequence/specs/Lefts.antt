@@ -17,6 +17,7 @@ use Rattle.etcs_rows.specs.Places.{first_variable}
 use Rattle.etcs_packets.specs.PacketValues as packets
 use Rattle.etcs_packets.specs.PacketValues.{PacketValue}
 use Rattle.etcs_packets.specs.PacketReadings.{in_frame, reading_to, readings_to}
+use Rattle.etcs_sequence.specs.AtOnce.{Holds}
 use Rattle.etcs_sequence.specs.Contents.{closing, Carries, PacketsIn, KeptIn, LengthLeft, DirectionLeft, MarkerLeft}
 use Rattle.etcs_sequence.specs.declared.stage.Stage.{Stage}
 use Rattle.etcs_sequence.specs.declared.stage.Stage.TheVariants.{Number, Marker, Direction, Length, Row, Kept, Closed}
@@ -166,3 +167,13 @@ Becomes c s x n e s' = (f : List ℕ) (k : List Bool) (h : Reading) → Here c s
 -- q are the variables so far: those of whole packets and those of the one that is being read, of which so much is held
 abbrev pub HoldsAt : Carrier → Stage → (List PacketValue → List ℕ → List Bool → Type 0) → Reading → Type 0
 HoldsAt c s holds q = (vs : List PacketValue) × (f : List ℕ) × (k : List Bool) × (h : Reading) × holds vs f k × All (Carries c) vs × Here c s f k h × (q ≡ readings_to (way_of c) vs ++ h)
+
+-- ---- A packet that is whole.
+
+-- what an event says of the packet that is being read, of which H holds so much
+abbrev pub MayFinish : Way → Holds → Event → Type 0
+MayFinish way H e = (c : Carrier) × (s : Stage) × (vs : List PacketValue) × (f : List ℕ) × (k : List Bool) × (h : Reading) × (way_of c ≡ way) × H vs f k × After c s f k h e
+
+-- by it what H holds becomes what H' holds
+abbrev pub Finishes : Way → Holds → Holds → Event → Type 0
+Finishes way H H' e = (c : Carrier) (s : Stage) (vs : List PacketValue) (f : List ℕ) (k : List Bool) (h : Reading) → way_of c ≡ way → H vs f k → All (Carries c) vs → After c s f k h e → HoldsAt c s H' (readings_to (way_of c) vs ++ h)

@@ -7,6 +7,7 @@ pub mod Fronts
 pub mod Held
 pub mod Holdings
 pub mod Labels
+pub mod Leaps
 pub mod Lefts
 pub mod Readables
 pub mod Refs

@@ -1,14 +1,20 @@
 -- What a reader of any item stands for, and what it asks of what is left of one.
-use Rattle.std.specs.Prelude.{◌≡◌, ℕ, ◌*◌, ◌%◌, ◌^◌, ◌<◌, ◌≤◌, Bool, List, [], ◌++◌, length, Option, Some, None, IsTrue}
+use Rattle.std.specs.Prelude.{◌≡◌, ℕ, ◌*◌, ◌/◌, ◌%◌, ◌^◌, ◌<◌, ◌≤◌, Bool, List, [], ◌++◌, length, Option, Some, None, Result, Ok, Err, IsTrue}
+use Rattle.etcs_bits.specs.Bits.{part}
 use Rattle.etcs_vars.specs.declared.var.Var.{Var}
 use Rattle.etcs_vars.specs.Vars.{width}
-use Rattle.etcs_vars.specs.Reading.{Reading, spelled, readings_of}
+use Rattle.etcs_vars.specs.declared.feed.Fed.{Fed}
+use Rattle.etcs_vars.specs.declared.feed.Fed.TheVariants.{More, Done}
+use Rattle.etcs_vars.specs.declared.feed.ReadFault.{ReadFault}
+use Rattle.etcs_vars.specs.Reading.{Reading, spelled, readings_of, Owner}
 use Rattle.etcs_vars.specs.Walking.{Residual}
+use Rattle.etcs_vars.proofs.Languages.{Same}
 use Rattle.etcs_vars.proofs.Walk.{Regular}
-use Rattle.etcs_reader.specs.Rests.{Goes, BeginsWith, Ended}
+use Rattle.etcs_reader.specs.declared.feeder.Stop.{Stop}
+use Rattle.etcs_reader.specs.Rests.{Goes, BeginsWith, Ended, LeapsBy}
 use Rattle.etcs_reader.specs.Feeders.{FeederValue}
 use Rattle.etcs_sequence.specs.declared.list.PacketList.{PacketList}
-use Rattle.etcs_sequence.specs.Progress.{Progress, reading, finished, progress_by, IsReader, asks_memory, asked_from}
+use Rattle.etcs_sequence.specs.Progress.{Progress, reading, finished, progress_by, IsReader, asks_memory, asked_from, fault_by}
 
 -- what is known of the item's size, and how far it came
 pub record ItemValue (S V : Type 0) : Type 0 where
@@ -60,3 +66,21 @@ progress_with (Some d) s = finished d.0
 abbrev pub IsDone : {V : Type 0} → (V → Type 0) → (V → ℕ) → Option (V × ℕ) → Progress V → Type 0
 IsDone IsValue size None s = Unit {0}
 IsDone IsValue size (Some d) s = IsValue d.0 × (size d.0 ≡ 8 * d.1) × (8 * d.1 < 2 ^ 64) × (s ≡ reading [])
+
+-- ---- What a piece begins with.
+
+-- the first n bits xs of a piece, no more than an item has, lead to what is left here from all of one, of which nothing is
+-- kept
+abbrev pub IsPart : {R W : Type 0} → (R → Reading → Type 0) → (R → Reading → R → Type 0) → (R → Reading → Type 0) → (W → Reading → Type 0) → ℕ → List Bool → R → ℕ → Type 0
+IsPart {R} left follows holds Reads most xs rest n = (n ≤ 8 * most) × (start : R) × Same (left start) (readings_of Reads) × holds start [] × LeapsBy (left rest) (λ p. follows start p rest) xs 0 n
+
+-- ---- What a feeder's answer says of an item.
+
+-- by the variable that comes next
+abbrev pub IsFedTo : {R : Type 0} → (R → Reading → Type 0) → FeederValue R → ℕ → Option Var → Result Fed ReadFault → Type 0
+IsFedTo left v n (Some x) fed = (fed ≡ Ok More) × (v.stop ≡ None → Owner (left v.rest) v.part x)
+IsFedTo left v n None fed = (fed ≡ Ok (Done (n / 8))) × (v.stop ≡ None → left v.rest [])
+
+abbrev pub IsFed : {R : Type 0} → (R → Reading → Type 0) → (R → Option Var) → FeederValue R → Result ℕ Stop → Result Fed ReadFault → Type 0
+IsFed left next v (Ok n) fed = IsFedTo left v n (next v.rest) fed
+IsFed left next v (Err stop) fed = fed ≡ Err (fault_by stop)

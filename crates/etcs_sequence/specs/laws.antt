@@ -3,6 +3,7 @@ pub mod BitLaws
 pub mod ChainLaws
 pub mod Framed
 pub mod LabelLaws
+pub mod Leaps
 pub mod LeftLaws
 pub mod OpenLaws
 pub mod Others

@@ -11,7 +11,7 @@ pub use crate::first::first_item;
 use crate::packets_in::Packets;
 pub use crate::pieces::{bits_at, number_at, run_at};
 pub use crate::room::Room;
-pub use crate::run::take_run;
+pub use crate::run::{Run, take_run};
 use etcs_bits::BitSlice;
 
 /// The first `count` packets in these bits. Anything may follow them.

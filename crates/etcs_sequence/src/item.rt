@@ -1,21 +1,21 @@
 //! One reader of every item: telegrams, and messages.
 
-ghost use Rattle.std.specs.Prelude.{◌≡◌, ◌≢◌, ◌*◌, ◌≤◌, ◌<◌, ◌^◌, ℕ, List, Bool, [], length, Ok, Err, None, MatchResult, IfSome, IsNone};
+ghost use Rattle.std.specs.Prelude.{◌≡◌, ◌≢◌, ◌*◌, ◌≤◌, ◌<◌, ◌^◌, ℕ, List, Bool, [], true, length, Ok, Err, None, MatchResult, IfSome, IsNone, is_some};
 ghost use Rattle.etcs_bits.specs.Bits as bit_lists;
-ghost use Rattle.etcs_bits.specs.Bits.{bits, part};
+ghost use Rattle.etcs_bits.specs.Bits.{bits};
 ghost use Rattle.etcs_vars.specs.Reading.{Reading, spelled, readings_of};
-ghost use Rattle.etcs_vars.specs.declared.feed.Fed.TheVariants.{Done};
 ghost use Rattle.etcs_vars.proofs.Languages.{Same};
 ghost use Rattle.etcs_sequence.specs.declared.list.PacketList.{PacketList};
 ghost use Rattle.etcs_sequence.specs.Holdings.{IsHeld};
-ghost use Rattle.etcs_sequence.specs.Readables.{Readable};
+ghost use Rattle.etcs_sequence.specs.Progress.{Feeds, reading};
+ghost use Rattle.etcs_sequence.specs.Readables.{Readable, IsPart, IsFed, IsItemReader, progress_at};
 
 use crate::Held;
 use crate::fault::fault_by;
 use crate::list::PacketList;
 use crate::room::Room;
 use etcs_packets::inner::AnyPacket;
-use etcs_reader::{Feeder, Rest};
+use etcs_reader::{Feeder, Rest, Stop};
 use etcs_vars::{Fed, ReadFault};
 use std::alloc::Global;
 use std::marker::Model;
@@ -78,16 +78,21 @@ pub trait ItemRest: Rest + Drop {
         ensures holds { holds size result [] };
 
     /// The item of this size that a piece begins with, where it lies whole in it, and how many bytes it has. It may
-    /// always return `None`, as where the piece begins with no such item, and where memory is refused.
+    /// always return `None`, as where the piece begins with no such item, and where memory is refused. In `part` it may
+    /// then put what is left after this many bits of the piece.
     fn whole(
         room: &mut Room<Self::Packet>,
         size: Self::Size,
         piece: &[u8],
+        part: &mut Option<(Self, usize)>,
     ) -> Option<(Self::Item, usize)>
-        requires { length (bit_lists.bits piece.now) < 2 ^ 64 }
+        requires small { length (bit_lists.bits piece.now) < 2 ^ 64 }
+        requires none { part.old ≡ None }
         ensures within { IfSome result (λ t. 8 * t.1 ≤ length (bit_lists.bits piece.now)) }
         ensures value { IfSome result (λ t. IsValue t.0) }
-        ensures reads { IfSome result (λ t. (r : Reading) × Reads size (value t.0) r × (spelled r ≡ part 0 (8 * t.1) (bit_lists.bits piece.now))) };
+        ensures reads { IfSome result (λ t. (r : Reading) × Reads size (value t.0) r × (spelled r ≡ bit_lists.part 0 (8 * t.1) (bit_lists.bits piece.now))) }
+        ensures left { IfSome result (λ t. part.new ≡ None) }
+        ensures part { IfSome part.new (λ t. IsPart Self.left Self.follows (holds size) (Reads size) (most size) (bit_lists.bits piece.now) t.0 t.1) };
 
     /// Takes the room of an item that isn't needed any more.
     fn reuse(item: Self::Item, room: &mut Room<Self::Packet>);
@@ -114,16 +119,94 @@ pub struct ItemReader<R: ItemRest> {
     done: Option<(R::Item, usize)>,
     /// Room for the next item.
     room: Room<R::Packet>,
+    /// What one pass leaves of the first piece, after how many bits: none but while it is fed.
+    part: Option<(R, usize)>,
 }
 
 impl<R: ItemRest> Model for ItemReader<R> {
+    ghost use Rattle.std.specs.Prelude.{◌≡◌, None};
     ghost use Rattle.etcs_sequence.specs.Readables.{ItemValue, progress_at, progress_with, IsItemReader, IsDone};
 
     ghost Value = { ItemValue R.Size R.Item };
 
     ghost view = { λ r. record { size = r.size; progress = progress_with r.done (progress_at R.next R.far R.made r.feeder) } };
 
-    ghost invariant = { λ r. IsItemReader R R.Item R.Shown R.Packet R.left R.next R.follows R.fails R.far (R.holds r.size) (R.Reads r.size) R.value R.IsValue R.bits R.made R.store R.Members (R.most r.size) R.least r.feeder × IsDone R.IsValue R.bits r.done (progress_at R.next R.far R.made r.feeder) };
+    ghost invariant = { λ r. IsItemReader R R.Item R.Shown R.Packet R.left R.next R.follows R.fails R.far (R.holds r.size) (R.Reads r.size) R.value R.IsValue R.bits R.made R.store R.Members (R.most r.size) R.least r.feeder × IsDone R.IsValue R.bits r.done (progress_at R.next R.far R.made r.feeder) × (r.part ≡ None) };
+}
+
+/// What a feeder's answer says of an item, which it has whole where nothing is left.
+fn fed<R: Rest>(feeder: &Feeder<R>, answer: Result<usize, Stop>) -> Result<Fed, ReadFault>
+    ensures { IsFed R.left R.next feeder.now answer result }
+{
+    match answer {
+        Ok(taken) => match feeder.var() {
+            Some(_) => Ok(Fed::More),
+            None => Ok(Fed::Done { taken: taken / 8 }),
+        },
+        Err(stop) => Err(fault_by(stop)),
+    }
+}
+
+/// Takes the first piece variable by variable, from where one pass came to.
+#[cold]
+#[inline(never)]
+fn feed_part<R: ItemRest>(
+    size: R::Size,
+    feeder: &mut Feeder<R>,
+    part: &mut Option<(R, usize)>,
+    piece: &[u8],
+) -> Result<Fed, ReadFault>
+    requires item { IsItemReader R R.Item R.Shown R.Packet R.left R.next R.follows R.fails R.far (R.holds size) (R.Reads size) R.value R.IsValue R.bits R.made R.store R.Members (R.most size) R.least feeder.old }
+    requires reading { progress_at R.next R.far R.made feeder.old ≡ reading [] }
+    requires part { IfSome part.old (λ t. IsPart R.left R.follows (R.holds size) (R.Reads size) (R.most size) (bits piece.now) t.0 t.1) }
+    ensures item { IsItemReader R R.Item R.Shown R.Packet R.left R.next R.follows R.fails R.far (R.holds size) (R.Reads size) R.value R.IsValue R.bits R.made R.store R.Members (R.most size) R.least feeder.new }
+    ensures answer { Feeds (R.Reads size) R.value R.IsValue R.least [] (bits piece.now) result (progress_at R.next R.far R.made feeder.new) }
+    ensures part { part.new ≡ None }
+{
+    match mem::replace(part, None) {
+        Some((rest, at)) => {
+            let (after, answer) = feed_after(size, rest, at, piece);
+            *feeder = after;
+            answer
+        }
+        None => feed_next(size, feeder, piece),
+    }
+}
+
+/// A reader that takes a first piece variable by variable from this bit on, after which this is left, and what it answers.
+fn feed_after<R: ItemRest>(
+    size: R::Size,
+    rest: R,
+    at: usize,
+    piece: &[u8],
+) -> (Feeder<R>, Result<Fed, ReadFault>)
+    requires readable { Readable R R.Item R.Shown R.Packet R.left R.next R.follows R.fails R.far (R.holds size) (R.Reads size) R.value R.IsValue R.bits R.made R.store R.Members (R.most size) R.least }
+    requires part { IsPart R.left R.follows (R.holds size) (R.Reads size) (R.most size) (bits piece.now) rest at }
+    ensures item { IsItemReader R R.Item R.Shown R.Packet R.left R.next R.follows R.fails R.far (R.holds size) (R.Reads size) R.value R.IsValue R.bits R.made R.store R.Members (R.most size) R.least result.0 }
+    ensures answer { Feeds (R.Reads size) R.value R.IsValue R.least [] (bits piece.now) result.1 (progress_at R.next R.far R.made result.0) }
+{
+    let most = R::most(size).min(piece.len());
+    let (feeder, answer) = Feeder::after(rest, at, &piece[..most]);
+    let answer = fed(&feeder, answer);
+    (feeder, answer)
+}
+
+/// Takes the next piece variable by variable, where something is left of the item.
+fn feed_next<R: ItemRest>(
+    size: R::Size,
+    feeder: &mut Feeder<R>,
+    piece: &[u8],
+) -> Result<Fed, ReadFault>
+    requires item { IsItemReader R R.Item R.Shown R.Packet R.left R.next R.follows R.fails R.far (R.holds size) (R.Reads size) R.value R.IsValue R.bits R.made R.store R.Members (R.most size) R.least feeder.old }
+    requires stop { feeder.old.stop ≡ None }
+    requires next { is_some (R.next feeder.old.rest) ≡ true }
+    ensures item { IsItemReader R R.Item R.Shown R.Packet R.left R.next R.follows R.fails R.far (R.holds size) (R.Reads size) R.value R.IsValue R.bits R.made R.store R.Members (R.most size) R.least feeder.new }
+    ensures answer { (seen : List Bool) → progress_at R.next R.far R.made feeder.old ≡ reading seen → Feeds (R.Reads size) R.value R.IsValue R.least seen (bits piece.now) result (progress_at R.next R.far R.made feeder.new) }
+{
+    let wanted = R::most(size) - feeder.count() / 8;
+    let most = wanted.min(piece.len());
+    let answer = feeder.feed(&piece[..most]);
+    fed(feeder, answer)
 }
 
 impl<R: ItemRest> ItemReader<R> {
@@ -142,6 +225,7 @@ impl<R: ItemRest> ItemReader<R> {
             feeder: Feeder::new(rest),
             done: None,
             room: Room::new(alloc),
+            part: None,
         }
     }
 
@@ -172,26 +256,28 @@ impl<R: ItemRest> ItemReader<R> {
             return Err(ReadFault::Ended);
         }
         if self.feeder.count() == 0 && self.feeder.stop().is_none() {
-            if let Some(taken) = self.feed_whole(piece) {
-                return Ok(Fed::Done { taken });
-            }
+            return self.feed_first(piece);
         }
         self.feed_on(piece)
     }
 
-    /// Takes the item that a piece begins with, where it lies whole in it, and says how many bytes it has.
+    /// Takes the first piece: the item where it lies whole in it, else what one pass found of it, and then the rest
+    /// variable by variable.
     #[inline(always)]
-    fn feed_whole(&mut self, piece: &[u8]) -> Option<usize>
+    fn feed_first(&mut self, piece: &[u8]) -> Result<Fed, ReadFault>
         requires { self.old.progress ≡ reading [] }
-        ensures none { IsNone result → self.new ≡ self.old }
-        ensures some { IfSome result (λ taken. Feeds (R.Reads self.old.size) R.value R.IsValue R.least [] (bits piece.now) (Ok (Done taken)) self.new.progress) }
+        ensures answer { Feeds (R.Reads self.old.size) R.value R.IsValue R.least [] (bits piece.now) result self.new.progress }
         ensures size { self.new.size ≡ self.old.size }
     {
         // A few bytes more than the longest item, so that looks at its last bits find whole words.
         let near = piece.len().min(R::most(self.size) + 8).min(MOST_NEAR);
-        let (item, taken) = R::whole(&mut self.room, self.size, &piece[..near])?;
-        self.done = Some((item, taken));
-        Some(taken)
+        match R::whole(&mut self.room, self.size, &piece[..near], &mut self.part) {
+            Some((item, taken)) => {
+                self.done = Some((item, taken));
+                Ok(Fed::Done { taken })
+            }
+            None => feed_part(self.size, &mut self.feeder, &mut self.part, piece),
+        }
     }
 
     /// Takes the next piece variable by variable.
@@ -206,15 +292,7 @@ impl<R: ItemRest> ItemReader<R> {
         if self.done.is_some() || self.feeder.var().is_none() {
             return Err(ReadFault::Ended);
         }
-        let wanted = R::most(self.size) - self.feeder.count() / 8;
-        let fed = wanted.min(piece.len());
-        match self.feeder.feed(&piece[..fed]) {
-            Ok(taken) => match self.feeder.var() {
-                Some(_) => Ok(Fed::More),
-                None => Ok(Fed::Done { taken: taken / 8 }),
-            },
-            Err(stop) => Err(fault_by(stop)),
-        }
+        feed_next(self.size, &mut self.feeder, piece)
     }
 
     /// What it holds between two pieces: the whole packets, the numbers or kept bits of what is being read,

@@ -1,20 +1,21 @@
 //! What is left of packets, and what is kept of those that were read.
 
-ghost use Rattle.std.specs.Prelude.{◌≡◌, ◌≢◌, ◌↔◌, ℕ, ◌+◌, ◌-◌, ◌*◌, ◌^◌, ◌<◌, ◌≤◌, [], ◌∷◌, ◌++◌, Some, None, true, false, Bool, List, length, All, IsTrue, OnOk, OnErr, IfOk, IfSome, IsNone};
-ghost use Rattle.etcs_vars.specs.Vars.{width};
+ghost use Rattle.std.specs.Prelude.{◌≡◌, ◌≢◌, ℕ, ◌+◌, ◌-◌, ◌*◌, ◌^◌, ◌<◌, ◌≤◌, [], ◌++◌, Some, None, false, Bool, List, length, IsTrue, OnOk, OnErr, IfOk, IfSome, IsNone};
 ghost use Rattle.etcs_bits.specs.Bits.{part, bits};
 ghost use Rattle.etcs_vars.specs.Reading.{Reading, Viable};
 ghost use Rattle.etcs_vars.proofs.Languages.{Same};
 ghost use Rattle.etcs_packets.specs.PacketValues.{PacketValue};
-ghost use Rattle.etcs_packets.specs.PacketReadings.{readings_to};
 ghost use Rattle.etcs_rows.specs.Frames.{way_of};
-ghost use Rattle.etcs_sequence.specs.Contents.{Carries, PacketsIn};
+ghost use Rattle.etcs_sequence.specs.Contents.{PacketsIn};
 ghost use Rattle.etcs_rows.specs.declared.frames.Carrier.{Carrier};
 ghost use Rattle.etcs_rows.specs.declared.rest.RowRest.{RowRest};
-ghost use Rattle.etcs_reader.specs.Rests.{Starts, Goes, LeapsBy};
+ghost use Rattle.etcs_reader.specs.Rests.{Goes};
 ghost use Rattle.etcs_sequence.specs.declared.stage.Stage.{Stage};
-ghost use Rattle.etcs_sequence.specs.Lefts.{Here, next_of, left_of, ahead, is_closed, may_grow, numbers_with, bits_with, After, Moved, HoldsAt};
-ghost use Rattle.etcs_sequence.specs.laws.LeftLaws.{left_regular, left_begins, left_ended, moved_none, moved_along, held_none, held_along};
+ghost use Rattle.etcs_sequence.specs.AtOnce.{RunSome};
+ghost use Rattle.etcs_sequence.specs.Leaps.{Follows, Leaps};
+ghost use Rattle.etcs_sequence.specs.Lefts.{next_of, left_of, ahead, is_closed, may_grow, numbers_with, bits_with, MayFinish, Finishes, HoldsAt};
+ghost use Rattle.etcs_sequence.specs.laws.LeftLaws.{left_regular, left_begins, left_ended};
+ghost use Rattle.etcs_sequence.specs.laws.Leaps.{follows_none, follows_along};
 
 use crate::inner::{bits_at, number_at, run_at};
 use crate::run::put_packet;
@@ -81,8 +82,8 @@ fn absorb_numbers<S: PacketStore>(store: &mut S, numbers: &[u64]) -> Result<(), 
 /// Makes the packet that is whole.
 #[inline(always)]
 fn finish<S: PacketStore>(store: &mut S, event: Event) -> Result<(), AllocError>
-    requires { ∥ ((c : Carrier) × ((s : Stage) × ((vs : List PacketValue) × ((f : List ℕ) × ((k : List Bool) × ((h : Reading) × ((way_of c ≡ S.WAY) × (S.holds store.old vs f k × After c s f k h event)))))))) ∥₁ }
-    ensures ok { OnOk result ((c : Carrier) (s : Stage) (vs : List PacketValue) (f : List ℕ) (k : List Bool) (h : Reading) → way_of c ≡ S.WAY → S.holds store.old vs f k → All (Carries c) vs → After c s f k h event → HoldsAt c s (S.holds store.new) (readings_to (way_of c) vs ++ h)) }
+    requires { ∥ MayFinish S.WAY (S.holds store.old) event ∥₁ }
+    ensures ok { OnOk result (Finishes S.WAY (S.holds store.old) (S.holds store.new) event) }
     ensures err { OnErr result (S.fails × (event ≢ Event.More)) }
 {
     match event {
@@ -132,7 +133,7 @@ impl<S: PacketStore> PacketsRest<S> {
         requires inside { at < length (bits piece.now) }
         requires small { length (bits piece.now) < 2 ^ 64 }
         ensures none { IsNone result → self.new ≡ self.old }
-        ensures some { IfSome result (λ n. LeapsBy (left_of self.new.left.carrier self.new.left.room self.new.left.stage) (λ p. Moved self.old.left.carrier self.old.left.room self.old.left.stage p self.new.left.carrier self.new.left.room self.new.left.stage × ((q : Reading) → HoldsAt self.old.left.carrier self.old.left.stage (S.holds self.old.store) q → HoldsAt self.new.left.carrier self.new.left.stage (S.holds self.new.store) (q ++ p))) (bits piece.now) at n) }
+        ensures some { IfSome result (λ n. Leaps self.old.left (S.holds self.old.store) self.new.left (S.holds self.new.store) (bits piece.now) at n) }
     {
         if piece.len() * 8 - at < CLOSING_BITS {
             return None;
@@ -154,7 +155,7 @@ impl<S: PacketStore> PacketsRest<S> {
         requires inside { at < length (bits piece.now) }
         requires small { length (bits piece.now) < 2 ^ 64 }
         ensures none { IfOk result (λ o. IsNone o → self.new ≡ self.old) }
-        ensures some { IfOk result (λ o. IfSome o (λ n. LeapsBy (left_of self.new.left.carrier self.new.left.room self.new.left.stage) (λ p. Moved self.old.left.carrier self.old.left.room self.old.left.stage p self.new.left.carrier self.new.left.room self.new.left.stage × ((q : Reading) → HoldsAt self.old.left.carrier self.old.left.stage (S.holds self.old.store) q → HoldsAt self.new.left.carrier self.new.left.stage (S.holds self.new.store) (q ++ p))) (bits piece.now) at n)) }
+        ensures some { IfOk result (λ o. IfSome o (λ n. Leaps self.old.left (S.holds self.old.store) self.new.left (S.holds self.new.store) (bits piece.now) at n)) }
         ensures err { OnErr result S.fails }
         ensures viable { OnErr result (Viable (left_of self.old.left.carrier self.old.left.room self.old.left.stage) (part at 1 (bits piece.now))) }
     {
@@ -189,7 +190,7 @@ impl<S: PacketStore> PacketsRest<S> {
         requires small { length (bits piece.now) < 2 ^ 64 }
         requires goes { Goes (left_of self.old.left.carrier self.old.left.room self.old.left.stage) }
         ensures none { IfOk result (λ o. IsNone o → self.new ≡ self.old) }
-        ensures some { IfOk result (λ o. IfSome o (λ n. LeapsBy (left_of self.new.left.carrier self.new.left.room self.new.left.stage) (λ p. Moved self.old.left.carrier self.old.left.room self.old.left.stage p self.new.left.carrier self.new.left.room self.new.left.stage × ((q : Reading) → HoldsAt self.old.left.carrier self.old.left.stage (S.holds self.old.store) q → HoldsAt self.new.left.carrier self.new.left.stage (S.holds self.new.store) (q ++ p))) (bits piece.now) at n)) }
+        ensures some { IfOk result (λ o. IfSome o (λ n. Leaps self.old.left (S.holds self.old.store) self.new.left (S.holds self.new.store) (bits piece.now) at n)) }
         ensures err { OnErr result (S.fails × IsTrue (may_grow self.old.left.stage)) }
         ensures viable { OnErr result (Viable (left_of self.old.left.carrier self.old.left.room self.old.left.stage) (part at 1 (bits piece.now))) }
     {
@@ -223,7 +224,7 @@ impl<S: PacketStore> PacketsRest<S> {
         requires small { length (bits piece.now) < 2 ^ 64 }
         requires goes { Goes (left_of self.old.left.carrier self.old.left.room self.old.left.stage) }
         ensures none { IfOk result (λ o. IsNone o → self.new ≡ self.old) }
-        ensures some { IfOk result (λ o. IfSome o (λ n. LeapsBy (left_of self.new.left.carrier self.new.left.room self.new.left.stage) (λ p. Moved self.old.left.carrier self.old.left.room self.old.left.stage p self.new.left.carrier self.new.left.room self.new.left.stage × ((q : Reading) → HoldsAt self.old.left.carrier self.old.left.stage (S.holds self.old.store) q → HoldsAt self.new.left.carrier self.new.left.stage (S.holds self.new.store) (q ++ p))) (bits piece.now) at n)) }
+        ensures some { IfOk result (λ o. IfSome o (λ n. Leaps self.old.left (S.holds self.old.store) self.new.left (S.holds self.new.store) (bits piece.now) at n)) }
         ensures err { OnErr result (S.fails × IsTrue (may_grow self.old.left.stage)) }
         ensures viable { OnErr result (Viable (left_of self.old.left.carrier self.old.left.room self.old.left.stage) (part at 1 (bits piece.now))) }
     {
@@ -236,12 +237,29 @@ impl<S: PacketStore> PacketsRest<S> {
     }
 }
 
+impl<S: PacketStore + Drop> PacketsRest<S> {
+    /// Continues after the packets that a store has taken of the room, of which this many bits are left, where the own store
+    /// has taken none.
+    #[cold]
+    #[inline(never)]
+    pub fn resume(&mut self, store: S, left: usize)
+        requires stage { self.old.left.stage ≡ Stage.Number }
+        requires none { (vs : List PacketValue) → S.holds self.old.store vs [] [] → vs ≡ [] }
+        requires run { ∥ ((xs : List Bool) × ((at : ℕ) × RunSome self.old.left.carrier self.old.left.room (S.holds store) xs at left)) ∥₁ }
+        ensures { (xs : List Bool) (at : ℕ) → RunSome self.old.left.carrier self.old.left.room (S.holds store) xs at left → Leaps self.old.left (S.holds self.old.store) self.new.left (S.holds self.new.store) xs at (self.old.left.room - left) }
+    {
+        let taken = self.left.room - left;
+        self.left.skip(taken);
+        self.store = store;
+    }
+}
+
 impl<S: PacketStore> Rest for PacketsRest<S> {
     ghost left = { λ s. left_of s.left.carrier s.left.room s.left.stage };
 
     ghost next = { λ s. next_of s.left.stage };
 
-    ghost follows = { λ s p t. Moved s.left.carrier s.left.room s.left.stage p t.left.carrier t.left.room t.left.stage × ((q : Reading) → HoldsAt s.left.carrier s.left.stage (S.holds s.store) q → HoldsAt t.left.carrier t.left.stage (S.holds t.store) (q ++ p)) };
+    ghost follows = { λ s p t. Follows s.left (S.holds s.store) p t.left (S.holds t.store) };
 
     ghost fails = { λ s. S.fails × IsTrue (may_grow s.left.stage) };
 
@@ -298,7 +316,7 @@ impl<S: PacketStore> Rest for PacketsRest<S> {
 
     ghost residual = { λ s t p h. h.0.residual };
 
-    ghost none = { λ s. (moved_none s.left.carrier s.left.room s.left.stage, held_none s.left.carrier s.left.stage (S.holds s.store)) };
+    ghost none = { λ s. follows_none s.left (S.holds s.store) };
 
-    ghost both = { λ s t u p q h k. (moved_along s.left.carrier s.left.room s.left.stage p t.left.carrier t.left.room t.left.stage q u.left.carrier u.left.room u.left.stage h.0 k.0, held_along s.left.carrier s.left.stage (S.holds s.store) p t.left.carrier t.left.stage (S.holds t.store) q u.left.carrier u.left.stage (S.holds u.store) h.1 k.1) };
+    ghost both = { λ s t u p q h k. follows_along s.left t.left u.left (S.holds s.store) (S.holds t.store) (S.holds u.store) p q h k };
 }

@@ -1,19 +1,20 @@
 //! All packets of a room, in one pass over a piece that holds them.
 
-ghost use Rattle.std.specs.Prelude.{◌≡◌, ◌≤◌, ◌<◌, ◌+◌, ◌^◌, [], None, ℕ, Bool, false, List, length, IsTrue, IfOk, IfSome, OnErr};
+ghost use Rattle.std.specs.Prelude.{◌≡◌, ◌≤◌, ◌<◌, ◌+◌, ◌-◌, ◌^◌, [], None, ℕ, Bool, false, List, length, IsTrue, IfOk, IfSome, IsNone, OnErr};
 ghost use Rattle.etcs_bits.specs.Bits.{bits};
 ghost use Rattle.etcs_bits.specs.NextBits.{AreNext};
 ghost use Rattle.etcs_vars.specs.Reading.{spelled};
 ghost use Rattle.etcs_tables.specs.Frames.{kept_limit};
 ghost use Rattle.etcs_tables.specs.declared.row.Way.TheVariants.{ToTrain};
 ghost use Rattle.etcs_rows.specs.declared.frames.Carrier.TheVariants.{Telegram};
-ghost use Rattle.etcs_rows.specs.Frames.{way_of};
+ghost use Rattle.etcs_rows.specs.Frames.{way_of, may_be_left};
 ghost use Rattle.etcs_packets.specs.PacketValues.{PacketValue, kept};
 ghost use Rattle.etcs_sequence.specs.Contents.{closing};
-ghost use Rattle.etcs_sequence.specs.AtOnce.{IsFrameIn, IsPut, WholeAt, RunAt, ClosesAt};
+ghost use Rattle.etcs_sequence.specs.AtOnce.{IsFrameIn, IsPut, WholeAt, RunIs, ClosesAt};
 
 use crate::inner::bits_at;
 use crate::store::PacketStore;
+use crate::whole::may_be_left;
 use etcs_bits::{BitSlice, next_bits};
 use etcs_flat::inner::check_other;
 use etcs_rows::inner::{Carrier, MOST_PADDING};
@@ -130,26 +131,51 @@ pub(crate) fn put_packet<S: PacketStore>(
 }
 
 /// Takes packet 0, the marker, of a telegram that has this many bits left, of which the word has the first, and says how
-/// many bits it has. It may always return `None`.
+/// many bits it has. `None` where packet 255 doesn't fit after it; the store stays as it was.
+///
+/// # Errors
+///
+/// Where memory is refused. Nothing is said of what the store holds then.
 #[inline(never)]
-fn take_marker<S: PacketStore>(store: &mut S, room: usize, word: u64) -> Option<usize>
+fn take_marker<S: PacketStore>(
+    store: &mut S,
+    room: usize,
+    word: u64,
+) -> Result<Option<usize>, AllocError>
     requires way { ToTrain ≡ S.WAY }
     requires number { word < 2 ^ 56 }
-    ensures within { IfSome result (λ n. (0 < n) × (n ≤ room)) }
-    ensures whole { (xs : List Bool) (at : ℕ) → AreNext word xs at → at + room ≤ length xs → IfSome result (λ n. WholeAt Telegram (S.holds store.old) (S.holds store.new) xs at n) }
+    ensures within { IfOk result (λ o. IfSome o (λ n. (0 < n) × (n ≤ room))) }
+    ensures left { IfOk result (λ o. IfSome o (λ n. IsTrue (may_be_left Telegram (room - n)))) }
+    ensures whole { (xs : List Bool) (at : ℕ) → AreNext word xs at → at + room ≤ length xs → IfOk result (λ o. IfSome o (λ n. WholeAt Telegram (S.holds store.old) (S.holds store.new) xs at n)) }
+    ensures none { IfOk result (λ o. IsNone o → store.new ≡ store.old) }
 {
-    if room < MARKER_BITS {
-        return None;
+    if room < MARKER_BITS + CLOSING_BITS {
+        return Ok(None);
     }
     let number = (word >> 50) as u8 % 64;
-    match store.marker(number) {
-        Ok(()) => Some(MARKER_BITS),
-        Err(_) => None,
+    store.marker(number)?;
+    Ok(Some(MARKER_BITS))
+}
+
+/// Whether a packet of this many bits lies in the room and leaves what may be left of it.
+#[inline(always)]
+fn fits(carrier: Carrier, room: usize, len: usize) -> bool
+    requires { len < 2 ^ 13 }
+    ensures within { IsTrue result → len ≤ room }
+    ensures left { IsTrue result → IsTrue (may_be_left carrier (room - len)) }
+{
+    match carrier {
+        Carrier::Telegram => len + CLOSING_BITS <= room,
+        Carrier::Message(_) => len <= room && may_be_left(carrier, room - len),
     }
 }
 
-/// Takes the packet that begins at `at`, where it lies whole in the room, and says how many bits it has. The word has its
-/// first bits. It may always return `None`.
+/// Takes the packet that begins at `at`, where it lies whole in the room and leaves what may be left of it, and says how many
+/// bits it has. The word has its first bits. It may always return `None`, and then the store stays as it was.
+///
+/// # Errors
+///
+/// Where memory is refused. Nothing is said of what the store holds then.
 #[inline(always)]
 fn take_packet<S: PacketStore>(
     store: &mut S,
@@ -158,15 +184,17 @@ fn take_packet<S: PacketStore>(
     piece: &[u8],
     at: usize,
     word: u64,
-) -> Option<usize>
+) -> Result<Option<usize>, AllocError>
     requires way { way_of carrier ≡ S.WAY }
     requires inside { at + room ≤ length (bits piece.now) }
     requires small { length (bits piece.now) < 2 ^ 64 }
     requires room { room ≤ 8191 }
     requires word { AreNext word (bits piece.now) at }
     requires held { ∥ ((vs : List PacketValue) × S.holds store.old vs [] []) ∥₁ }
-    ensures within { IfSome result (λ n. (0 < n) × (n ≤ room)) }
-    ensures whole { IfSome result (λ n. WholeAt carrier (S.holds store.old) (S.holds store.new) (bits piece.now) at n) }
+    ensures within { IfOk result (λ o. IfSome o (λ n. (0 < n) × (n ≤ room))) }
+    ensures left { IfOk result (λ o. IfSome o (λ n. IsTrue (may_be_left carrier (room - n)))) }
+    ensures whole { IfOk result (λ o. IfSome o (λ n. WholeAt carrier (S.holds store.old) (S.holds store.new) (bits piece.now) at n)) }
+    ensures none { IfOk result (λ o. IsNone o → store.new ≡ store.old) }
 {
     match carrier {
         Carrier::Telegram if word >> 56 == 0 => return take_marker(store, room, word),
@@ -175,46 +203,59 @@ fn take_packet<S: PacketStore>(
     let way = carrier.way();
     let Frame { nid, dir, len } = frame_in(way, word);
     let front = frame_bits(way);
-    if len < front || len > room {
-        return None;
+    if len < front || !fits(carrier, room, len) {
+        return Ok(None);
     }
-    match put_packet(
-        store,
-        way,
-        nid,
-        dir,
-        bits_at(piece, at + front, len - front),
-    ) {
-        Ok(true) => Some(len),
-        _ => None,
+    let body = bits_at(piece, at + front, len - front);
+    let put = put_packet(store, way, nid, dir, body)?;
+    if put {
+        return Ok(Some(len));
     }
+    Ok(None)
 }
 
-/// Takes all packets of a room, which begins at `at`, with what closes them, and says how many bits of it are left.
-/// It may always return `None`, and then nothing is said of what the store holds: as where the bits aren't those of packets,
-/// and where memory is refused.
+/// How far packets were taken in one pass.
+#[derive(Clone, Copy)]
+pub enum Run {
+    /// All, with what closes them: this many bits of their room are left.
+    All(usize),
+    /// The first ones, after which others may come, or what closes them: this many bits of their room are left.
+    Some(usize),
+}
+
+/// Takes the packets of a room, which begins at `at`, with what closes them, and says how far it came. It may always return
+/// `None`, and then nothing is said of what the store holds: as where the first bits aren't those of a packet, and where
+/// memory is refused.
 pub fn take_run<S: PacketStore>(
     store: &mut S,
     carrier: Carrier,
     room: usize,
     piece: &[u8],
     at: usize,
-) -> Option<usize>
+) -> Option<Run>
     requires way { way_of carrier ≡ S.WAY }
     requires none { S.holds store.old [] [] [] }
     requires inside { at + room ≤ length (bits piece.now) }
     requires small { length (bits piece.now) < 2 ^ 64 }
     requires room { room ≤ 8191 }
-    ensures { IfSome result (λ left. RunAt carrier room (S.holds store.new) (bits piece.now) at left) }
+    ensures { IfSome result (λ run. RunIs carrier room (S.holds store.new) (bits piece.now) at run) }
 {
     let mut left = room;
     let mut place = at;
     let mut word = next_bits(piece, place);
     while !closes(carrier, left, word) {
-        let bits = take_packet(store, carrier, left, piece, place, word)?;
+        let Ok(taken) = take_packet(store, carrier, left, piece, place, word) else {
+            return None;
+        };
+        let Some(bits) = taken else {
+            if left < room {
+                return Some(Run::Some(left));
+            }
+            return None;
+        };
         left -= bits;
         place += bits;
         word = next_bits(piece, place);
     }
-    Some(left - closing_bits(carrier))
+    Some(Run::All(left - closing_bits(carrier)))
 }

@@ -1,6 +1,6 @@
 //! What is left of packets in a room of bits.
 
-ghost use Rattle.std.specs.Prelude.{◌≡◌, ◌↔◌, ℕ, ◌+◌, ◌-◌, ◌^◌, ◌<◌, ◌≤◌, [], ◌∷◌, ◌++◌, Some, None, true, false, Bool, List, length, IsTrue};
+ghost use Rattle.std.specs.Prelude.{◌≡◌, ◌↔◌, ◌-◌, ◌^◌, ◌<◌, ◌≤◌, [], ◌∷◌, Some, None, true, false, Bool, List, length, IsTrue};
 ghost use Rattle.etcs_vars.specs.declared.var.Var.TheVariants.{NID_PACKET, NID_VBCMK, Q_DIR, L_PACKET, OTHER_DATA};
 ghost use Rattle.etcs_vars.specs.Vars.{width};
 ghost use Rattle.etcs_vars.specs.Reading.{Reading, kept, numbers};
@@ -9,13 +9,11 @@ ghost use Rattle.etcs_tables.specs.Layouts.{layout, ReadsIn};
 ghost use Rattle.etcs_tables.specs.Rows.{row_to};
 ghost use Rattle.etcs_tables.specs.Frames.{is_kept};
 ghost use Rattle.etcs_rows.specs.Frames.{way_of};
-ghost use Rattle.etcs_packets.specs.PacketValues.{PacketValue, bits_to};
-ghost use Rattle.etcs_packets.specs.PacketReadings.{reading_to};
-ghost use Rattle.etcs_sequence.specs.Contents.{Carries, PacketsIn};
+ghost use Rattle.etcs_sequence.specs.Contents.{PacketsIn};
 ghost use Rattle.etcs_reader.specs.Rests.{Goes, Starts};
 ghost use Rattle.etcs_rows.specs.declared.rest.RowRest.{RowRest};
 ghost use Rattle.etcs_rows.specs.Walks.{Follows};
-ghost use Rattle.etcs_sequence.specs.Lefts.{next_of, behind_framed, left_of, ahead, is_stage, keeps_at, Here, After, Becomes, Moved};
+ghost use Rattle.etcs_sequence.specs.Lefts.{next_of, behind_framed, left_of, ahead, is_stage, keeps_at, Here, After, Becomes};
 
 use crate::stage::{Event, Keep, Stage};
 use etcs_reader::Rest;
@@ -67,6 +65,8 @@ fn behind_framed(way: Way, nid: u8) -> Stage
 }
 
 impl PacketsState {
+    ghost use Rattle.etcs_sequence.specs.Leaps.{IsFrontOf, Moves, RowBecomes, KeptBecomes};
+
     /// All packets of a room of this many bits.
     pub(crate) fn new(carrier: Carrier, room: usize) -> PacketsState
         requires small { room ≤ 8191 }
@@ -146,7 +146,7 @@ impl PacketsState {
     pub(crate) fn pass_number(&mut self, number: u64)
         requires stage { self.old.stage ≡ Stage.Number }
         requires goes { Starts (left_of self.old.carrier self.old.room self.old.stage) NID_PACKET 0 number }
-        ensures moved { Moved self.old.carrier self.old.room self.old.stage ((NID_PACKET, number) ∷ []) self.new.carrier self.new.room self.new.stage }
+        ensures moved { Moves self.old ((NID_PACKET, number) ∷ []) self.new }
         ensures here { Becomes self.old.carrier self.old.stage NID_PACKET number Event.More self.new.stage }
     {
         let nid = number as u8;
@@ -167,7 +167,7 @@ impl PacketsState {
     fn pass_marker(&mut self, number: u64)
         requires stage { self.old.stage ≡ Stage.Marker }
         requires goes { Starts (left_of self.old.carrier self.old.room self.old.stage) NID_VBCMK 0 number }
-        ensures moved { Moved self.old.carrier self.old.room self.old.stage ((NID_VBCMK, number) ∷ []) self.new.carrier self.new.room self.new.stage }
+        ensures moved { Moves self.old ((NID_VBCMK, number) ∷ []) self.new }
         ensures here { Becomes self.old.carrier self.old.stage NID_VBCMK number (Event.Marker number) self.new.stage }
     {
         self.room -= MARKER_BITS;
@@ -178,7 +178,7 @@ impl PacketsState {
     fn pass_direction(&mut self, nid: u8, number: u64)
         requires stage { self.old.stage ≡ Stage.Direction nid }
         requires goes { Starts (left_of self.old.carrier self.old.room self.old.stage) Q_DIR 0 number }
-        ensures moved { Moved self.old.carrier self.old.room self.old.stage ((Q_DIR, number) ∷ []) self.new.carrier self.new.room self.new.stage }
+        ensures moved { Moves self.old ((Q_DIR, number) ∷ []) self.new }
         ensures here { Becomes self.old.carrier self.old.stage Q_DIR number Event.More self.new.stage }
     {
         self.stage = Stage::Length(nid, number as u8);
@@ -189,7 +189,7 @@ impl PacketsState {
         requires stage { self.old.stage ≡ Stage.Length nid dir }
         requires goes { Starts (left_of self.old.carrier self.old.room self.old.stage) L_PACKET 0 length }
         requires row { row_to (way_of self.old.carrier) nid ≡ Some (layout row.items.now) }
-        ensures moved { Moved self.old.carrier self.old.room self.old.stage ((L_PACKET, length) ∷ []) self.new.carrier self.new.room self.new.stage }
+        ensures moved { Moves self.old ((L_PACKET, length) ∷ []) self.new }
         ensures here { Becomes self.old.carrier self.old.stage L_PACKET length result self.new.stage }
     {
         let left = RowRest::begin(row, length - frame_bits(self.carrier.way()));
@@ -207,7 +207,7 @@ impl PacketsState {
         requires stage { self.old.stage ≡ Stage.Length nid dir }
         requires goes { Starts (left_of self.old.carrier self.old.room self.old.stage) L_PACKET 0 length }
         requires kept { IsTrue (is_kept (way_of self.old.carrier) nid) }
-        ensures moved { Moved self.old.carrier self.old.room self.old.stage ((L_PACKET, length) ∷ []) self.new.carrier self.new.room self.new.stage }
+        ensures moved { Moves self.old ((L_PACKET, length) ∷ []) self.new }
         ensures here { Becomes self.old.carrier self.old.stage L_PACKET length result self.new.stage }
     {
         let bits = length - frame_bits(self.carrier.way());
@@ -224,7 +224,7 @@ impl PacketsState {
     fn pass_length(&mut self, nid: u8, dir: u8, number: u64) -> Event
         requires stage { self.old.stage ≡ Stage.Length nid dir }
         requires goes { Starts (left_of self.old.carrier self.old.room self.old.stage) L_PACKET 0 number }
-        ensures moved { Moved self.old.carrier self.old.room self.old.stage ((L_PACKET, number) ∷ []) self.new.carrier self.new.room self.new.stage }
+        ensures moved { Moves self.old ((L_PACKET, number) ∷ []) self.new }
         ensures here { Becomes self.old.carrier self.old.stage L_PACKET number result self.new.stage }
     {
         match row_of(self.carrier.way(), nid) {
@@ -238,7 +238,7 @@ impl PacketsState {
         requires next { next_of self.old.stage ≡ Some var }
         requires row { (row : RowRest) × (self.old.stage ≡ Stage.Row nid dir row) }
         requires goes { Starts (left_of self.old.carrier self.old.room self.old.stage) var 0 number }
-        ensures moved { Moved self.old.carrier self.old.room self.old.stage ((var, number) ∷ []) self.new.carrier self.new.room self.new.stage }
+        ensures moved { Moves self.old ((var, number) ∷ []) self.new }
         ensures here { Becomes self.old.carrier self.old.stage var number result self.new.stage }
     {
         let Stage::Row(_, _, row) = &mut self.stage else {
@@ -256,8 +256,8 @@ impl PacketsState {
     pub(crate) fn pass_to(&mut self, nid: u8, dir: u8, left: RowRest) -> Event
         requires row { (row : RowRest) × (self.old.stage ≡ Stage.Row nid dir row) }
         requires goes { Goes (ReadsIn left.place left.len) }
-        ensures moved { (row : RowRest) (p : Reading) → self.old.stage ≡ Stage.Row nid dir row → Follows row.place row.len p left.place left.len → Moved self.old.carrier self.old.room self.old.stage p self.new.carrier self.new.room self.new.stage }
-        ensures here { (row : RowRest) (p : Reading) → self.old.stage ≡ Stage.Row nid dir row → Follows row.place row.len p left.place left.len → (f : List ℕ) (k : List Bool) (h : Reading) → Here self.old.carrier self.old.stage f k h → After self.old.carrier self.new.stage (f ++ numbers p) k (h ++ p) result }
+        ensures moved { (row : RowRest) (p : Reading) → self.old.stage ≡ Stage.Row nid dir row → Follows row.place row.len p left.place left.len → Moves self.old p self.new }
+        ensures here { (row : RowRest) (p : Reading) → self.old.stage ≡ Stage.Row nid dir row → Follows row.place row.len p left.place left.len → RowBecomes self.old p result self.new }
     {
         if left.var().is_some() {
             self.stage = Stage::Row(nid, dir, left);
@@ -272,8 +272,8 @@ impl PacketsState {
         requires stage { self.old.stage ≡ Stage.Kept nid dir left }
         requires some { 0 < count }
         requires within { count ≤ left }
-        ensures moved { (t : List Bool) → length t ≡ count → Moved self.old.carrier self.old.room self.old.stage (kept OTHER_DATA t) self.new.carrier self.new.room self.new.stage }
-        ensures here { (f : List ℕ) (k t : List Bool) (h : Reading) → length t ≡ count → Here self.old.carrier self.old.stage f k h → After self.old.carrier self.new.stage f (k ++ t) (h ++ kept OTHER_DATA t) result }
+        ensures moved { (t : List Bool) → length t ≡ count → Moves self.old (kept OTHER_DATA t) self.new }
+        ensures here { (t : List Bool) → length t ≡ count → KeptBecomes self.old t result self.new }
     {
         if count < left {
             self.stage = Stage::Kept(nid, dir, left - count);
@@ -288,7 +288,7 @@ impl PacketsState {
     pub(crate) fn pass(&mut self, var: Var, number: u64) -> Event
         requires next { next_of self.old.stage ≡ Some var }
         requires goes { Starts (left_of self.old.carrier self.old.room self.old.stage) var 0 number }
-        ensures moved { Moved self.old.carrier self.old.room self.old.stage ((var, number) ∷ []) self.new.carrier self.new.room self.new.stage }
+        ensures moved { Moves self.old ((var, number) ∷ []) self.new }
         ensures here { Becomes self.old.carrier self.old.stage var number result self.new.stage }
     {
         match &self.stage {
@@ -321,11 +321,12 @@ impl PacketsState {
         }
     }
 
-    /// Continues after a whole packet of this many bits.
+    /// Continues after whole packets of this many bits.
     pub(crate) fn skip(&mut self, bits: usize)
         requires stage { self.old.stage ≡ Stage.Number }
         requires within { bits ≤ self.old.room }
-        ensures moved { (v : PacketValue) → Carries self.old.carrier v → bits_to (way_of self.old.carrier) v ≡ bits → Moved self.old.carrier self.old.room self.old.stage (reading_to (way_of self.old.carrier) v) self.new.carrier self.new.room self.new.stage }
+        ensures moved { (p : Reading) → IsFrontOf self.old.carrier self.old.room bits p → Moves self.old p self.new }
+        ensures carrier { self.new.carrier ≡ self.old.carrier }
         ensures here { Here self.new.carrier self.new.stage [] [] [] }
         ensures room { Same (left_of self.new.carrier self.new.room self.new.stage) (PacketsIn self.old.carrier (self.old.room - bits)) }
     {

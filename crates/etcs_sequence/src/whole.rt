@@ -12,7 +12,7 @@ use etcs_tables::{CLOSING_BITS, Way, frame_bits, head_bits};
 
 /// Whether this many bits may be left after a packet.
 #[inline(always)]
-fn may_be_left(carrier: Carrier, left: usize) -> bool
+pub(crate) fn may_be_left(carrier: Carrier, left: usize) -> bool
     ensures { result ≡ may_be_left carrier left }
 {
     match carrier {

@@ -24,3 +24,4 @@ pub mod OneHolding
 pub mod WholeTelegram
 pub mod Appending
 pub mod Sending
+pub mod Resuming

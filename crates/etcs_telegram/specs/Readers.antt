@@ -10,16 +10,16 @@ use Rattle.etcs_sequence.specs.Runs.{Begun}
 use Rattle.etcs_sequence.specs.AtOnce.{Holds}
 use Rattle.etcs_sequence.specs.Labels.{labelled}
 use Rattle.etcs_sequence.specs.Held.{list_holds, packets_so_far}
-use Rattle.etcs_sequence.specs.Readables.{ItemValue}
+use Rattle.etcs_sequence.specs.Readables.{ItemValue, IsPart}
 use Rattle.etcs_sequence.specs.Holdings.{HeldIn}
 use Rattle.etcs_telegram.specs.declared.size.Size.{Size}
 use Rattle.etcs_telegram.specs.declared.phase.Phase.{Phase}
 use Rattle.etcs_telegram.specs.declared.phase.Phase.TheVariants.{Header, Packets, Fill, Pad, Whole}
-use Rattle.etcs_telegram.specs.Telegrams.{user_bits, pad_bits, closed_reading, header_of, TelegramContent, TelegramLanguage}
+use Rattle.etcs_telegram.specs.Telegrams.{user_bits, pad_bits, container_bytes, closed_reading, header_of, ReadsAs, TelegramContent, TelegramLanguage}
 use Rattle.etcs_tables.specs.Headers.{header_row}
 use Rattle.etcs_telegram.specs.Phases.{behind_header}
 use Rattle.etcs_telegram.specs.declared.store.TelegramStore.{TelegramStore}
-use Rattle.etcs_telegram.specs.Lefts.{TelegramState, HoldsIn}
+use Rattle.etcs_telegram.specs.Lefts.{TelegramState, Left, HoldsIn, Follows}
 
 abbrev pub ReaderValue : Type 0
 ReaderValue = ItemValue Size TelegramContent
@@ -48,6 +48,11 @@ telegram_by s = record { size = s.size; header = header_of s.header; packets = s
 -- q are the variables so far, of which so much is held, of a telegram of the reader's own size
 abbrev pub OwnHeld : Size → TelegramState TelegramStore → Reading → Type 0
 OwnHeld own s q = (s.size ≡ own) × HoldsIn store_holds s q
+
+-- ---- What one pass leaves of a telegram of this size, after the first n bits of a piece.
+
+abbrev pub IsTelegramPart : Size → List Bool → TelegramState TelegramStore → ℕ → Type 0
+IsTelegramPart size xs rest n = IsPart Left (Follows store_holds) (OwnHeld size) (ReadsAs size) (container_bytes size) xs rest n
 
 -- ---- What it holds between two pieces.
 

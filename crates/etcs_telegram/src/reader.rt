@@ -62,8 +62,14 @@ impl ItemRest for TelegramRest<TelegramStore> {
     }
 
     #[inline(always)]
-    fn whole(room: &mut Room<Packet>, size: Size, piece: &[u8]) -> Option<(Telegram, usize)> {
-        Some((telegram_at(room, size, piece)?, size.container_bytes()))
+    fn whole(
+        room: &mut Room<Packet>,
+        size: Size,
+        piece: &[u8],
+        part: &mut Option<(Self, usize)>,
+    ) -> Option<(Telegram, usize)> {
+        let telegram = telegram_at(room, size, piece, part)?;
+        Some((telegram, size.container_bytes()))
     }
 
     #[inline(always)]

@@ -1,6 +1,6 @@
 //! What is left of a telegram, for the one reader.
 
-ghost use Rattle.std.specs.Prelude.{◌≡◌, ◌-◌, ◌^◌, ◌<◌, ◌≤◌, [], ◌∷◌, Some, length, IsTrue, OnOk, OnErr, IfOk, IfSome, IsNone};
+ghost use Rattle.std.specs.Prelude.{◌≡◌, ℕ, ◌-◌, ◌^◌, ◌<◌, ◌≤◌, Bool, List, [], ◌∷◌, Some, length, IsTrue, OnOk, OnErr, IfOk, IfSome, IsNone};
 ghost use Rattle.etcs_bits.specs.Bits.{bits, part};
 ghost use Rattle.etcs_vars.specs.Reading.{kept, Viable};
 ghost use Rattle.etcs_vars.specs.declared.var.Var.{Var};
@@ -8,15 +8,19 @@ ghost use Rattle.etcs_vars.specs.declared.var.Var.TheVariants.{FILL, PAD};
 ghost use Rattle.etcs_vars.proofs.Languages.{Same};
 ghost use Rattle.etcs_tables.specs.declared.row.Way.TheVariants.{ToTrain};
 ghost use Rattle.etcs_reader.specs.Rests.{Goes, Starts};
+ghost use Rattle.etcs_packets.specs.PacketValues.{PacketValue};
+ghost use Rattle.etcs_sequence.specs.AtOnce.{RunSome};
 ghost use Rattle.etcs_telegram.specs.declared.size.Size.{Size};
-ghost use Rattle.etcs_telegram.specs.Telegrams.{TelegramLanguage};
+ghost use Rattle.etcs_telegram.specs.Telegrams.{TelegramLanguage, packet_room};
 ghost use Rattle.etcs_telegram.specs.Phases.{after_pad};
 ghost use Rattle.etcs_telegram.specs.Lefts.{stands_at, behind_packets, Left, next_var, MayAsk, HoldsIn, Follows, Leaps};
+ghost use Rattle.etcs_telegram.specs.Readers.{store_holds};
 ghost use Rattle.etcs_telegram.specs.laws.RestLaws.{rest_regular, rest_begins, rest_ended, follows_none, follows_along};
 
 use crate::header_bits::header_at;
 use crate::phase::{Phase, header_var};
 use crate::size::Size;
+use crate::store::TelegramStore;
 use arrayvec::ArrayVec;
 use etcs_bits::BitSlice;
 use etcs_reader::Rest;
@@ -218,6 +222,40 @@ impl<S: PacketStore> TelegramRest<S> {
         }
         self.phase = Phase::Whole;
         Some(left)
+    }
+}
+
+impl TelegramRest<TelegramStore> {
+    /// Whether the packets come next, and none was read yet.
+    pub(crate) fn is_at_packets(&self) -> bool
+        ensures phase { IsTrue result → self.now.phase ≡ Phase.Packets }
+        ensures stage { IsTrue result → self.now.left.stage ≡ Stage.Number }
+        ensures room { IsTrue result → self.now.left.room ≡ packet_room self.now.size }
+        ensures none { IsTrue result → (vs : List PacketValue) → store_holds self.now.store vs [] [] → vs ≡ [] }
+    {
+        let packets = &self.packets;
+        match (self.phase, &packets.left.stage) {
+            (Phase::Packets, Stage::Number) => {
+                packets.left.room == self.size.packet_room()
+                    && packets.store.list.packets.is_empty()
+            }
+            _ => false,
+        }
+    }
+
+    /// Continues after the packets that a store has taken of their room, of which this many bits are left, where none was
+    /// read yet.
+    pub(crate) fn resume(&mut self, store: TelegramStore, left: usize)
+        requires phase { self.old.phase ≡ Phase.Packets }
+        requires stage { self.old.left.stage ≡ Stage.Number }
+        requires none { (vs : List PacketValue) → store_holds self.old.store vs [] [] → vs ≡ [] }
+        requires run { ∥ ((xs : List Bool) × ((at : ℕ) × RunSome Carrier.Telegram self.old.left.room (store_holds store) xs at left)) ∥₁ }
+        ensures { (xs : List Bool) (at : ℕ) → RunSome Carrier.Telegram self.old.left.room (store_holds store) xs at left → Leaps store_holds self.old self.new xs at (self.old.left.room - left) }
+    {
+        self.phase = Phase::Whole;
+        let packets = &mut self.packets;
+        packets.resume(store, left);
+        self.phase = behind_packets(self.size, &packets.left);
     }
 }
 

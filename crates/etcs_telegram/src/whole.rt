@@ -1,29 +1,42 @@
 //! A telegram that lies whole in a piece, in one pass.
 
 ghost use Rattle.std.specs.Prelude.{◌≡◌, ◌*◌, ◌≤◌, ◌<◌, ◌^◌, length, IfSome};
-ghost use Rattle.etcs_bits.specs.Bits.{bits, part};
+ghost use Rattle.etcs_bits.specs.Bits as bit_lists;
+ghost use Rattle.etcs_bits.specs.Bits.{bits};
 ghost use Rattle.etcs_vars.specs.Reading.{Reading, spelled};
-ghost use Rattle.etcs_telegram.specs.Telegrams.{IsTelegram, ReadsAs, telegram_value, container_bytes};
+ghost use Rattle.etcs_sequence.specs.AtOnce.{RunSome};
+ghost use Rattle.etcs_telegram.specs.Telegrams.{IsTelegram, ReadsAs, telegram_value, container_bytes, packet_room};
+ghost use Rattle.etcs_telegram.specs.Readers.{store_holds, IsTelegramPart};
 
-use crate::header::Header;
 use crate::header_bits::header_at_front;
 use crate::inner::HEADER_BITS;
+use crate::rest::TelegramRest;
 use crate::size::Size;
 use crate::store::TelegramStore;
 use crate::telegram::Telegram;
 use etcs_bodies::ListOf;
 use etcs_packets::Packet;
+use etcs_reader::Rest;
 use etcs_rows::inner::Carrier;
-use etcs_sequence::PacketStore;
-use etcs_sequence::inner::{Room, bits_at, number_at, take_run};
+use etcs_sequence::inner::{Room, Run, bits_at, number_at, take_run};
+use etcs_sequence::{ItemRest, PacketStore};
+use std::alloc::Global;
 
 /// The telegram of this size that a piece begins with. It may always return `None`, as where the piece begins with none, and
-/// where memory is refused.
-pub(crate) fn telegram_at(room: &mut Room<Packet>, size: Size, piece: &[u8]) -> Option<Telegram>
-    requires { length (bits piece.now) < 2 ^ 64 }
+/// where memory is refused. In `part` it may then put what is left after this many bits of the piece.
+pub(crate) fn telegram_at(
+    room: &mut Room<Packet>,
+    size: Size,
+    piece: &[u8],
+    part: &mut Option<(TelegramRest<TelegramStore>, usize)>,
+) -> Option<Telegram>
+    requires small { length (bits piece.now) < 2 ^ 64 }
+    requires part { IfSome part.old (λ t. IsTelegramPart size (bits piece.now) t.0 t.1) }
     ensures within { IfSome result (λ t. container_bytes size ≤ length piece.now) }
     ensures value { IfSome result (λ t. IsTelegram t) }
-    ensures reads { IfSome result (λ t. (r : Reading) × ReadsAs size (telegram_value t) r × (spelled r ≡ part 0 (8 * container_bytes size) (bits piece.now))) }
+    ensures reads { IfSome result (λ t. (r : Reading) × ReadsAs size (telegram_value t) r × (spelled r ≡ bit_lists.part 0 (8 * container_bytes size) (bits piece.now))) }
+    ensures left { IfSome result (λ t. part.new ≡ part.old) }
+    ensures part { IfSome part.new (λ t. IsTelegramPart size (bits piece.now) t.0 t.1) }
 {
     if piece.len() < size.container_bytes()
         || number_at(piece, size.user_bits(), size.pad_bits()) > 0
@@ -34,7 +47,13 @@ pub(crate) fn telegram_at(room: &mut Room<Packet>, size: Size, piece: &[u8]) -> 
     let list = room.take();
     let mut store = TelegramStore { list };
     let bits = size.packet_room();
-    let left = take_run(&mut store, Carrier::Telegram, bits, piece, HEADER_BITS)?;
+    let left = match take_run(&mut store, Carrier::Telegram, bits, piece, HEADER_BITS)? {
+        Run::All(left) => left,
+        Run::Some(left) => {
+            resume(room.alloc(), size, piece, store, left, part);
+            return None;
+        }
+    };
     match store.bits(&bits_at(piece, size.user_bits() - left, left)) {
         Ok(()) => {}
         Err(_) => return None,
@@ -45,4 +64,33 @@ pub(crate) fn telegram_at(room: &mut Room<Packet>, size: Size, piece: &[u8]) -> 
         packets: ListOf::from_vec(store.list.packets),
         fill: store.list.bits,
     })
+}
+
+/// Puts into `part` what is left after the header that a piece begins with, and after the packets that a store has taken of
+/// the room after it, of which this many bits are left. It may always put nothing.
+#[cold]
+#[inline(never)]
+fn resume(
+    alloc: Global,
+    size: Size,
+    piece: &[u8],
+    store: TelegramStore,
+    left: usize,
+    part: &mut Option<(TelegramRest<TelegramStore>, usize)>,
+)
+    requires some { 0 < length (bits piece.now) }
+    requires small { length (bits piece.now) < 2 ^ 64 }
+    requires run { RunSome Carrier.Telegram (packet_room size) (store_holds store) (bits piece.now) 50 left }
+    requires part { IfSome part.old (λ t. IsTelegramPart size (bits piece.now) t.0 t.1) }
+    ensures { IfSome part.new (λ t. IsTelegramPart size (bits piece.now) t.0 t.1) }
+{
+    let mut rest = TelegramRest::begin(alloc, size);
+    let Ok(Some(front)) = rest.leap(piece, 0) else {
+        return;
+    };
+    if front != HEADER_BITS || !rest.is_at_packets() {
+        return;
+    }
+    rest.resume(store, left);
+    *part = Some((rest, HEADER_BITS + (size.packet_room() - left)));
 }

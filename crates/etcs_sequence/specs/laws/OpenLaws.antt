@@ -46,9 +46,9 @@ module _ (L : Reading → Type 0) (x : Var) (After : ℕ → Reading → Type 0)
 
   -- a test of what is after says which numbers continue
   pub opens_tested : (v : Var) (rest bits : ℕ) (result : Bool) → Some x ≡ Some v → IsTrue result ↔ GoesOn After rest bits → IsTrue result ↔ Starts L v rest bits
-  opens_tested v rest bits result e told =
+  opens_tested v rest bits result e iff =
       let same : x ≡ v = cc in
-      rw (sym same) (λ t. let (n, r, f, a) = told.0 t in (n, r, o.closes n r a, f), λ (n, r, l, f). told.1 (n, r, f, opens_after n r l))
+      rw (sym same) (λ t. let (n, r, f, a) = iff.0 t in (n, r, o.closes n r a, f), λ (n, r, l, f). iff.1 (n, r, f, opens_after n r l))
 
   -- this number continues
   pub opens_number : (n : ℕ) → Starts L x 0 n → (r : Reading) × After n r

@@ -5,24 +5,27 @@ use Rattle.etcs_tables.specs.declared.row.Way.{Way}
 use Rattle.etcs_tables.specs.Frames.{frame_bits, kept_limit}
 use Rattle.etcs_rows.specs.Frames.{way_of}
 use Rattle.etcs_sequence.specs.AtOnce.{FrameAt, IsFrameIn}
-use Rattle.etcs_sequence.proofs.RunLemmas.{word_frame}
+use Rattle.etcs_sequence.proofs.RunLemmas.{word_frame, frame_short}
 use Rattle.etcs_sequence.proofs.run.take_packet.Goals as goal
 
+pub fits-requires : goal.fits-requires
+fits-requires g c = frame_short c.way-way.result c.args.word c.frame_in-nid.result c.frame_in-nid.ensures
+
 pub overflow_add-at : goal.overflow_add-at
-overflow_add-at g c = omega (arith, c.requires.inside, c.requires.small, c.if-len-front.false, c.if-len-room.false)
+overflow_add-at g c = omega (arith, c.requires.inside, c.requires.small, c.if-len-front.false, c.fits.ensures.within c.if-not-fits.false)
 
 pub put_packet-requires-clause-small : goal.put_packet-requires-clause-small
 put_packet-requires-clause-small g c =
     let a = c.args in
     let f = c.frame_in-nid.result in
     let front : c.frame_bits-front.result ≡ frame_bits (way_of a.carrier) = c.frame_bits-front.ensures.bits ∙ ap frame_bits c.way-way.ensures in
-    let inside : a.at + c.frame_bits-front.result + (f.len - c.frame_bits-front.result) ≤ length (bits a.piece.now) = omega (arith, c.requires.inside, c.if-len-front.false, c.if-len-room.false) in
-    let size = ap length c.bits_at.ensures ∙ length-part (a.at + c.frame_bits-front.result) (f.len - c.frame_bits-front.result) (bits a.piece.now) inside in
+    let inside : a.at + c.frame_bits-front.result + (f.len - c.frame_bits-front.result) ≤ length (bits a.piece.now) = omega (arith, c.requires.inside, c.if-len-front.false, c.fits.ensures.within c.if-not-fits.false) in
+    let size = ap length c.bits_at-body.ensures ∙ length-part (a.at + c.frame_bits-front.result) (f.len - c.frame_bits-front.result) (bits a.piece.now) inside in
     let limit : kept_limit (way_of a.carrier) ≡ kept_limit g.S.PacketStore.WAY = ap kept_limit c.requires.way in
-    omega (arith, size, c.requires.room, c.if-len-room.false, front, limit)
+    omega (arith, size, c.requires.room, c.fits.ensures.within c.if-not-fits.false, front, limit)
 
-pub returns-in-Ok-true-clause-whole : goal.returns-in-Ok-true-clause-whole
-returns-in-Ok-true-clause-whole g c =
+pub returns-then-put-clause-whole : goal.returns-then-put-clause-whole
+returns-then-put-clause-whole g c =
     let a = c.args in
     let way = way_of a.carrier in
     let f = c.frame_in-nid.result in
@@ -30,6 +33,6 @@ returns-in-Ok-true-clause-whole g c =
     let front : c.frame_bits-front.result ≡ frame_bits way = c.frame_bits-front.ensures.bits ∙ ap frame_bits c.way-way.ensures in
     let is-frame : IsFrameIn way a.word f = subst (λ (w : Way). IsFrameIn w a.word f) c.way-way.ensures c.frame_in-nid.ensures in
     let least : frame_bits way ≤ f.len = omega (arith, front, c.if-len-front.false) in
-    let within : a.at + f.len ≤ length xs = omega (arith, c.requires.inside, c.if-len-room.false) in
+    let within : a.at + f.len ≤ length xs = omega (arith, c.requires.inside, c.fits.ensures.within c.if-not-fits.false) in
     let frame : FrameAt way f.nid f.dir f.len a.at xs = word_frame way a.word a.at xs f c.requires.word is-frame least within in
-    c.in-Ok-true.ensures.whole c.in-Ok-true.field-0-test a.carrier xs a.at f.len (sym c.way-way.ensures) frame within (rw front at c.bits_at.ensures)
+    c.in_ok-put.ensures.whole c.if-put.true a.carrier xs a.at f.len (sym c.way-way.ensures) frame within (rw front at c.bits_at-body.ensures)

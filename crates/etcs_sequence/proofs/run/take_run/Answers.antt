@@ -1,6 +1,8 @@
-use Rattle.std.proofs.Common.{◌+◌, ◌≤◌, length, arith}
+use Rattle.std.proofs.Common.{◌+◌, ◌-◌, ◌≤◌, ◌<◌, length, arith}
+use Rattle.std.specs.Prelude.{IsTrue}
 use Rattle.etcs_bits.specs.Bits.{bits}
-use Rattle.etcs_sequence.specs.AtOnce.{ClosesAt}
+use Rattle.etcs_rows.specs.Frames.{may_be_left}
+use Rattle.etcs_sequence.specs.AtOnce.{ClosesAt, WholeAt}
 use Rattle.etcs_sequence.proofs.RunLemmas.{run_more, run_closed, closes_within}
 use Rattle.etcs_sequence.proofs.run.take_run.Goals as goal
 
@@ -9,11 +11,17 @@ loop-store-preserved g c =
     let a = c.args in
     let l = c.loop-store in
     let old = l.invariant in
-    let within = c.in_ok-bits.ensures.within in
+    let n = c.in-Some.bits in
+    let H = g.S.PacketStore.holds l.store in
+    let H' = g.S.PacketStore.holds c.take_packet.new.store in
+    let within : (0 < n) × (n ≤ l.left) = rw c.in-Some.is at c.in-Ok.ensures.within in
+    let one : WholeAt a.carrier H H' (bits a.piece.now) l.place n = rw c.in-Some.is at c.in-Ok.ensures.whole in
+    let may : IsTrue (may_be_left a.carrier (l.left - n)) = rw c.in-Some.is at c.in-Ok.ensures.left in
     record {
-      run = run_more a.carrier a.room (g.S.PacketStore.holds l.store) (g.S.PacketStore.holds c.take_packet.new.store) (bits a.piece.now) a.at l.left l.place c.in_ok-bits.bits old.run c.in_ok-bits.ensures.whole old.here within.1;
+      run = run_more a.carrier a.room H H' (bits a.piece.now) a.at l.left l.place n old.run one old.here within.1;
       here = omega (arith, old.here, within.1);
       word = c.next_bits-word-in-loop-store.ensures;
+      may = λ less. may;
     }
 
 pub overflow_sub-result : goal.overflow_sub-result

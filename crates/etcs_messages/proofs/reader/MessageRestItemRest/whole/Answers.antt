@@ -11,3 +11,9 @@ within_bits (Some t) n m e h = omega (arith, e, h)
 
 pub returns-clause-within : goal.returns-clause-within
 returns-clause-within g c = within_bits c.message_at.result (length c.args.piece.now) (length (bits c.args.piece.now)) (length-bits c.args.piece.now) c.message_at.ensures.within
+
+pub message_at-requires-clause-part : goal.message_at-requires-clause-part
+message_at-requires-clause-part g c = rw c.requires.none tt
+
+pub returns-clause-left : goal.returns-clause-left
+returns-clause-left g c = rw c.requires.none at c.message_at.ensures.left

@@ -1,4 +1,4 @@
-use Rattle.std.proofs.Common.{ap}
+use Rattle.std.proofs.Common.{ap, refl}
 use Rattle.etcs_sequence.proofs.Feeding.{first_is, first_progress}
 use Rattle.etcs_sequence.proofs.item.ItemReader.new.Goals as goal
 
@@ -14,6 +14,7 @@ invariant_of-result g c =
         is = first_is w c.new.result e.part e.count e.stop (rw e.rest c.requires.same) (rw e.rest c.requires.holds);
       },
       tt,
+      refl,
     )
 
 pub returns : goal.returns

@@ -36,7 +36,7 @@ finish-requires g c =
     let t = c.run_at-run.result in
     let e = c.pass_bits-event in
     let size = sym c.len-count.ensures in
-    let by = taken s.carrier s.stage e.new.self.stage (λ f. f) (λ k. k ++ t) (kept OTHER_DATA t) e.result (g.S.PacketStore.holds c.args.self.now.store) (g.S.PacketStore.holds c.bits.new.self) c.in-Ok.ensures.ok (λ f k h. e.ensures.here f k t h size) in
+    let by = taken s.carrier s.stage e.new.self.stage (λ f. f) (λ k. k ++ t) (kept OTHER_DATA t) e.result (g.S.PacketStore.holds c.args.self.now.store) (g.S.PacketStore.holds c.bits.new.self) c.in-Ok.ensures.ok (e.ensures.here t size) in
     ∥∥₁_map c.args.self.now.held (λ old. let w = old (rw c.requires.stage refl) in event_held g.S.PacketStore.WAY c.args.self.now.way (by w.0 w.1))
 
 pub invariant_of-self-in-Ok-finish : goal.invariant_of-self-in-Ok-finish
@@ -45,7 +45,7 @@ invariant_of-self-in-Ok-finish g c =
     let t = c.run_at-run.result in
     let e = c.pass_bits-event in
     let size = sym c.len-count.ensures in
-    let by = taken s.carrier s.stage e.new.self.stage (λ f. f) (λ k. k ++ t) (kept OTHER_DATA t) e.result (g.S.PacketStore.holds c.args.self.now.store) (g.S.PacketStore.holds c.bits.new.self) c.in-Ok.ensures.ok (λ f k h. e.ensures.here f k t h size) in
+    let by = taken s.carrier s.stage e.new.self.stage (λ f. f) (λ k. k ++ t) (kept OTHER_DATA t) e.result (g.S.PacketStore.holds c.args.self.now.store) (g.S.PacketStore.holds c.bits.new.self) c.in-Ok.ensures.ok (e.ensures.here t size) in
     let same = (e.ensures.moved t size).same in
     record { way = ap way_of same ∙ c.args.self.now.way; held = ∥∥₁_map c.args.self.now.held (λ old closed. let w = old (rw c.requires.stage refl) in (w.0 ++ kept OTHER_DATA t, more_held g.S.PacketStore.WAY c.args.self.now.way (g.S.PacketStore.holds c.finish.new.store) e.new.self.carrier same c.in-Ok-finish.ensures.ok (by w.0 w.1))) }
 
@@ -58,7 +58,7 @@ returns-clause-some g c =
     let t = c.run_at-run.result in
     let e = c.pass_bits-event in
     let size = sym c.len-count.ensures in
-    let by = taken s.carrier s.stage e.new.self.stage (λ f. f) (λ k. k ++ t) (kept OTHER_DATA t) e.result (g.S.PacketStore.holds c.args.self.now.store) (g.S.PacketStore.holds c.bits.new.self) c.in-Ok.ensures.ok (λ f k h. e.ensures.here f k t h size) in
+    let by = taken s.carrier s.stage e.new.self.stage (λ f. f) (λ k. k ++ t) (kept OTHER_DATA t) e.result (g.S.PacketStore.holds c.args.self.now.store) (g.S.PacketStore.holds c.bits.new.self) c.in-Ok.ensures.ok (e.ensures.here t size) in
     let moved = e.ensures.moved t size in
     let some = kept_some s.carrier s.room s.stage c.args.nid c.args.dir c.args.left c.requires.stage s.stands in
     record {

@@ -7,8 +7,9 @@ use Rattle.etcs_tables.specs.declared.row.Way.{Way}
 use Rattle.etcs_tables.specs.declared.row.Way.TheVariants.{ToTrain, ToTrack}
 use Rattle.etcs_tables.specs.Frames.{frame_bits, kept_limit}
 use Rattle.etcs_packets.specs.PacketReadings.{reading_to}
-use Rattle.etcs_packets.specs.laws.PacketReadings.{frame_is}
+use Rattle.etcs_packets.specs.laws.PacketReadings.{frame_is, bits_are}
 use Rattle.etcs_rows.specs.Frames.{way_of}
+use Rattle.etcs_sequence.proofs.Carried.{behind_whole}
 use Rattle.etcs_sequence.proofs.Fits.{run_some}
 use Rattle.etcs_sequence.specs.AtOnce.{FrameAt, WholeAt}
 use Rattle.etcs_sequence.proofs.LeapLemmas.{held_at_number, leapt_held, packet_viable}
@@ -87,9 +88,8 @@ invariant_of-self-2 g c =
     let H = g.S.PacketStore.holds c.args.self.now.store in
     let H' = g.S.PacketStore.holds c.put_packet.new.store in
     let w = taken g (goal.at.invariant_of-self-2 g c).Else-not-put in
-    let moved = c.skip.ensures.moved w.packet w.carried w.long in
-    let held = leapt_held s.carrier c.skip.new.self.carrier H H' xs c.args.at c.in-Some.len s.stage c.skip.new.self.stage w c.requires.stage moved.same c.skip.ensures.here in
-    record { way = ap way_of moved.same ∙ c.args.self.now.way; held = ∥∥₁_map c.args.self.now.held (λ old closed. let h = old (rw c.requires.stage refl) in (h.0 ++ reading_to (way_of s.carrier) w.packet, held h.0 h.1)) }
+    let held = leapt_held s.carrier c.skip.new.self.carrier H H' xs c.args.at c.in-Some.len s.stage c.skip.new.self.stage w c.requires.stage c.skip.ensures.carrier c.skip.ensures.here in
+    record { way = ap way_of c.skip.ensures.carrier ∙ c.args.self.now.way; held = ∥∥₁_map c.args.self.now.held (λ old closed. let h = old (rw c.requires.stage refl) in (h.0 ++ reading_to (way_of s.carrier) w.packet, held h.0 h.1)) }
 
 pub invariant_of-self-then-not-put : goal.invariant_of-self-then-not-put
 invariant_of-self-then-not-put g c =
@@ -104,8 +104,8 @@ returns-clause-some g c =
     let H = g.S.PacketStore.holds c.args.self.now.store in
     let H' = g.S.PacketStore.holds c.put_packet.new.store in
     let w = taken g (goal.at.returns-clause-some g c).Else-not-put in
-    let moved = c.skip.ensures.moved w.packet w.carried w.long in
-    let held = leapt_held s.carrier c.skip.new.self.carrier H H' xs c.args.at c.in-Some.len s.stage c.skip.new.self.stage w c.requires.stage moved.same c.skip.ensures.here in
+    let moved = c.skip.ensures.moved (reading_to (way_of s.carrier) w.packet) (behind_whole s.carrier s.room H H' xs c.args.at c.in-Some.len w l.room, bits_are (way_of s.carrier) w.packet ∙ w.long) in
+    let held = leapt_held s.carrier c.skip.new.self.carrier H H' xs c.args.at c.in-Some.len s.stage c.skip.new.self.stage w c.requires.stage c.skip.ensures.carrier c.skip.ensures.here in
     let small = s.small in
     let some = run_some s.carrier (s.room - c.in-Some.len) (omega (arith, small)) l.left in
     record {

@@ -17,8 +17,8 @@ returns-in-Number c =
     let a = c.args in
     let step = number_step s.carrier s.room (open_by s.carrier s.room (rw c.in-Number.is at s.stands)) in
     let next = rw c.in-Number.is at c.requires.next in
-    let told = starts_number s.carrier s.room a.rest a.number c.number_fits.result s.small c.number_fits.ensures in
-    rw c.in-Number.is (opens_tested (PacketsIn s.carrier s.room) NID_PACKET (AfterNumber s.carrier s.room) step a.var a.rest a.number c.number_fits.result next told)
+    let iff = starts_number s.carrier s.room a.rest a.number c.number_fits.result s.small c.number_fits.ensures in
+    rw c.in-Number.is (opens_tested (PacketsIn s.carrier s.room) NID_PACKET (AfterNumber s.carrier s.room) step a.var a.rest a.number c.number_fits.result next iff)
 
 pub returns-in-Marker : goal.returns-in-Marker
 returns-in-Marker c =
@@ -30,8 +30,8 @@ returns-in-Marker c =
     let le = rw same at c.requires.rest in
     let fits = rw same at c.requires.fits in
     let on = opens_goes (MarkerLeft s.room) NID_VBCMK (AfterMarker s.room) step (rw c.in-Marker.is at c.requires.goes) in
-    let told = starts_marker s.carrier s.room a.rest a.number c.begins.result (omega (arith, le)) fits on (rw c.ranges-in-Marker.ensures at c.begins.ensures) in
-    rw c.in-Marker.is (opens_tested (MarkerLeft s.room) NID_VBCMK (AfterMarker s.room) step a.var a.rest a.number c.begins.result next told)
+    let iff = starts_marker s.carrier s.room a.rest a.number c.begins.result (omega (arith, le)) fits on (rw c.ranges-in-Marker.ensures at c.begins.ensures) in
+    rw c.in-Marker.is (opens_tested (MarkerLeft s.room) NID_VBCMK (AfterMarker s.room) step a.var a.rest a.number c.begins.result next iff)
 
 pub returns-in-Direction : goal.returns-in-Direction
 returns-in-Direction c =
@@ -44,8 +44,8 @@ returns-in-Direction c =
     let le = rw same at c.requires.rest in
     let fits = rw same at c.requires.fits in
     let on = opens_goes (DirectionLeft s.carrier nid s.room) Q_DIR (AfterDirection s.carrier nid s.room) step (rw c.in-Direction.is at c.requires.goes) in
-    let told = starts_direction s.carrier nid s.room a.rest a.number c.begins-in-Direction.result (omega (arith, le)) fits on (rw c.ranges-in-Direction.ensures at c.begins-in-Direction.ensures) in
-    rw c.in-Direction.is (opens_tested (DirectionLeft s.carrier nid s.room) Q_DIR (AfterDirection s.carrier nid s.room) step a.var a.rest a.number c.begins-in-Direction.result next told)
+    let iff = starts_direction s.carrier nid s.room a.rest a.number c.begins-in-Direction.result (omega (arith, le)) fits on (rw c.ranges-in-Direction.ensures at c.begins-in-Direction.ensures) in
+    rw c.in-Direction.is (opens_tested (DirectionLeft s.carrier nid s.room) Q_DIR (AfterDirection s.carrier nid s.room) step a.var a.rest a.number c.begins-in-Direction.result next iff)
 
 pub returns-in-Length : goal.returns-in-Length
 returns-in-Length c =
@@ -54,8 +54,8 @@ returns-in-Length c =
     let nid = c.in-Length.nid in
     let step = length_step s.carrier nid s.room in
     let next = rw c.in-Length.is at c.requires.next in
-    let told = starts_length s.carrier nid s.room a.rest a.number c.length_fits.result s.small c.length_fits.ensures in
-    rw c.in-Length.is (opens_tested (LengthLeft s.carrier nid s.room) L_PACKET (AfterLength s.carrier nid s.room) step a.var a.rest a.number c.length_fits.result next told)
+    let iff = starts_length s.carrier nid s.room a.rest a.number c.length_fits.result s.small c.length_fits.ensures in
+    rw c.in-Length.is (opens_tested (LengthLeft s.carrier nid s.room) L_PACKET (AfterLength s.carrier nid s.room) step a.var a.rest a.number c.length_fits.result next iff)
 
 pub returns-in-Row : goal.returns-in-Row
 returns-in-Row c =

@@ -29,5 +29,5 @@ returns-in-Kept-clause-moved c = rw (← one_bit c) (c.pass_bits.ensures.moved (
 
 pub returns-in-Kept-clause-here : goal.returns-in-Kept-clause-here
 returns-in-Kept-clause-here c f k h here =
-    let after = c.pass_bits.ensures.here f k ((c.args.number == 1) ∷ []) h refl here in
+    let after = c.pass_bits.ensures.here ((c.args.number == 1) ∷ []) refl f k h here in
     rw (c.in-Kept.is, ← one_bit c) after

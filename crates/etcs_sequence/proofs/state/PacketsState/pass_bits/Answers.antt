@@ -24,7 +24,7 @@ returns-clause-moved c t is =
     rw c.requires.stage (bits_whole s.carrier s.room (Kept a.nid a.dir a.left) (kept OTHER_DATA t) s.carrier s.room a.nid a.dir (a.left - a.count) b.result m (omega (arith, c.if-count-left.false)) b.ensures.same b.ensures.ahead)
 
 pub returns-then-count-left-clause-here : goal.returns-then-count-left-clause-here
-returns-then-count-left-clause-here c f k t h is here =
+returns-then-count-left-clause-here c t is f k h here =
     let s = c.args.self.now in
     let a = c.args in
     let i = rw c.requires.stage at here in
@@ -33,7 +33,7 @@ returns-then-count-left-clause-here c f k t h is here =
     rw (i.0, total) (refl, i.1, more)
 
 pub returns-clause-here : goal.returns-clause-here
-returns-clause-here c f k t h is here =
+returns-clause-here c t is f k h here =
     let s = c.args.self.now in
     let way = way_of s.carrier in
     let a = c.args in

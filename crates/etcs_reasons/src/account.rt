@@ -20,7 +20,7 @@ use etcs_vars::inner::VarSink;
 use std::alloc::{AllocError, Global};
 use std::marker::Model;
 
-/// No item has more bytes.
+/// The most bytes that an item has.
 pub const MOST_BYTES: usize = 1023;
 
 /// The first bits of a variable that isn't whole.
@@ -28,9 +28,9 @@ pub const MOST_BYTES: usize = 1023;
 pub struct Part {
     /// The variable.
     pub var: Var,
-    /// The bits as a number.
+    /// Its first bits as a number, the first of them highest.
     pub bits: u64,
-    /// How many they are.
+    /// How many bits there are, fewer than its width.
     pub count: usize,
 }
 
@@ -41,7 +41,7 @@ pub enum End {
     Whole,
     /// The bytes end inside the item, after these bits of the next variable.
     Open(Part),
-    /// No item continues with this bit, counted from 0. It is the variable's, of which these bits are in front of it.
+    /// No item continues with this bit, counted from 0. It belongs to the variable of the part, whose bits precede it.
     Refused(usize, Part),
 }
 
@@ -128,13 +128,13 @@ fn account_of<R: ItemRest>(
 }
 
 impl Account {
-    /// The account of the item of a kind that the first 1,023 of the bytes begin with: its variables in the order of
-    /// sending, all of them, those that are whole where the bytes end, or those before the variable of which a bit is
-    /// refused, as the reader of the kind refuses it.
+    /// The account of the first item of a kind in the bytes, of which at most 1,023 are looked at: its variables in the
+    /// order of sending, up to the end of the item, of the bytes, or of what precedes the variable of the refused bit,
+    /// which is the bit that the reader of the kind refuses.
     ///
     /// # Errors
     ///
-    /// Where memory is refused.
+    /// If memory is refused.
     pub fn read(alloc: Global, kind: Kind, bytes: &[u8]) -> Result<Account, AllocError>
         ensures { IfOk result (λ a. Accounts (readings_of (EntryReads kind)) a.fields.items a.end (take 8184 (bits bytes.now))) }
     {
@@ -147,7 +147,7 @@ impl Account {
         }
     }
 
-    /// How many bytes the variables have.
+    /// How many whole bytes the variables take.
     pub fn bytes(&self) -> usize
         ensures { length (spelled self.now.fields.items) < 2 ^ 62 → result ≡ length (spelled self.now.fields.items) / 8 }
     {

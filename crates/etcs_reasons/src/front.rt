@@ -13,7 +13,7 @@ pub(crate) struct Front {
     pub(crate) kind: Kind,
     /// How many bits the variables have.
     pub(crate) bit: usize,
-    /// How many bits the packets of the item end within: those that it has, without PAD.
+    /// How many bits the item has without PAD; its packets end within them.
     pub(crate) end: usize,
     /// NID_MESSAGE.
     pub(crate) message: u8,
@@ -38,13 +38,34 @@ impl Front {
             length: 0,
             place: None,
         };
-        for (var, number) in fields {
+        // L_PACKET of the last packet, where it is there.
+        let mut length = None;
+        for (at, (var, number)) in fields.iter().enumerate() {
             front.pass(*var, *number);
+            match *var {
+                Var::NID_PACKET => length = None,
+                Var::L_PACKET => length = Some(at),
+                _ => {}
+            }
+        }
+        if let Some(at) = length {
+            front.place = front.place_after(fields, at.saturating_add(1));
         }
         front
     }
 
-    /// After one variable more.
+    /// What is left of the last packet's row after the numbers of the fields from this one on, where it is typed.
+    fn place_after(&self, fields: &[(Var, u64)], from: usize) -> Option<Place> {
+        let mut place = Place::start(row_of(way_of(self.kind), self.packet)?);
+        for (_, number) in fields.iter().skip(from) {
+            if place.var().is_some() {
+                place.pass(*number);
+            }
+        }
+        Some(place)
+    }
+
+    /// What is known after one more variable.
     fn pass(&mut self, var: Var, number: u64) {
         match var {
             Var::NID_MESSAGE => self.message = low_byte(number),
@@ -52,19 +73,9 @@ impl Front {
             Var::NID_PACKET => {
                 self.packet = low_byte(number);
                 self.start = self.bit;
-                self.place = None;
             }
-            Var::L_PACKET => {
-                self.length = (number & 8191) as usize;
-                self.place = row_of(way_of(self.kind), self.packet).map(Place::start);
-            }
-            _ => {
-                if let Some(place) = &mut self.place {
-                    if place.var().is_some() {
-                        place.pass(number);
-                    }
-                }
-            }
+            Var::L_PACKET => self.length = (number & 8191) as usize,
+            _ => {}
         }
         self.bit = self.bit.saturating_add(var.width());
     }

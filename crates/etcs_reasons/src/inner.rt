@@ -1,5 +1,5 @@
-//! For the crates above: how an account is laid out, what numbers of variables mean, what is said of an item that is refused
-//! or of a line that says no bytes, what items of a kind have, and bits that are written as digits.
+//! For the crates above: how an account is laid out, what numbers of variables mean, why an item is refused or a line has
+//! no bytes, what items of a kind have, and bits that are written as digits.
 
 pub use crate::account::MOST_BYTES;
 pub use crate::bits::{are_bits, byte_at, packed};

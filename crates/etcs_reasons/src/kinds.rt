@@ -41,7 +41,7 @@ pub fn user_bits(kind: Kind) -> usize
     }
 }
 
-/// How many bytes an item has that begins with these: of a message, what L_MESSAGE says, as far as it is there.
+/// How many bytes an item has that begins with these: for a message what L_MESSAGE says, if it is there.
 pub fn wanted_bytes(kind: Kind, bytes: &[u8]) -> Option<usize>
     ensures { result ≡ wanted_bytes kind (bits bytes.now) }
 {

@@ -31,7 +31,7 @@ pub struct Reason {
     pub var: Var,
     /// Why, in a sentence with no capital and no full stop.
     pub sentence: String,
-    /// What this most often comes of, in such words.
+    /// The most frequent cause of such a refusal, in the same form, if there is one to name.
     pub often: Option<&'static str>,
 }
 
@@ -92,7 +92,7 @@ fn other_way(kind: Kind, bytes: &[u8]) -> Option<&'static str> {
     }
 }
 
-/// Appends how many of an item's bytes are here.
+/// Appends how many of an item's bytes there are.
 fn write_open(kind: Kind, bytes: &[u8], out: &mut Text) {
     let count = bytes.len();
     match wanted_bytes(kind, bytes) {
@@ -141,9 +141,9 @@ pub fn write_cause(
     Ok(advice(out.alloc(), kind, bytes)?.or(usual))
 }
 
-/// Why the first of the bytes, at most 1,023, begin no item of the kind: the bit that the kind's reader refuses, its
-/// variable, and the reason in a sentence, which isn't empty. `None` where no bit is refused: they begin with an item, or end
-/// inside one.
+/// Why the bytes, of which at most 1,023 are looked at, begin no item of the kind: the bit that the kind's reader refuses,
+/// the variable that holds it, and the reason in a sentence, which isn't empty. `None` if no bit is refused, so that they
+/// begin with an item or end inside one.
 ///
 /// # Errors
 ///

@@ -55,7 +55,7 @@ impl Text {
         self.note(written);
     }
 
-    /// Writes it anew.
+    /// Empties the text, to be written again.
     pub fn clear(&mut self) {
         self.held.clear();
     }
@@ -83,7 +83,7 @@ impl Text {
         }
     }
 
-    /// The same, of which no more is written.
+    /// The text as a string, when nothing more is to be written.
     ///
     /// # Errors
     ///

@@ -1,5 +1,5 @@
 -- What was wrong first is of the input.
-use Rattle.std.proofs.Common.{◌≡◌, ℕ, ◌+◌, Option, Some, None, List, [], ◌∷◌, sym, subst, ◌∙◌, inl, inr}
+use Rattle.std.proofs.Common.{◌≡◌, ℕ, ◌+◌, Option, Some, None, List, [], ◌∷◌, map, refl, sym, subst, ◌∙◌, inl, inr}
 use Rattle.etcs_text.specs.declared.entry.Kind.{Kind}
 use Rattle.etcs_runs.specs.Faults.{IsOfEngine}
 use Rattle.etcs_runs.specs.Passes.{counted}
@@ -7,9 +7,9 @@ use Rattle.etcs_runs.specs.declared.form.Form.{Form}
 use Rattle.etcs_runs.specs.declared.form.Form.TheVariants.{Hex, Bin, Json}
 use Rattle.etcs_runs.specs.declared.fault.RunFault.{RunFault}
 use Rattle.etcs_explain.specs.declared.task.Task.{Task}
-use Rattle.etcs_explain.specs.Inputs.{Token}
+use Rattle.etcs_explain.specs.Inputs.{Token, of_byte}
 use Rattle.etcs_explain.specs.Parts.{Part, item, broken, good_line, bad_line, long_line, long_fault, items_of, fault_of, noted, first_fault, IsBroken, IsBad, IsBadHex, IsBadJson, IsPart, AreParts, IsUncut}
-use Rattle.etcs_explain.specs.Explained.{Finished}
+use Rattle.etcs_explain.specs.Explained.{Finished, Breaks}
 
 -- there is none, or it is
 abbrev AreOfEngine : Option RunFault → Type 0
@@ -50,9 +50,12 @@ parts_of : (task : Task) (k : ℕ) (ps : List Part) → AreParts task k ps → A
 parts_of task k [] h = tt
 parts_of task k (p ∷ ps) h = noted_of (fault_of p) (first_fault ps) (part_of task (counted (k + 1)) p h.0) (parts_of task (k + items_of p) ps h.1)
 
-pub finished_of : (page foot : List ℕ) (task : Task) (tokens : List Token) (long told : List ℕ) (first : Option RunFault) (fault : RunFault) → Finished page foot task tokens long told first → first ≡ Some fault → IsOfEngine fault
-finished_of page foot task tokens long told first fault (texts, seen, is, told_is, first_is) e =
+finished_of : (page foot : List ℕ) (task : Task) (tokens : List Token) (long output : List ℕ) (first : Option RunFault) (fault : RunFault) → Finished page foot task tokens long output first → first ≡ Some fault → IsOfEngine fault
+finished_of page foot task tokens long output first fault (texts, seen, is, output_is, first_is) e =
     subst AreOfEngine (sym is.first_is ∙ first_is ∙ e) (parts_of task 0 is.parts is.are_parts)
+
+pub breaks_of : (page foot : List ℕ) (task : Task) (given output : List ℕ) (fault : RunFault) → Breaks page foot task given output fault → IsOfEngine fault
+breaks_of page foot task given output fault (form, uncut, h) = finished_of page foot task (map (of_byte 0) given) [] output (Some fault) fault h refl
 
 uncut_none : IsUncut None
 uncut_none = λ number k e. absurd cc

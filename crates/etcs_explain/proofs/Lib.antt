@@ -1,4 +1,5 @@
 pub mod Parting
+pub mod Taking
 pub mod Standing
 pub mod Writing
 pub mod HexLines

@@ -4,7 +4,6 @@ use Rattle.std.specs.Prelude.{All, cond}
 use Rattle.std.specs.Io.BufRead.{ends_with_byte}
 use Rattle.std.proofs.lemmas.List.{append-nil, map-append, length-append, length-take-le}
 use Rattle.std.proofs.lemmas.List.Elements.{All-append, All-cons, All-nil}
-use Rattle.std.proofs.lemmas.Bool.{lt-ltb}
 use Rattle.etcs_text.specs.declared.entry.Kind.{Kind}
 use Rattle.etcs_runs.specs.Lines.{IsLine, lines_text, strip_cr}
 use Rattle.etcs_runs.proofs.LineTexts.{lines_text-append, one_line}
@@ -12,13 +11,14 @@ use Rattle.etcs_runs.specs.declared.form.Form.{Form}
 use Rattle.etcs_runs.specs.declared.form.Form.TheVariants.{Hex, Bin, Json}
 use Rattle.etcs_runs.specs.declared.fault.RunFault.{RunFault}
 use Rattle.etcs_explain.specs.declared.task.Task.{Task}
-use Rattle.etcs_explain.specs.declared.seen.Seen.{Seen}
-use Rattle.etcs_explain.specs.Inputs.{Token, of_byte, placed, line_tokens, line_long, lines_tokens, lines_long, is_long, Lines, IsSure, Has, Begins}
+use Rattle.etcs_explain.specs.declared.items.Items.{Items}
+use Rattle.etcs_explain.specs.Inputs.{Token, of_byte, placed, line_tokens, line_long, lines_tokens, lines_long, Lines, IsSure, Has, Begins}
 use Rattle.etcs_explain.specs.Parts.{IsUncut, edge, missing}
-use Rattle.etcs_explain.specs.Explained.{Explained, TellsFirst, Finished, Ends, Breaks}
-use Rattle.etcs_explain.specs.Stands.{AddsOne, Took, TookSome, BytesStand, LinesTook}
+use Rattle.etcs_explain.specs.Explained.{Explained, OutputsFirst, Finished, Ends, Breaks}
+use Rattle.etcs_explain.specs.Stands.{AddsOne, TookSome, Takes, TakesSome, Finishes, BytesStand, LinesTook, next_tokens}
 use Rattle.etcs_explain.specs.laws.StandLaws.{tokens_none, long_none}
-use Rattle.etcs_explain.proofs.Parting.{took_long, some_of, placed_none}
+use Rattle.etcs_explain.proofs.Parting.{placed_none}
+use Rattle.etcs_explain.proofs.Taking.{took_at, took_same, took_empty, some_at, some_of, takes_over}
 
 -- ---- One line more.
 
@@ -60,17 +60,25 @@ long_line_is n lines raw line count e =
     ∙ ap (λ (z : List ℕ). lines_long 0 lines ++ line_long (0 + length lines + 1) z) e
     ∙ sym (long_snoc 0 lines raw)
 
-pub took_line : (page : List ℕ) (task : Task) (ls ls' held held' : List ℕ) (seen seen' : Seen) (n n' : ℕ) (lines : List (List ℕ)) (raw line told told' : List ℕ) → LinesTook page task ls held seen n lines told → IsLine raw → line ≡ strip_cr raw → Took page task ls' held' seen' (lines_tokens task.kind task.from 0 lines ++ line_tokens task.kind task.from (n + 1) line) (lines_long 0 lines ++ line_long (n + 1) line) told' → length held' < 1023 → (task.from ≡ Json → held' ≡ []) → n' ≡ n + 1 → LinesTook page task ls' held' seen' n' (lines ++ raw ∷ []) told'
-took_line page task ls ls' held held' seen seen' n n' lines raw line told told' h l e k short json next = record {
-  form = h.form;
+-- the tokens of the next line, where t has the same task
+next_line : (page : List ℕ) (s : Items) (task : Task) (lines : List (List ℕ)) (raw line output : List ℕ) → LinesTook page s lines output → line ≡ strip_cr raw → task ≡ s.explainer.task → lines_tokens task.kind task.from 0 (lines ++ raw ∷ []) ≡ lines_tokens s.explainer.task.kind s.explainer.task.from 0 lines ++ next_tokens s line
+next_line page s task lines raw line output h e te =
+    ap (λ (z : Task). lines_tokens z.kind z.from 0 (lines ++ raw ∷ [])) te ∙ sym (tokens_line s.explainer.task.kind s.explainer.task.from s.line lines raw line h.count e)
+
+pub took_line : (page : List ℕ) (s t : Items) (lines : List (List ℕ)) (raw line output text text' : List ℕ) → LinesTook page s lines (output ++ text) → IsLine raw → line ≡ strip_cr raw → t.explainer.task ≡ s.explainer.task → t.line ≡ s.line + 1 → Takes page s text (next_tokens s line) (line_long (s.line + 1) line) t text' → length t.held.items < 1023 → (s.explainer.task.from ≡ Json → t.held.items ≡ []) → LinesTook page t (lines ++ raw ∷ []) (output ++ text')
+took_line page s t lines raw line output text text' h l e te next k short json = record {
+  form = λ bin. h.form (ap (λ (z : Task). z.from) (sym te) ∙ bin);
   short = short;
-  json = json;
+  json = λ j. json (ap (λ (z : Task). z.from) (sym te) ∙ j);
   count = omega (arith, next, h.count, length-append lines (raw ∷ []));
   are_lines = lines_snoc lines raw h.are_lines l;
-  took =
-      subst (λ (z : List ℕ). Took page task ls' held' seen' (lines_tokens task.kind task.from 0 (lines ++ raw ∷ [])) z told') (long_line_is n lines raw line h.count e)
-      (subst (λ (z : List Token). Took page task ls' held' seen' z (lines_long 0 lines ++ line_long (n + 1) line) told') (tokens_line task.kind task.from n lines raw line h.count e) k);
+  took = took_at page t _ _ _ _ (output ++ text') (next_line page s t.explainer.task lines raw line (output ++ text) h e te) (long_line_is s.line lines raw line h.count e) (k.took _ _ output h.took);
 }
+
+-- no text was written
+pub lines_empty : (page : List ℕ) (s : Items) (lines : List (List ℕ)) (output text : List ℕ) → text ≡ [] → LinesTook page s lines output → LinesTook page s lines (output ++ text)
+lines_empty page s lines output text e h =
+    subst (λ (z : List ℕ). LinesTook page s lines z) (sym (append-nil output) ∙ ap (λ (z : List ℕ). output ++ z) (sym e)) h
 
 -- ---- What an input begins with, and what a whole one has.
 
@@ -129,43 +137,63 @@ whole_has kind form lines last other all =
       refl,
     )
 
-pub some_prints : (page : List ℕ) (task : Task) (given : List ℕ) (all : List Token) (longs told : List ℕ) → TookSome page task all longs told → Begins task.kind task.from given all longs → TellsFirst page task given told
-some_prints page task given all longs told (tokens, rest, long, more, seen, all_are, long_is, is) begins =
-    (tokens, rest, long, more, seen, subst (λ (z : List ℕ). Begins task.kind task.from given (tokens ++ rest) z) long_is (subst (λ (z : List Token). Begins task.kind task.from given z longs) all_are begins), is)
+pub some_prints : (page : List ℕ) (task : Task) (given : List ℕ) (all : List Token) (longs output : List ℕ) → TookSome page task all longs output → Begins task.kind task.from given all longs → OutputsFirst page task given output
+some_prints page task given all longs output h begins =
+    (h.tokens, h.rest, h.long, h.more, h.seen, subst (λ (z : List ℕ). Begins task.kind task.from given (h.tokens ++ h.rest) z) h.longs_are (subst (λ (z : List Token). Begins task.kind task.from given z longs) h.all_are begins), h.explained)
 
 -- ---- Where memory is refused.
 
+-- some of these lines and of the next one
+some_line : (page : List ℕ) (s t : Items) (lines : List (List ℕ)) (raw line output text text' : List ℕ) → LinesTook page s lines (output ++ text) → line ≡ strip_cr raw → t.explainer.task ≡ s.explainer.task → TakesSome page s text (next_tokens s line) (line_long (s.line + 1) line) t text' → TookSome page s.explainer.task (lines_tokens s.explainer.task.kind s.explainer.task.from 0 (lines ++ raw ∷ [])) (lines_long 0 (lines ++ raw ∷ [])) (output ++ text')
+some_line page s t lines raw line output text text' h e te k =
+    subst (λ (z : Task). TookSome page z (lines_tokens s.explainer.task.kind s.explainer.task.from 0 (lines ++ raw ∷ [])) (lines_long 0 (lines ++ raw ∷ [])) (output ++ text')) te
+    (some_at page t.explainer.task _ _ _ _ (output ++ text') (next_line page s s.explainer.task lines raw line (output ++ text) h e refl) (sym (long_line_is s.line lines raw line h.count e)) (k.some _ _ output h.took))
+
 -- in a line that had a LF
-pub line_prints : (page : List ℕ) (task : Task) (ls held : List ℕ) (seen : Seen) (n : ℕ) (lines : List (List ℕ)) (raw line more told told' : List ℕ) → LinesTook page task ls held seen n lines told → IsLine raw → line ≡ strip_cr raw → TookSome page task (lines_tokens task.kind task.from 0 lines ++ line_tokens task.kind task.from (n + 1) line) (lines_long 0 lines ++ line_long (n + 1) line) told' → TellsFirst page task (lines_text lines ++ (raw ++ 10 ∷ more)) told'
-line_prints page task ls held seen n lines raw line more told told' h l e k =
+pub line_prints : (page : List ℕ) (s t : Items) (lines : List (List ℕ)) (raw line more output text text' : List ℕ) → LinesTook page s lines (output ++ text) → IsLine raw → line ≡ strip_cr raw → t.explainer.task ≡ s.explainer.task → TakesSome page s text (next_tokens s line) (line_long (s.line + 1) line) t text' → OutputsFirst page s.explainer.task (lines_text lines ++ (raw ++ 10 ∷ more)) (output ++ text')
+line_prints page s t lines raw line more output text text' h l e te k =
+    let task = s.explainer.task in
     let given = sym (append_assoc (lines_text lines) (lines_text (raw ∷ [])) more ∙ ap (λ (z : List ℕ). lines_text lines ++ z) (one_line raw more)) ∙ ap (λ (z : List ℕ). z ++ more) (sym (lines_text-append lines (raw ∷ []))) in
-    let k1 = subst (λ (z : List Token). TookSome page task z (lines_long 0 lines ++ line_long (n + 1) line) told') (tokens_line task.kind task.from n lines raw line h.count e) k in
-    let k2 = subst (λ (z : List ℕ). TookSome page task (lines_tokens task.kind task.from 0 (lines ++ raw ∷ [])) z told') (long_line_is n lines raw line h.count e) k1 in
-    subst (λ (z : List ℕ). TellsFirst page task z told') (sym given)
-    (some_prints page task (lines_text (lines ++ raw ∷ []) ++ more) _ _ told' k2 (front_begins task.kind task.from (lines ++ raw ∷ []) more h.form (lines_snoc lines raw h.are_lines l)))
+    subst (λ (z : List ℕ). OutputsFirst page task z (output ++ text')) (sym given)
+    (some_prints page task (lines_text (lines ++ raw ∷ []) ++ more) _ _ (output ++ text') (some_line page s t lines raw line output text text' h e te k) (front_begins task.kind task.from (lines ++ raw ∷ []) more h.form (lines_snoc lines raw h.are_lines l)))
 
 -- in one that is too long
-pub long_prints : (page : List ℕ) (task : Task) (ls held : List ℕ) (seen : Seen) (n : ℕ) (lines : List (List ℕ)) (more told : List ℕ) → LinesTook page task ls held seen n lines told → TellsFirst page task (lines_text lines ++ more) told
-long_prints page task ls held seen n lines more told h =
-    some_prints page task (lines_text lines ++ more) _ _ told (some_of page task ls held seen _ _ told h.took) (front_begins task.kind task.from lines more h.form h.are_lines)
+pub long_prints : (page : List ℕ) (s : Items) (lines : List (List ℕ)) (more output : List ℕ) → LinesTook page s lines output → OutputsFirst page s.explainer.task (lines_text lines ++ more) output
+long_prints page s lines more output h =
+    let task = s.explainer.task in
+    some_prints page task (lines_text lines ++ more) _ _ output (some_of page s _ _ output h.took) (front_begins task.kind task.from lines more h.form h.are_lines)
 
 -- in the last one
-pub last_prints : (page : List ℕ) (task : Task) (ls held : List ℕ) (seen : Seen) (n : ℕ) (lines : List (List ℕ)) (raw line told told' : List ℕ) → LinesTook page task ls held seen n lines told → IsLine raw → line ≡ strip_cr raw → TookSome page task (lines_tokens task.kind task.from 0 lines ++ line_tokens task.kind task.from (n + 1) line) (lines_long 0 lines ++ line_long (n + 1) line) told' → TellsFirst page task (lines_text lines ++ raw) told'
-last_prints page task ls held seen n lines raw line told told' h l e k =
-    let k1 = subst (λ (z : List Token). TookSome page task z (lines_long 0 lines ++ line_long (n + 1) line) told') (tokens_line task.kind task.from n lines raw line h.count e) k in
-    let k2 = subst (λ (z : List ℕ). TookSome page task (lines_tokens task.kind task.from 0 (lines ++ raw ∷ [])) z told') (long_line_is n lines raw line h.count e) k1 in
-    some_prints page task (lines_text lines ++ raw) _ _ told' k2 (whole_begins task.kind task.from lines raw h.form (lines_snoc lines raw h.are_lines l))
+pub last_prints : (page : List ℕ) (s t : Items) (lines : List (List ℕ)) (raw line output text text' : List ℕ) → LinesTook page s lines (output ++ text) → IsLine raw → line ≡ strip_cr raw → t.explainer.task ≡ s.explainer.task → TakesSome page s text (next_tokens s line) (line_long (s.line + 1) line) t text' → OutputsFirst page s.explainer.task (lines_text lines ++ raw) (output ++ text')
+last_prints page s t lines raw line output text text' h l e te k =
+    let task = s.explainer.task in
+    some_prints page task (lines_text lines ++ raw) _ _ (output ++ text') (some_line page s t lines raw line output text text' h e te k) (whole_begins task.kind task.from lines raw h.form (lines_snoc lines raw h.are_lines l))
 
 -- after all of them
-pub end_prints : (page : List ℕ) (task : Task) (ls held : List ℕ) (seen : Seen) (n : ℕ) (lines : List (List ℕ)) (last told told' : List ℕ) → LinesTook page task ls held seen n (lines ++ last ∷ []) told → TookSome page task (lines_tokens task.kind task.from 0 (lines ++ last ∷ [])) (lines_long 0 (lines ++ last ∷ [])) told' → TellsFirst page task (lines_text lines ++ last) told'
-end_prints page task ls held seen n lines last told told' h k =
-    some_prints page task (lines_text lines ++ last) _ _ told' k (whole_begins task.kind task.from lines last h.form h.are_lines)
+pub end_prints : (page : List ℕ) (s t : Items) (lines : List (List ℕ)) (last output text text' : List ℕ) → LinesTook page s (lines ++ last ∷ []) (output ++ text) → t.explainer.task ≡ s.explainer.task → TakesSome page s text [] [] t text' → OutputsFirst page s.explainer.task (lines_text lines ++ last) (output ++ text')
+end_prints page s t lines last output text text' h te k =
+    let task = s.explainer.task in
+    let some = some_at page t.explainer.task _ _ _ _ (output ++ text') (sym (append-nil (lines_tokens task.kind task.from 0 (lines ++ last ∷ [])))) (sym (append-nil (lines_long 0 (lines ++ last ∷ [])))) (k.some _ _ output h.took) in
+    some_prints page task (lines_text lines ++ last) _ _ (output ++ text') (subst (λ (z : Task). TookSome page z (lines_tokens task.kind task.from 0 (lines ++ last ∷ [])) (lines_long 0 (lines ++ last ∷ [])) (output ++ text')) te some) (whole_begins task.kind task.from lines last h.form h.are_lines)
 
 -- ---- At the end.
 
-pub lines_end : (page foot : List ℕ) (task : Task) (ls held : List ℕ) (seen : Seen) (n : ℕ) (lines : List (List ℕ)) (last told told' : List ℕ) (first : Option RunFault) → LinesTook page task ls held seen n (lines ++ last ∷ []) told → Finished page foot task (lines_tokens task.kind task.from 0 (lines ++ last ∷ [])) (lines_long 0 (lines ++ last ∷ [])) told' first → Ends page foot task (lines_text lines ++ last) told' first
-lines_end page foot task ls held seen n lines last told told' first h k =
-    (_, _, whole_has task.kind task.from lines last h.form h.are_lines, k)
+-- all that was taken, and the foot
+pub finishes : (page foot : List ℕ) (s t : Items) (text text' text'' : List ℕ) → Takes page s text [] [] t text' → t.held.items ≡ [] → t.explainer.task ≡ s.explainer.task → text'' ≡ text' ++ (missing t.explainer.seen.is_begun (edge t.explainer.task.layout page) ++ edge t.explainer.task.layout foot) → Finishes page foot s text text'' t.explainer.seen.first
+finishes page foot s t text text' text'' h none te e =
+    let seen = t.explainer.seen in
+    let tail = missing seen.is_begun (edge t.explainer.task.layout page) ++ edge t.explainer.task.layout foot in
+    record {
+      finished = λ all long output k.
+          let u = took_same page t all long (output ++ text') (h.took all long output k) in
+          let tokens = u.all_are ∙ ap (λ (z : List ℕ). u.tokens ++ placed t.lines.items z) none ∙ ap (λ (z : List Token). u.tokens ++ z) (placed_none t.lines.items) ∙ append-nil u.tokens in
+          subst (λ (z : Task). Finished page foot z all long (output ++ text'') seen.first) te
+          (output ++ text', seen, subst (λ (z : List Token). Explained page t.explainer.task seen z long (output ++ text')) (sym tokens) u.explained, ap (λ (z : List ℕ). output ++ z) e ∙ sym (append_assoc output text' tail), refl);
+    }
+
+pub lines_end : (page foot : List ℕ) (s : Items) (lines : List (List ℕ)) (last output text text' : List ℕ) (first : Option RunFault) → LinesTook page s (lines ++ last ∷ []) (output ++ text) → Finishes page foot s text text' first → Ends page foot s.explainer.task (lines_text lines ++ last) (output ++ text') first
+lines_end page foot s lines last output text text' first h k =
+    (_, _, whole_has s.explainer.task.kind s.explainer.task.from lines last h.form h.are_lines, k.finished _ _ output h.took)
 
 -- ---- A line that is too long.
 
@@ -176,54 +204,47 @@ shorter false line = omega arith
 strip_long : (line : List ℕ) → length line ≤ length (strip_cr line) + 1
 strip_long line = shorter (ends_with_byte 13 line) line
 
-no_tokens : (kind : Kind) (form : Form) (n : ℕ) (line : List ℕ) → is_long line ≡ true → line_tokens kind form n line ≡ []
-no_tokens kind form n line is = rw is refl
-
-one_long : (n : ℕ) (line : List ℕ) → is_long line ≡ true → line_long n line ≡ n ∷ []
-one_long n line is = rw is refl
-
-pub took_too_long : (page : List ℕ) (task : Task) (ls held : List ℕ) (seen seen' : Seen) (n n' : ℕ) (lines : List (List ℕ)) (part rest told text text' : List ℕ) → LinesTook page task ls held seen n lines (told ++ text) → IsLine part → 1048576 + 1 < length part → AddsOne page task seen seen' [] ((n + 1) ∷ []) text text' → IsLine rest → n' ≡ n + 1 → LinesTook page task ls held seen' n' (lines ++ (part ++ rest) ∷ []) (told ++ text')
-took_too_long page task ls held seen seen' n n' lines part rest told text text' h l long a m next =
+pub took_too_long : (page : List ℕ) (s t : Items) (lines : List (List ℕ)) (part rest output text text' : List ℕ) → LinesTook page s lines (output ++ text) → IsLine part → 1048576 + 1 < length part → t.explainer.task ≡ s.explainer.task → t.line ≡ s.line + 1 → t.lines.items ≡ s.lines.items → t.held.items ≡ s.held.items → AddsOne page s.explainer.task s.explainer.seen t.explainer.seen [] ((s.line + 1) ∷ []) text text' → IsLine rest → LinesTook page t (lines ++ (part ++ rest) ∷ []) (output ++ text')
+took_too_long page s t lines part rest output text text' h l long te next le he a m =
     let raw = part ++ rest in
-    let is : is_long (strip_cr raw) ≡ true = lt-ltb 1048576 (length (strip_cr raw)) (omega (arith, long, strip_long raw, length-append part rest)) in
-    let k = took_long page task ls held seen seen' (lines_tokens task.kind task.from 0 lines) (lines_long 0 lines) ((n + 1) ∷ []) told text text' h.took a in
-    let k1 = subst (λ (z : List ℕ). Took page task ls held seen' (lines_tokens task.kind task.from 0 lines) (lines_long 0 lines ++ z) (told ++ text')) (sym (one_long (n + 1) (strip_cr raw) is)) k in
-    let none = sym (append-nil (lines_tokens task.kind task.from 0 lines)) ∙ ap (λ (z : List Token). lines_tokens task.kind task.from 0 lines ++ z) (sym (no_tokens task.kind task.from (n + 1) (strip_cr raw) is)) in
-    let k2 = subst (λ (z : List Token). Took page task ls held seen' z (lines_long 0 lines ++ line_long (n + 1) (strip_cr raw)) (told ++ text')) none k1 in
-    took_line page task ls ls held held seen seen' n n' lines raw (strip_cr raw) (told ++ text) (told ++ text') h (All-append (λ c. c ≡ 10 → ⊥) part rest l m) refl k2 h.short h.json next
+    let over : 1048576 < length (strip_cr raw) = omega (arith, long, strip_long raw, length-append part rest) in
+    let k = takes_over page s t text text' (strip_cr raw) over te le he a in
+    took_line page s t lines raw (strip_cr raw) output text text' h (All-append (λ c. c ≡ 10 → ⊥) part rest l m) refl te next k (subst (λ (z : List ℕ). length z < 1023) (sym he) h.short) (λ j. he ∙ h.json j)
 
 -- ---- Bytes.
 
-pub bytes_piece : (page : List ℕ) (task : Task) (ls ls' held held' piece : List ℕ) (seen seen' : Seen) (given told told' : List ℕ) → BytesStand page task ls held seen given told → Took page task ls' held' seen' (map (of_byte 0) given ++ map (of_byte 0) piece) [] told' → length held' < 1023 → seen'.first ≡ None → BytesStand page task ls' held' seen' (given ++ piece) told'
-bytes_piece page task ls ls' held held' piece seen seen' given told told' h k short fine = record {
-  form = h.form;
+-- these were taken, after those
+bytes_given : (s : Items) (given piece : List ℕ) → s.line ≡ 0 → map (of_byte 0) (given ++ piece) ≡ map (of_byte 0) given ++ map (of_byte s.line) piece
+bytes_given s given piece e = map-append (of_byte 0) given piece ∙ ap (λ (n : ℕ). map (of_byte 0) given ++ map (of_byte n) piece) (sym e)
+
+pub bytes_piece : (page : List ℕ) (s t : Items) (given piece output text text' : List ℕ) → BytesStand page s given output → text ≡ [] → t.explainer.task ≡ s.explainer.task → t.line ≡ s.line → Takes page s text (map (of_byte s.line) piece) [] t text' → length t.held.items < 1023 → t.explainer.seen.first ≡ None → BytesStand page t (given ++ piece) (output ++ text')
+bytes_piece page s t given piece output text text' h e te ne k short fine = record {
+  form = ap (λ (z : Task). z.from) te ∙ h.form;
+  line = ne ∙ h.line;
   short = short;
   fine = fine;
-  took = subst (λ (z : List Token). Took page task ls' held' seen' z [] told') (sym (map-append (of_byte 0) given piece)) k;
+  took = took_at page t _ (map (of_byte 0) (given ++ piece)) [] [] (output ++ text') (bytes_given s given piece h.line) refl (k.took (map (of_byte 0) given) [] output (took_empty page s (map (of_byte 0) given) [] output text e h.took));
 }
 
 -- some of them, where memory is refused
-pub bytes_print : (page : List ℕ) (task : Task) (given piece told : List ℕ) → task.from ≡ Bin → TookSome page task (map (of_byte 0) given ++ map (of_byte 0) piece) [] told → TellsFirst page task (given ++ piece) told
-bytes_print page task given piece told form k =
-    some_prints page task (given ++ piece) _ _ told k (subst (λ (f : Form). Begins task.kind f (given ++ piece) (map (of_byte 0) given ++ map (of_byte 0) piece) []) (sym form) (sym (map-append (of_byte 0) given piece), refl))
+pub bytes_print : (page : List ℕ) (s t : Items) (given piece output text text' : List ℕ) → BytesStand page s given output → text ≡ [] → t.explainer.task ≡ s.explainer.task → TakesSome page s text (map (of_byte s.line) piece) [] t text' → OutputsFirst page s.explainer.task (given ++ piece) (output ++ text')
+bytes_print page s t given piece output text text' h e te k =
+    let some = some_at page t.explainer.task _ (map (of_byte 0) (given ++ piece)) [] [] (output ++ text') (bytes_given s given piece h.line) refl (k.some (map (of_byte 0) given) [] output (took_empty page s (map (of_byte 0) given) [] output text e h.took)) in
+    some_prints page s.explainer.task (given ++ piece) _ _ (output ++ text') (subst (λ (z : Task). TookSome page z (map (of_byte 0) (given ++ piece)) [] (output ++ text')) te some) (subst (λ (f : Form). Begins s.explainer.task.kind f (given ++ piece) (map (of_byte 0) (given ++ piece)) []) (sym h.form) (refl, refl))
 
-pub bytes_print_all : (page : List ℕ) (task : Task) (given told : List ℕ) → task.from ≡ Bin → TookSome page task (map (of_byte 0) given) [] told → TellsFirst page task given told
-bytes_print_all page task given told form k =
-    some_prints page task given _ _ told k (subst (λ (f : Form). Begins task.kind f given (map (of_byte 0) given) []) (sym form) (refl, refl))
+pub bytes_print_all : (page : List ℕ) (s t : Items) (given output text text' : List ℕ) → BytesStand page s given output → text ≡ [] → t.explainer.task ≡ s.explainer.task → TakesSome page s text [] [] t text' → OutputsFirst page s.explainer.task given (output ++ text')
+bytes_print_all page s t given output text text' h e te k =
+    subst (λ (z : List ℕ). OutputsFirst page s.explainer.task z (output ++ text')) (append-nil given) (bytes_print page s t given [] output text text' h e te k)
 
-pub bytes_end : (page foot : List ℕ) (task : Task) (given told : List ℕ) (first : Option RunFault) → task.from ≡ Bin → Finished page foot task (map (of_byte 0) given) [] told first → Ends page foot task given told first
-bytes_end page foot task given told first form k =
-    (_, _, subst (λ (f : Form). Has task.kind f given (map (of_byte 0) given) []) (sym form) (refl, refl), k)
+pub bytes_end : (page foot : List ℕ) (s : Items) (given output text text' : List ℕ) (first : Option RunFault) → BytesStand page s given output → text ≡ [] → Finishes page foot s text text' first → Ends page foot s.explainer.task given (output ++ text') first
+bytes_end page foot s given output text text' first h e k =
+    (_, _, subst (λ (f : Form). Has s.explainer.task.kind f given (map (of_byte 0) given) []) (sym h.form) (refl, refl), k.finished (map (of_byte 0) given) [] output (took_empty page s (map (of_byte 0) given) [] output text e h.took))
 
 -- an item is refused
-pub bytes_break : (page foot : List ℕ) (task : Task) (given piece told : List ℕ) (first : Option RunFault) (fault : RunFault) → task.from ≡ Bin → Finished page foot task (map (of_byte 0) given ++ map (of_byte 0) piece) [] told first → first ≡ Some fault → IsUncut first → Breaks page foot task (given ++ piece) told fault
-bytes_break page foot task given piece told first fault form k e uncut =
-    let k1 = subst (λ (z : List Token). Finished page foot task z [] told first) (sym (map-append (of_byte 0) given piece)) k in
-    (form, subst IsUncut e uncut, subst (λ (z : Option RunFault). Finished page foot task (map (of_byte 0) (given ++ piece)) [] told z) e k1)
-
--- all that was taken, and the foot
-pub finished : (page foot : List ℕ) (task : Task) (ls held : List ℕ) (seen : Seen) (all : List Token) (long told text text' : List ℕ) → Took page task ls held seen all long (told ++ text) → held ≡ [] → text' ≡ text ++ (missing seen.is_begun (edge task.layout page) ++ edge task.layout foot) → Finished page foot task all long (told ++ text') seen.first
-finished page foot task ls held seen all long told text text' h none e =
-    let tail = missing seen.is_begun (edge task.layout page) ++ edge task.layout foot in
-    let tokens = h.all_are ∙ ap (λ (z : List ℕ). h.tokens ++ placed ls z) none ∙ ap (λ (z : List Token). h.tokens ++ z) (placed_none ls) ∙ append-nil h.tokens in
-    (told ++ text, seen, subst (λ (z : List Token). Explained page task seen z long (told ++ text)) (sym tokens) h.explained, ap (λ (z : List ℕ). told ++ z) e ∙ sym (append_assoc told text tail), refl)
+pub bytes_break : (page foot : List ℕ) (s t : Items) (given piece output text text' text'' : List ℕ) (first : Option RunFault) (fault : RunFault) → BytesStand page s given output → text ≡ [] → t.explainer.task ≡ s.explainer.task → Takes page s text (map (of_byte s.line) piece) [] t text' → Finishes page foot t text' text'' first → first ≡ Some fault → IsUncut first → Breaks page foot s.explainer.task (given ++ piece) (output ++ text'') fault
+bytes_break page foot s t given piece output text text' text'' first fault h e te k f is uncut =
+    let task = s.explainer.task in
+    let all = f.finished _ _ output (k.took (map (of_byte 0) given) [] output (took_empty page s (map (of_byte 0) given) [] output text e h.took)) in
+    let all1 = subst (λ (z : Task). Finished page foot z (map (of_byte 0) given ++ map (of_byte s.line) piece) [] (output ++ text'') first) te all in
+    let all2 = subst (λ (z : List Token). Finished page foot task z [] (output ++ text'') first) (sym (bytes_given s given piece h.line)) all1 in
+    (h.form, subst IsUncut is uncut, subst (λ (z : Option RunFault). Finished page foot task (map (of_byte 0) (given ++ piece)) [] (output ++ text'') z) is all2)

@@ -17,47 +17,47 @@ has_some (p ∷ ps) = true
 
 -- these tokens and the lines that are too long, of these numbers, were cut into parts, one after another, and this is
 -- their text; whether there are some, how many items they have, and the first fault
-pub record Explained (page : List ℕ) (task : Task) (seen : Seen) (tokens : List Token) (long : List ℕ) (told : List ℕ) : Type 0 where
+pub record Explained (page : List ℕ) (task : Task) (seen : Seen) (tokens : List Token) (long : List ℕ) (output : List ℕ) : Type 0 where
   pub parts : List Part
   pub are_parts : AreParts task 0 parts
   pub tokens_are : tokens ≡ flat_map tokens_of parts
   pub long_is : long ≡ flat_map long_of parts
-  pub told_is : told ≡ written (edge task.layout page) parts
+  pub output_is : output ≡ written (edge task.layout page) parts
   pub begun_is : seen.is_begun ≡ has_some parts
   pub items_is : seen.items ≡ counted (items_in parts)
   pub first_is : seen.first ≡ first_fault parts
 
 -- all that is there of an input was, but for the last bytes, fewer than the longest item has
-abbrev pub Tells : List ℕ → Task → List ℕ → List ℕ → Type 0
-Tells page task given told = (tokens : List Token) × (lines held : List ℕ) × (long : List ℕ) × (seen : Seen) × SoFar task.kind task.from given (tokens ++ placed lines held) long × (length held < 1023) × Explained page task seen tokens long told
+abbrev pub Outputs : List ℕ → Task → List ℕ → List ℕ → Type 0
+Outputs page task given output = (tokens : List Token) × (lines held : List ℕ) × (long : List ℕ) × (seen : Seen) × SoFar task.kind task.from given (tokens ++ placed lines held) long × (length held < 1023) × Explained page task seen tokens long output
 
 -- the first parts of an input that begins so were
-abbrev pub TellsFirst : List ℕ → Task → List ℕ → List ℕ → Type 0
-TellsFirst page task given told = (tokens rest : List Token) × (long more : List ℕ) × (seen : Seen) × Begins task.kind task.from given (tokens ++ rest) (long ++ more) × Explained page task seen tokens long told
+abbrev pub OutputsFirst : List ℕ → Task → List ℕ → List ℕ → Type 0
+OutputsFirst page task given output = (tokens rest : List Token) × (long more : List ℕ) × (seen : Seen) × Begins task.kind task.from given (tokens ++ rest) (long ++ more) × Explained page task seen tokens long output
 
 -- all of them were, between the head and the foot of the page, and this was wrong first
 abbrev pub Finished : List ℕ → List ℕ → Task → List Token → List ℕ → List ℕ → Option RunFault → Type 0
-Finished page foot task tokens long told first = (texts : List ℕ) × (seen : Seen) × Explained page task seen tokens long texts × (told ≡ texts ++ (missing seen.is_begun (edge task.layout page) ++ edge task.layout foot)) × (seen.first ≡ first)
+Finished page foot task tokens long output first = (texts : List ℕ) × (seen : Seen) × Explained page task seen tokens long texts × (output ≡ texts ++ (missing seen.is_begun (edge task.layout page) ++ edge task.layout foot)) × (seen.first ≡ first)
 
 -- a whole input was
 abbrev pub Ends : List ℕ → List ℕ → Task → List ℕ → List ℕ → Option RunFault → Type 0
-Ends page foot task given told first = (tokens : List Token) × (long : List ℕ) × Has task.kind task.from given tokens long × Finished page foot task tokens long told first
+Ends page foot task given output first = (tokens : List Token) × (long : List ℕ) × Has task.kind task.from given tokens long × Finished page foot task tokens long output first
 
 -- an item of bytes was refused, which is the last
 abbrev pub Breaks : List ℕ → List ℕ → Task → List ℕ → List ℕ → RunFault → Type 0
-Breaks page foot task given told fault = (task.from ≡ Bin) × IsUncut (Some fault) × Finished page foot task (map (of_byte 0) given) [] told (Some fault)
+Breaks page foot task given output fault = (task.from ≡ Bin) × IsUncut (Some fault) × Finished page foot task (map (of_byte 0) given) [] output (Some fault)
 
 abbrev pub Prints : List ℕ → List ℕ → Task → List ℕ → List ℕ → Type 0
-Prints page foot task given told = TellsFirst page task given told ⊎ ((fault : RunFault) × Breaks page foot task given told fault)
+Prints page foot task given output = OutputsFirst page task given output ⊎ ((fault : RunFault) × Breaks page foot task given output fault)
 
 abbrev pub Starves : List ℕ → Task → List ℕ → List ℕ → RunFault → Type 0
-Starves page task given told fault = (fault ≡ Memory) × TellsFirst page task given told
+Starves page task given output fault = (fault ≡ Memory) × OutputsFirst page task given output
 
 abbrev pub explanations : List ℕ → List ℕ → Task → Promises (Option RunFault)
 explanations page foot task = record {
-  Tells = Tells page task;
+  Outputs = Outputs page task;
   Ends = Ends page foot task;
-  Stops = λ given told fault. Starves page task given told fault ⊎ Breaks page foot task given told fault;
+  Stops = λ given output fault. Starves page task given output fault ⊎ Breaks page foot task given output fault;
   StopsAtEnd = Starves page task;
   Prints = Prints page foot task;
 }

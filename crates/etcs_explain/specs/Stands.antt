@@ -9,9 +9,10 @@ use Rattle.etcs_runs.specs.declared.fault.RunFault.{RunFault}
 use Rattle.etcs_runs.specs.declared.form.Form.TheVariants.{Bin, Json}
 use Rattle.etcs_explain.specs.declared.task.Task.{Task}
 use Rattle.etcs_explain.specs.declared.seen.Seen.{Seen}
-use Rattle.etcs_explain.specs.Inputs.{Token, of_byte, placed, lines_tokens, lines_long}
+use Rattle.etcs_explain.specs.declared.items.Items.{Items}
+use Rattle.etcs_explain.specs.Inputs.{Token, of_byte, placed, line_tokens, lines_tokens, lines_long}
 use Rattle.etcs_explain.specs.Parts.{Part, IsPart, IsBroken, HasTitle, tokens_of, long_of, items_of, fault_of, text_of, noted, edge, missing}
-use Rattle.etcs_explain.specs.Explained.{Explained}
+use Rattle.etcs_explain.specs.Explained.{Explained, Finished}
 
 -- after this number of items more, and this fault
 pub record IsAfter (seen : Seen) (items : ℕ) (fault : Option RunFault) (seen' : Seen) : Type 0 where
@@ -38,29 +39,62 @@ pub record Added (page : List ℕ) (task : Task) (seen seen' : Seen) (p : Part) 
 abbrev pub AddsOne : List ℕ → Task → Seen → Seen → List Token → List ℕ → List ℕ → List ℕ → Type 0
 AddsOne page task seen seen' tokens long text text' = (p : Part) × (tokens_of p ≡ tokens) × (long_of p ≡ long) × Added page task seen seen' p text text'
 
--- of these tokens all but the bytes that are held were explained
-pub record Took (page : List ℕ) (task : Task) (lines held : List ℕ) (seen : Seen) (all : List Token) (long : List ℕ) (told : List ℕ) : Type 0 where
+-- of these tokens and long lines the first were explained
+pub record TookSome (page : List ℕ) (task : Task) (all : List Token) (longs output : List ℕ) : Type 0 where
   pub tokens : List Token
-  pub all_are : all ≡ tokens ++ placed lines held
-  pub even : length lines ≡ length held
-  pub explained : Explained page task seen tokens long told
+  pub rest : List Token
+  pub long : List ℕ
+  pub more : List ℕ
+  pub seen : Seen
+  pub all_are : all ≡ tokens ++ rest
+  pub longs_are : longs ≡ long ++ more
+  pub explained : Explained page task seen tokens long output
 
--- the first of them were
-abbrev pub TookSome : List ℕ → Task → List Token → List ℕ → List ℕ → Type 0
-TookSome page task all longs told = (tokens rest : List Token) × (long more : List ℕ) × (seen : Seen) × (all ≡ tokens ++ rest) × (longs ≡ long ++ more) × Explained page task seen tokens long told
+-- whatever was explained before, these tokens were too
+pub record Explains (page : List ℕ) (task : Task) (seen : Seen) (text : List ℕ) (more : List Token) (seen' : Seen) (text' : List ℕ) : Type 0 where
+  pub explained : (tokens : List Token) (long output : List ℕ) → Explained page task seen tokens long (output ++ text) → Explained page task seen' (tokens ++ more) long (output ++ text')
+
+-- or some of all that
+pub record ExplainsSome (page : List ℕ) (task : Task) (seen : Seen) (text : List ℕ) (more : List Token) (text' : List ℕ) : Type 0 where
+  pub some : (tokens : List Token) (long output : List ℕ) → Explained page task seen tokens long (output ++ text) → TookSome page task (tokens ++ more) long (output ++ text')
+
+-- ---- An input of which some was taken.
+
+-- of these tokens all but the bytes that are held were explained
+pub record Took (page : List ℕ) (s : Items) (all : List Token) (long output : List ℕ) : Type 0 where
+  pub tokens : List Token
+  pub all_are : all ≡ tokens ++ placed s.lines.items s.held.items
+  pub explained : Explained page s.explainer.task s.explainer.seen tokens long output
+
+-- whatever was taken before, these tokens and long lines were too
+pub record Takes (page : List ℕ) (s : Items) (text : List ℕ) (more : List Token) (longs : List ℕ) (t : Items) (text' : List ℕ) : Type 0 where
+  pub took : (all : List Token) (long output : List ℕ) → Took page s all long (output ++ text) → Took page t (all ++ more) (long ++ longs) (output ++ text')
+
+-- or some of all that was explained, and the rest of it is lost
+pub record TakesSome (page : List ℕ) (s : Items) (text : List ℕ) (more : List Token) (longs : List ℕ) (t : Items) (text' : List ℕ) : Type 0 where
+  pub some : (all : List Token) (long output : List ℕ) → Took page s all long (output ++ text) → TookSome page t.explainer.task (all ++ more) (long ++ longs) (output ++ text')
+
+-- or all of it was, with the foot after it
+pub record Finishes (page foot : List ℕ) (s : Items) (text text' : List ℕ) (first : Option RunFault) : Type 0 where
+  pub finished : (all : List Token) (long output : List ℕ) → Took page s all long (output ++ text) → Finished page foot s.explainer.task all long (output ++ text') first
+
+-- what the next line has
+abbrev pub next_tokens : Items → List ℕ → List Token
+next_tokens s line = line_tokens s.explainer.task.kind s.explainer.task.from (s.line + 1) line
 
 -- of bytes, where nothing was wrong
-pub record BytesStand (page : List ℕ) (task : Task) (lines held : List ℕ) (seen : Seen) (given told : List ℕ) : Type 0 where
-  pub form : task.from ≡ Bin
-  pub short : length held < 1023
-  pub fine : seen.first ≡ None
-  pub took : Took page task lines held seen (map (of_byte 0) given) [] told
+pub record BytesStand (page : List ℕ) (s : Items) (given output : List ℕ) : Type 0 where
+  pub form : s.explainer.task.from ≡ Bin
+  pub line : s.line ≡ 0
+  pub short : length s.held.items < 1023
+  pub fine : s.explainer.seen.first ≡ None
+  pub took : Took page s (map (of_byte 0) given) [] output
 
--- of lines, of which n came
-pub record LinesTook (page : List ℕ) (task : Task) (held_lines held : List ℕ) (seen : Seen) (n : ℕ) (lines : List (List ℕ)) (told : List ℕ) : Type 0 where
-  pub form : task.from ≡ Bin → ⊥
-  pub short : length held < 1023
-  pub json : task.from ≡ Json → held ≡ []
-  pub count : n ≡ length lines
+-- of these lines
+pub record LinesTook (page : List ℕ) (s : Items) (lines : List (List ℕ)) (output : List ℕ) : Type 0 where
+  pub form : s.explainer.task.from ≡ Bin → ⊥
+  pub short : length s.held.items < 1023
+  pub json : s.explainer.task.from ≡ Json → s.held.items ≡ []
+  pub count : s.line ≡ length lines
   pub are_lines : All IsLine lines
-  pub took : Took page task held_lines held seen (lines_tokens task.kind task.from 0 lines) (lines_long 0 lines) told
+  pub took : Took page s (lines_tokens s.explainer.task.kind s.explainer.task.from 0 lines) (lines_long 0 lines) output

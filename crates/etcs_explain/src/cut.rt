@@ -12,8 +12,8 @@ use etcs_tables::message_row;
 use etcs_text::Kind;
 use std::alloc::{AllocError, Global};
 
-/// Whether the item that these bytes are held of was cut short before those of a line: with them a bit of it is refused, and
-/// by themselves they begin an item. They are its rest in each other case.
+/// Whether the item that the held bytes begin was cut short before the bytes of a line: continued with them it has a refused
+/// bit, and by themselves they begin an item. In every other case they continue the item.
 pub(crate) fn is_cut(
     alloc: Global,
     kind: Kind,

@@ -10,10 +10,9 @@ ghost use Rattle.etcs_runs.specs.declared.form.Form.TheVariants as form;
 ghost use Rattle.etcs_reasons.specs.declared.account.End.{End};
 ghost use Rattle.etcs_reasons.specs.declared.account.Part.{Part};
 ghost use Rattle.etcs_reasons.specs.Accounts.{Accounts};
-ghost use Rattle.etcs_explain.specs.Inputs.{Token, of_line, placed};
+ghost use Rattle.etcs_explain.specs.Inputs.{of_line, placed};
 ghost use Rattle.etcs_explain.specs.Parts.{IsUncut, edge, long_fault, missing, opening, place};
-ghost use Rattle.etcs_explain.specs.Explained.{Explained};
-ghost use Rattle.etcs_explain.specs.Stands.{AddsOne, IsAfter, ItemPart, TookSome, Writes};
+ghost use Rattle.etcs_explain.specs.Stands.{AddsOne, Explains, ExplainsSome, IsAfter, ItemPart, Writes};
 
 use crate::hints::last_telegram;
 use crate::json::write_no_item;
@@ -132,7 +131,7 @@ impl Explainer {
         self.seen.items.saturating_add(1)
     }
 
-    /// Begins what the sheet has anew.
+    /// Empties the sheet.
     fn clear(&mut self)
         ensures task { self.new.task ≡ self.old.task }
         ensures seen { self.new.seen ≡ self.old.seen }
@@ -267,8 +266,8 @@ impl Explainer {
         ensures last { IsTrue is_last → IfOk result (λ n. n ≡ length bytes.now) }
         ensures uncut { is_last ≡ false → IsUncut self.old.seen.first → OnOk result (IsUncut self.new.seen.first) }
         ensures kept { (fault : RunFault) → self.old.seen.first ≡ Some fault → OnOk result (self.new.seen.first ≡ Some fault) }
-        ensures ok { (tokens : List Token) (long told : List ℕ) → Explained HEAD.now self.old.task self.old.seen tokens long (told ++ text.old.items) → IfOk result (λ n. Explained HEAD.now self.old.task self.new.seen (tokens ++ placed (take n lines.now) (take n bytes.now)) long (told ++ text.new.items)) }
-        ensures err { (tokens : List Token) (long told : List ℕ) → Explained HEAD.now self.old.task self.old.seen tokens long (told ++ text.old.items) → OnErr result (TookSome HEAD.now self.old.task (tokens ++ placed lines.now bytes.now) long (told ++ text.new.items)) }
+        ensures ok { IfOk result (λ n. Explains HEAD.now self.old.task self.old.seen text.old.items (placed (take n lines.now) (take n bytes.now)) self.new.seen text.new.items) }
+        ensures err { OnErr result (ExplainsSome HEAD.now self.old.task self.old.seen text.old.items (placed lines.now bytes.now) text.new.items) }
     {
         let mut at = 0;
         while at < bytes.len() {

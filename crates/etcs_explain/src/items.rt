@@ -1,15 +1,9 @@
 //! The items of bytes and of lines.
 
-ghost use Rattle.std.specs.Prelude.{◌≡◌, ◌+◌, ◌*◌, ◌^◌, ◌<◌, ◌≤◌, ◌++◌, ◌∷◌, ℕ, List, Err, Ok, [], alloc_error, Some, false, drop, length, map, ⊤, IfErr, IfOk, IsTrue, OnErr, OnOk};
+ghost use Rattle.std.specs.Prelude.{◌≡◌, ◌+◌, ◌*◌, ◌^◌, ◌<◌, ◌≤◌, ◌∷◌, ℕ, List, Err, Ok, [], alloc_error, Some, false, drop, length, map, IfErr, IfOk, IsTrue, OnErr, OnOk};
 ghost use Rattle.etcs_runs.specs.declared.fault.RunFault.{RunFault};
 ghost use Rattle.etcs_runs.specs.declared.form.Form.TheVariants as form;
 ghost use Rattle.etcs_reasons.specs.declared.page.TheConstants.{FOOT, HEAD};
-ghost use Rattle.etcs_explain.specs.Inputs.{Token, of_byte, of_line, digits_say, hex_tokens, line_long, line_tokens, short_tokens};
-ghost use Rattle.etcs_explain.specs.Parts.{IsUncut};
-ghost use Rattle.etcs_explain.specs.Cuts.{IsCut};
-ghost use Rattle.etcs_explain.specs.Explained.{Finished, explanations};
-ghost use Rattle.etcs_explain.specs.Stands.{BytesStand, LinesTook, Took, TookSome};
-ghost use Rattle.etcs_explain.specs.laws.StandLaws.{bytes_tell, explanations_sound, lines_tell, long_tell};
 
 use crate::cut::is_cut;
 use crate::explainer::Explainer;
@@ -27,6 +21,7 @@ pub(crate) struct Items {
     held: Vec<u8>,
     lines: Vec<u64>,
     line: u64,
+    ghost even: { length lines.items ≡ length held.items },
 }
 
 /// Drops the first ones.
@@ -51,10 +46,15 @@ fn or_memory<T>(done: Result<T, AllocError>) -> Result<T, RunFault>
 }
 
 impl Items {
+    ghost use Rattle.etcs_explain.specs.Inputs.{of_byte, of_line, digits_say, hex_tokens, line_long, short_tokens};
+    ghost use Rattle.etcs_explain.specs.Parts.{IsUncut};
+    ghost use Rattle.etcs_explain.specs.Cuts.{IsCut};
+    ghost use Rattle.etcs_explain.specs.Stands.{BytesStand, Finishes, LinesTook, Takes, TakesSome, next_tokens};
+
     /// Nothing has come yet.
     pub(crate) fn new(alloc: Global, task: Task) -> Items
-        ensures bytes { task.from ≡ form.Bin → BytesStand HEAD.now task result.lines.items result.held.items result.explainer.seen [] [] }
-        ensures lines { (task.from ≡ form.Bin → ⊥) → LinesTook HEAD.now task result.lines.items result.held.items result.explainer.seen result.line [] [] }
+        ensures bytes { task.from ≡ form.Bin → BytesStand HEAD.now result [] [] }
+        ensures lines { (task.from ≡ form.Bin → ⊥) → LinesTook HEAD.now result [] [] }
         ensures task { result.explainer.task ≡ task }
         ensures line { result.line ≡ 0 }
     {
@@ -68,28 +68,29 @@ impl Items {
 
     /// Holds bytes of the last line.
     fn add(&mut self, bytes: &[u8]) -> Result<(), AllocError>
-        requires even { length self.old.lines.items ≡ length self.old.held.items }
         ensures same { (self.new.explainer.task ≡ self.old.explainer.task) × (self.new.line ≡ self.old.line) }
         ensures seen { self.new.explainer.seen ≡ self.old.explainer.seen }
-        ensures even { OnOk result (length self.new.lines.items ≡ length self.new.held.items) }
-        ensures ok { (all : List Token) (long told : List ℕ) → Took HEAD.now self.old.explainer.task self.old.lines.items self.old.held.items self.old.explainer.seen all long told → OnOk result (Took HEAD.now self.old.explainer.task self.new.lines.items self.new.held.items self.new.explainer.seen (all ++ map (of_byte self.old.line) bytes.now) long told) }
+        ensures ok { OnOk result ((text : List ℕ) → Takes HEAD.now self.old text (map (of_byte self.old.line) bytes.now) [] self.new text) }
     {
         self.held.extend_from_slice(bytes)?;
-        self.lines.resize(self.held.len(), self.line)?;
-        Ok(())
+        match self.lines.resize(self.held.len(), self.line) {
+            Ok(()) => Ok(()),
+            Err(refused) => {
+                self.held.truncate(self.lines.len());
+                Err(refused)
+            }
+        }
     }
 
     /// Explains the whole items that are held; all that is held where no more of it comes.
     fn pass(&mut self, is_last: bool, text: &mut Vec<u8>) -> Result<(), AllocError>
-        requires even { length self.old.lines.items ≡ length self.old.held.items }
         ensures same { (self.new.explainer.task ≡ self.old.explainer.task) × (self.new.line ≡ self.old.line) }
-        ensures even { OnOk result (length self.new.lines.items ≡ length self.new.held.items) }
         ensures short { OnOk result (length self.new.held.items < 1023) }
         ensures last { IsTrue is_last → OnOk result (self.new.held.items ≡ []) }
         ensures uncut { is_last ≡ false → IsUncut self.old.explainer.seen.first → OnOk result (IsUncut self.new.explainer.seen.first) }
         ensures kept { (fault : RunFault) → self.old.explainer.seen.first ≡ Some fault → OnOk result (self.new.explainer.seen.first ≡ Some fault) }
-        ensures ok { (all : List Token) (long told : List ℕ) → Took HEAD.now self.old.explainer.task self.old.lines.items self.old.held.items self.old.explainer.seen all long (told ++ text.old.items) → OnOk result (Took HEAD.now self.old.explainer.task self.new.lines.items self.new.held.items self.new.explainer.seen all long (told ++ text.new.items)) }
-        ensures err { (all : List Token) (long told : List ℕ) → Took HEAD.now self.old.explainer.task self.old.lines.items self.old.held.items self.old.explainer.seen all long (told ++ text.old.items) → OnErr result (TookSome HEAD.now self.old.explainer.task all long (told ++ text.new.items)) }
+        ensures ok { OnOk result (Takes HEAD.now self.old text.old.items [] [] self.new text.new.items) }
+        ensures err { OnErr result (TakesSome HEAD.now self.old text.old.items [] [] self.new text.new.items) }
     {
         let count = self
             .explainer
@@ -101,12 +102,10 @@ impl Items {
 
     /// Explains what is held, where it was cut short before these bytes of the last line.
     fn end_cut(&mut self, bytes: &[u8], text: &mut Vec<u8>) -> Result<(), AllocError>
-        requires even { length self.old.lines.items ≡ length self.old.held.items }
         ensures same { (self.new.explainer.task ≡ self.old.explainer.task) × (self.new.line ≡ self.old.line) }
-        ensures even { OnOk result (length self.new.lines.items ≡ length self.new.held.items) }
         ensures rest { (IsCut self.old.explainer.task.kind self.old.held.items bytes.now → ⊥) → OnOk result ((self.new.held.items ≡ self.old.held.items) × (text.new.items ≡ text.old.items)) }
-        ensures ok { (all : List Token) (long told : List ℕ) → Took HEAD.now self.old.explainer.task self.old.lines.items self.old.held.items self.old.explainer.seen all long (told ++ text.old.items) → OnOk result (Took HEAD.now self.old.explainer.task self.new.lines.items self.new.held.items self.new.explainer.seen all long (told ++ text.new.items)) }
-        ensures err { (all : List Token) (long told : List ℕ) → Took HEAD.now self.old.explainer.task self.old.lines.items self.old.held.items self.old.explainer.seen all long (told ++ text.old.items) → OnErr result (TookSome HEAD.now self.old.explainer.task all long (told ++ text.new.items)) }
+        ensures ok { OnOk result (Takes HEAD.now self.old text.old.items [] [] self.new text.new.items) }
+        ensures err { OnErr result (TakesSome HEAD.now self.old text.old.items [] [] self.new text.new.items) }
     {
         if self.held.is_empty() {
             return Ok(());
@@ -120,27 +119,23 @@ impl Items {
 
     /// Takes the bytes of the last line, which are the rest of the item that is held or begin another.
     fn take(&mut self, bytes: &[u8], text: &mut Vec<u8>) -> Result<(), AllocError>
-        requires even { length self.old.lines.items ≡ length self.old.held.items }
         ensures same { (self.new.explainer.task ≡ self.old.explainer.task) × (self.new.line ≡ self.old.line) }
-        ensures even { OnOk result (length self.new.lines.items ≡ length self.new.held.items) }
         ensures short { OnOk result (length self.new.held.items < 1023) }
-        ensures ok { (all : List Token) (long told : List ℕ) → Took HEAD.now self.old.explainer.task self.old.lines.items self.old.held.items self.old.explainer.seen all long (told ++ text.old.items) → OnOk result (Took HEAD.now self.old.explainer.task self.new.lines.items self.new.held.items self.new.explainer.seen (all ++ map (of_byte self.old.line) bytes.now) long (told ++ text.new.items)) }
-        ensures err { (all : List Token) (long told : List ℕ) → Took HEAD.now self.old.explainer.task self.old.lines.items self.old.held.items self.old.explainer.seen all long (told ++ text.old.items) → OnErr result (TookSome HEAD.now self.old.explainer.task (all ++ map (of_byte self.old.line) bytes.now) long (told ++ text.new.items)) }
+        ensures ok { OnOk result (Takes HEAD.now self.old text.old.items (map (of_byte self.old.line) bytes.now) [] self.new text.new.items) }
+        ensures err { OnErr result (TakesSome HEAD.now self.old text.old.items (map (of_byte self.old.line) bytes.now) [] self.new text.new.items) }
     {
         self.end_cut(bytes, text)?;
         self.add(bytes)?;
         self.pass(false, text)
     }
 
-    /// Takes what the digits of the last line say, which are these bytes: their own bytes, or where they are the bits of a
-    /// telegram those of that.
+    /// Takes the bytes that the digits of the last line stand for; or, if the digits are the bits of a telegram, the bytes of
+    /// these bits.
     fn take_digits(&mut self, bytes: &[u8], text: &mut Vec<u8>) -> Result<(), AllocError>
-        requires even { length self.old.lines.items ≡ length self.old.held.items }
         ensures same { (self.new.explainer.task ≡ self.old.explainer.task) × (self.new.line ≡ self.old.line) }
-        ensures even { OnOk result (length self.new.lines.items ≡ length self.new.held.items) }
         ensures short { OnOk result (length self.new.held.items < 1023) }
-        ensures ok { (all : List Token) (long told : List ℕ) → Took HEAD.now self.old.explainer.task self.old.lines.items self.old.held.items self.old.explainer.seen all long (told ++ text.old.items) → OnOk result (Took HEAD.now self.old.explainer.task self.new.lines.items self.new.held.items self.new.explainer.seen (all ++ map (of_byte self.old.line) (digits_say self.old.explainer.task.kind bytes.now)) long (told ++ text.new.items)) }
-        ensures err { (all : List Token) (long told : List ℕ) → Took HEAD.now self.old.explainer.task self.old.lines.items self.old.held.items self.old.explainer.seen all long (told ++ text.old.items) → OnErr result (TookSome HEAD.now self.old.explainer.task (all ++ map (of_byte self.old.line) (digits_say self.old.explainer.task.kind bytes.now)) long (told ++ text.new.items)) }
+        ensures ok { OnOk result (Takes HEAD.now self.old text.old.items (map (of_byte self.old.line) (digits_say self.old.explainer.task.kind bytes.now)) [] self.new text.new.items) }
+        ensures err { OnErr result (TakesSome HEAD.now self.old text.old.items (map (of_byte self.old.line) (digits_say self.old.explainer.task.kind bytes.now)) [] self.new text.new.items) }
     {
         if are_bits(self.explainer.task.kind, bytes) {
             let packed = packed(bytes);
@@ -151,14 +146,12 @@ impl Items {
 
     /// Takes the last line, of hexadecimal.
     fn hex_line(&mut self, line: &[u8], text: &mut Vec<u8>) -> Result<(), AllocError>
-        requires even { length self.old.lines.items ≡ length self.old.held.items }
         requires lines { self.old.explainer.task.from ≡ form.Json → ⊥ }
         requires short { length self.old.held.items < 1023 }
         ensures same { (self.new.explainer.task ≡ self.old.explainer.task) × (self.new.line ≡ self.old.line) }
-        ensures even { OnOk result (length self.new.lines.items ≡ length self.new.held.items) }
         ensures short { OnOk result (length self.new.held.items < 1023) }
-        ensures ok { (all : List Token) (long told : List ℕ) → Took HEAD.now self.old.explainer.task self.old.lines.items self.old.held.items self.old.explainer.seen all long (told ++ text.old.items) → OnOk result (Took HEAD.now self.old.explainer.task self.new.lines.items self.new.held.items self.new.explainer.seen (all ++ hex_tokens self.old.explainer.task.kind self.old.line line.now) long (told ++ text.new.items)) }
-        ensures err { (all : List Token) (long told : List ℕ) → Took HEAD.now self.old.explainer.task self.old.lines.items self.old.held.items self.old.explainer.seen all long (told ++ text.old.items) → OnErr result (TookSome HEAD.now self.old.explainer.task (all ++ hex_tokens self.old.explainer.task.kind self.old.line line.now) long (told ++ text.new.items)) }
+        ensures ok { OnOk result (Takes HEAD.now self.old text.old.items (hex_tokens self.old.explainer.task.kind self.old.line line.now) [] self.new text.new.items) }
+        ensures err { OnErr result (TakesSome HEAD.now self.old text.old.items (hex_tokens self.old.explainer.task.kind self.old.line line.now) [] self.new text.new.items) }
     {
         let mut buffer = Vec::new(self.explainer.alloc);
         buffer.resize(line.len() / 2 + 1, 0)?;
@@ -173,14 +166,12 @@ impl Items {
         text: &mut Vec<u8>,
     ) -> Result<(), AllocError>
         requires room { length line.now ≤ 2 * length buffer.old }
-        requires even { length self.old.lines.items ≡ length self.old.held.items }
         requires lines { self.old.explainer.task.from ≡ form.Json → ⊥ }
         requires short { length self.old.held.items < 1023 }
         ensures same { (self.new.explainer.task ≡ self.old.explainer.task) × (self.new.line ≡ self.old.line) }
-        ensures even { OnOk result (length self.new.lines.items ≡ length self.new.held.items) }
         ensures short { OnOk result (length self.new.held.items < 1023) }
-        ensures ok { (all : List Token) (long told : List ℕ) → Took HEAD.now self.old.explainer.task self.old.lines.items self.old.held.items self.old.explainer.seen all long (told ++ text.old.items) → OnOk result (Took HEAD.now self.old.explainer.task self.new.lines.items self.new.held.items self.new.explainer.seen (all ++ hex_tokens self.old.explainer.task.kind self.old.line line.now) long (told ++ text.new.items)) }
-        ensures err { (all : List Token) (long told : List ℕ) → Took HEAD.now self.old.explainer.task self.old.lines.items self.old.held.items self.old.explainer.seen all long (told ++ text.old.items) → OnErr result (TookSome HEAD.now self.old.explainer.task (all ++ hex_tokens self.old.explainer.task.kind self.old.line line.now) long (told ++ text.new.items)) }
+        ensures ok { OnOk result (Takes HEAD.now self.old text.old.items (hex_tokens self.old.explainer.task.kind self.old.line line.now) [] self.new text.new.items) }
+        ensures err { OnErr result (TakesSome HEAD.now self.old text.old.items (hex_tokens self.old.explainer.task.kind self.old.line line.now) [] self.new text.new.items) }
     {
         match line_bytes(line, buffer) {
             Ok(count) => {
@@ -197,13 +188,11 @@ impl Items {
 
     /// Says why the last line says no bytes, after what is held.
     fn bad_hex(&mut self, line: &[u8], why: NoBytes, text: &mut Vec<u8>) -> Result<(), AllocError>
-        requires even { length self.old.lines.items ≡ length self.old.held.items }
         requires lines { self.old.explainer.task.from ≡ form.Json → ⊥ }
         ensures same { (self.new.explainer.task ≡ self.old.explainer.task) × (self.new.line ≡ self.old.line) }
-        ensures even { OnOk result (length self.new.lines.items ≡ length self.new.held.items) }
         ensures short { OnOk result (length self.new.held.items < 1023) }
-        ensures ok { (all : List Token) (long told : List ℕ) → Took HEAD.now self.old.explainer.task self.old.lines.items self.old.held.items self.old.explainer.seen all long (told ++ text.old.items) → OnOk result (Took HEAD.now self.old.explainer.task self.new.lines.items self.new.held.items self.new.explainer.seen (all ++ of_line self.old.line line.now ∷ []) long (told ++ text.new.items)) }
-        ensures err { (all : List Token) (long told : List ℕ) → Took HEAD.now self.old.explainer.task self.old.lines.items self.old.held.items self.old.explainer.seen all long (told ++ text.old.items) → OnErr result (TookSome HEAD.now self.old.explainer.task (all ++ of_line self.old.line line.now ∷ []) long (told ++ text.new.items)) }
+        ensures ok { OnOk result (Takes HEAD.now self.old text.old.items (of_line self.old.line line.now ∷ []) [] self.new text.new.items) }
+        ensures err { OnErr result (TakesSome HEAD.now self.old text.old.items (of_line self.old.line line.now ∷ []) [] self.new text.new.items) }
     {
         self.pass(true, text)?;
         self.explainer.bad_hex(line, self.line, why, text)?;
@@ -212,14 +201,13 @@ impl Items {
 
     /// Takes the last line, which isn't too long.
     fn short_line(&mut self, line: &[u8], text: &mut Vec<u8>) -> Result<(), AllocError>
-        requires even { length self.old.lines.items ≡ length self.old.held.items }
         requires short { length self.old.held.items < 1023 }
         requires json { self.old.explainer.task.from ≡ form.Json → self.old.held.items ≡ [] }
         ensures same { (self.new.explainer.task ≡ self.old.explainer.task) × (self.new.line ≡ self.old.line) }
         ensures short { OnOk result (length self.new.held.items < 1023) }
         ensures json { self.old.explainer.task.from ≡ form.Json → OnOk result (self.new.held.items ≡ []) }
-        ensures ok { (all : List Token) (long told : List ℕ) → Took HEAD.now self.old.explainer.task self.old.lines.items self.old.held.items self.old.explainer.seen all long (told ++ text.old.items) → OnOk result (Took HEAD.now self.old.explainer.task self.new.lines.items self.new.held.items self.new.explainer.seen (all ++ short_tokens self.old.explainer.task.kind self.old.explainer.task.from self.old.line line.now) long (told ++ text.new.items)) }
-        ensures err { (all : List Token) (long told : List ℕ) → Took HEAD.now self.old.explainer.task self.old.lines.items self.old.held.items self.old.explainer.seen all long (told ++ text.old.items) → OnErr result (TookSome HEAD.now self.old.explainer.task (all ++ short_tokens self.old.explainer.task.kind self.old.explainer.task.from self.old.line line.now) long (told ++ text.new.items)) }
+        ensures ok { OnOk result (Takes HEAD.now self.old text.old.items (short_tokens self.old.explainer.task.kind self.old.explainer.task.from self.old.line line.now) [] self.new text.new.items) }
+        ensures err { OnErr result (TakesSome HEAD.now self.old text.old.items (short_tokens self.old.explainer.task.kind self.old.explainer.task.from self.old.line line.now) [] self.new text.new.items) }
     {
         match self.explainer.task.from {
             Form::Json if line.is_empty() => Ok(()),
@@ -234,7 +222,6 @@ impl Items {
 
     /// Takes the next line.
     fn handle(&mut self, line: &[u8], text: &mut Vec<u8>) -> Result<(), AllocError>
-        requires even { length self.old.lines.items ≡ length self.old.held.items }
         requires few { self.old.line < 2 ^ 62 }
         requires short { length self.old.held.items < 1023 }
         requires json { self.old.explainer.task.from ≡ form.Json → self.old.held.items ≡ [] }
@@ -242,8 +229,8 @@ impl Items {
         ensures line { self.new.line ≡ self.old.line + 1 }
         ensures short { OnOk result (length self.new.held.items < 1023) }
         ensures json { self.old.explainer.task.from ≡ form.Json → OnOk result (self.new.held.items ≡ []) }
-        ensures ok { (all : List Token) (long told : List ℕ) → Took HEAD.now self.old.explainer.task self.old.lines.items self.old.held.items self.old.explainer.seen all long (told ++ text.old.items) → OnOk result (Took HEAD.now self.old.explainer.task self.new.lines.items self.new.held.items self.new.explainer.seen (all ++ line_tokens self.old.explainer.task.kind self.old.explainer.task.from (self.old.line + 1) line.now) (long ++ line_long (self.old.line + 1) line.now) (told ++ text.new.items)) }
-        ensures err { (all : List Token) (long told : List ℕ) → Took HEAD.now self.old.explainer.task self.old.lines.items self.old.held.items self.old.explainer.seen all long (told ++ text.old.items) → OnErr result (TookSome HEAD.now self.old.explainer.task (all ++ line_tokens self.old.explainer.task.kind self.old.explainer.task.from (self.old.line + 1) line.now) (long ++ line_long (self.old.line + 1) line.now) (told ++ text.new.items)) }
+        ensures ok { OnOk result (Takes HEAD.now self.old text.old.items (next_tokens self.old line.now) (line_long (self.old.line + 1) line.now) self.new text.new.items) }
+        ensures err { OnErr result (TakesSome HEAD.now self.old text.old.items (next_tokens self.old line.now) (line_long (self.old.line + 1) line.now) self.new text.new.items) }
     {
         self.line += 1;
         if line.len() > MOST_LINE {
@@ -255,11 +242,10 @@ impl Items {
 
     /// Explains what is held, of which no more comes, and writes the foot; says what was wrong first.
     fn finish(&mut self, text: &mut Vec<u8>) -> Result<Option<RunFault>, AllocError>
-        requires even { length self.old.lines.items ≡ length self.old.held.items }
         ensures task { self.new.explainer.task ≡ self.old.explainer.task }
         ensures kept { (fault : RunFault) → self.old.explainer.seen.first ≡ Some fault → IfOk result (λ first. first ≡ Some fault) }
-        ensures ok { (all : List Token) (long told : List ℕ) → Took HEAD.now self.old.explainer.task self.old.lines.items self.old.held.items self.old.explainer.seen all long (told ++ text.old.items) → IfOk result (λ first. Finished HEAD.now FOOT.now self.old.explainer.task all long (told ++ text.new.items) first) }
-        ensures err { (all : List Token) (long told : List ℕ) → Took HEAD.now self.old.explainer.task self.old.lines.items self.old.held.items self.old.explainer.seen all long (told ++ text.old.items) → OnErr result (TookSome HEAD.now self.old.explainer.task all long (told ++ text.new.items)) }
+        ensures ok { IfOk result (λ first. Finishes HEAD.now FOOT.now self.old text.old.items text.new.items first) }
+        ensures err { OnErr result (TakesSome HEAD.now self.old text.old.items [] [] self.new text.new.items) }
     {
         self.pass(true, text)?;
         self.explainer.end(text)?;
@@ -268,6 +254,12 @@ impl Items {
 }
 
 impl Engine for Items {
+    ghost use Rattle.std.specs.Prelude.{⊤};
+    ghost use Rattle.etcs_reasons.specs.declared.page.TheConstants.{FOOT, HEAD};
+    ghost use Rattle.etcs_explain.specs.Explained.{explanations};
+    ghost use Rattle.etcs_explain.specs.Stands.{BytesStand};
+    ghost use Rattle.etcs_explain.specs.laws.StandLaws.{bytes_output, explanations_sound};
+
     type Job = Task;
 
     type Tally = Option<RunFault>;
@@ -276,9 +268,9 @@ impl Engine for Items {
 
     ghost promises = { λ task. explanations HEAD.now FOOT.now task };
 
-    ghost stands = { λ s given told. (s.line ≡ 0) × BytesStand HEAD.now s.explainer.task s.lines.items s.held.items s.explainer.seen given told };
+    ghost stands = { BytesStand HEAD.now };
 
-    ghost said = { λ s told. ⊤ };
+    ghost said = { λ s output. ⊤ };
 
     fn wanted(&self) -> usize {
         MOST_READ
@@ -302,10 +294,16 @@ impl Engine for Items {
 
     ghost sound = { λ s. explanations_sound HEAD.now FOOT.now s.explainer.task };
 
-    ghost stands_tells = { λ s given told h. bytes_tell HEAD.now s.explainer.task s.lines.items s.held.items s.explainer.seen given told h.1 };
+    ghost stands_outputs = { λ s given output h. bytes_output HEAD.now s given output h };
 }
 
 impl LineHandler for Items {
+    ghost use Rattle.std.specs.Prelude.{⊤};
+    ghost use Rattle.etcs_reasons.specs.declared.page.TheConstants.{FOOT, HEAD};
+    ghost use Rattle.etcs_explain.specs.Explained.{explanations};
+    ghost use Rattle.etcs_explain.specs.Stands.{LinesTook};
+    ghost use Rattle.etcs_explain.specs.laws.StandLaws.{explanations_sound, lines_output, long_output};
+
     type Job = Task;
 
     type Tally = Option<RunFault>;
@@ -316,9 +314,9 @@ impl LineHandler for Items {
 
     ghost most = { λ task. 1048576 };
 
-    ghost took = { λ s lines told. LinesTook HEAD.now s.explainer.task s.lines.items s.held.items s.explainer.seen s.line lines told };
+    ghost took = { LinesTook HEAD.now };
 
-    ghost said = { λ s told. ⊤ };
+    ghost said = { λ s output. ⊤ };
 
     fn most(&self) -> usize {
         MOST_LINE
@@ -354,9 +352,9 @@ impl LineHandler for Items {
 
     ghost sound = { λ s. explanations_sound HEAD.now FOOT.now s.explainer.task };
 
-    ghost took_tells = { λ s lines begun told h l. lines_tell HEAD.now s.explainer.task s.lines.items s.held.items s.explainer.seen s.line lines begun told h l };
+    ghost took_outputs = { λ s lines begun output h l. lines_output HEAD.now s lines begun output h l };
 
-    ghost long_tells = { λ s lines part told h l m. long_tell HEAD.now s.explainer.task s.lines.items s.held.items s.explainer.seen s.line lines part told h l m };
+    ghost long_outputs = { λ s lines part output h l m. long_output HEAD.now s lines part output h l m };
 
-    ghost took_said = { λ s lines told h. tt };
+    ghost took_said = { λ s lines output h. tt };
 }

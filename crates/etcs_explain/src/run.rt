@@ -12,12 +12,12 @@ use etcs_runs::inner::{Lines, run_engine};
 use etcs_runs::{Form, RunFault, Sink, Source};
 use std::alloc::Global;
 
-/// How many reads a run has at most, which are more than can be made.
+/// The most reads that a run may take: more than any run makes.
 const MOST_READS: u64 = 1 << 49;
 
 /// Explains the items of an input, one after another: each variable with its bits, its number and what it stands for, and
-/// of what is refused everything before the refused bit, and why. Of JSON each line is explained by itself. A line of
-/// hexadecimal says the bytes that `line_bytes` finds in it, and the item that a line before began may continue with them;
+/// for what is refused, everything before the refused bit, and why. Each line of JSON is explained by itself. A line of
+/// hexadecimal has the bytes that `line_bytes` finds in it, with which an item of an earlier line may continue. In an input
 /// of bytes a refused item is the last.
 ///
 /// # Errors
@@ -25,8 +25,8 @@ const MOST_READS: u64 = 1 << 49;
 /// - [`RunFault::Refused`], [`RunFault::Truncated`], [`RunFault::BadHex`] and [`RunFault::BadJson`] say what was wrong
 ///   first, of all that was explained;
 /// - [`RunFault::Read`] and [`RunFault::Write`] of a call that failed, the latter with how many bytes of the text the sink
-///   took, at most 2^64 - 1; [`RunFault::Endless`] of 2^49 reads; [`RunFault::Memory`] of a refused allocation. They end
-///   the run, after the texts of what was explained before.
+///   took, at most 2^64 - 1; [`RunFault::Endless`] if the input isn't at its end after 2^49 reads;
+///   [`RunFault::Memory`] if an allocation is refused. They end the run, after the texts of what was explained before.
 pub fn explain<S: Source, W: Sink>(
     alloc: Global,
     task: Task,

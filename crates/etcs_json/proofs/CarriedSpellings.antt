@@ -39,7 +39,7 @@ use Rattle.etcs_text.specs.declared.entry.Kind.TheVariants as kind_is
 use Rattle.etcs_text.specs.Entries.{EntryValue, of_telegram, of_message, EntryReads, entry_kind}
 use Rattle.etcs_json_trees.specs.TreeReading.{ArePacketTrees}
 use Rattle.etcs_json.specs.TreeReading.{IsTreeOf}
-use Rattle.etcs_json_trees.specs.Loose.{unnamed}
+use Rattle.etcs_json_trees.specs.Loose.{Renames, unnamed}
 use Rattle.etcs_json.specs.Loose.{HasLength, IsLoose, LooseSpells, StandsFor, TreeSays, packets_of, unnamed_entry, unnamed_message, unnamed_telegram, way_of}
 use Rattle.etcs_json_trees.proofs.CarriedPackets.{same_bits}
 use Rattle.etcs_json.proofs.CarriedItems.{headed, message_long, telegram_long}
@@ -97,10 +97,6 @@ five a p c f z =
 
 three : (a p z : Reading) → spelled (a ++ p ++ z) ≡ spelled a ++ spelled p ++ spelled z
 three a p z = spelled-append (a ++ p) z ∙ ap (λ (b : List Bool). b ++ spelled z) (spelled-append a p)
-
--- the packets ps, whose trees are ds, have their numbers put in
-abbrev pub Renames : ℕ → List PacketValue → Items → List Bool → List Bool → Type 0
-Renames at ws ds old new = (vs : List PacketValue) (front behind : List Bool) → ws ≡ map (unnamed ToTrain) vs → All IsPacket (map (unnamed ToTrain) vs) → ArePacketTrees ToTrain vs ds → length front ≡ at → old ≡ front ++ spelled (packets_reading (map (unnamed ToTrain) vs)) ++ behind → new ≡ front ++ spelled (packets_reading vs) ++ behind
 
 -- ---- A telegram.
 

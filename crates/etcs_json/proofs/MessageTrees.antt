@@ -1,7 +1,7 @@
 -- Messages and their trees.
-use Rattle.std.proofs.Common.{◌≡◌, ℕ, ◌^◌, ◌≤◌, ◌<◌, Bool, List, [], length, map, Option, None, Some, Result, Ok, Err, refl, sym, ap, subst, ◌∙◌, arith}
-use Rattle.std.specs.Prelude.{All, IfOk, IfSome, IsSome, ◌↔◌, option_map}
-use Rattle.serde_json.specs.Data.{Data, array, string, Items}
+use Rattle.std.proofs.Common.{◌≡◌, ℕ, ◌^◌, ◌≤◌, ◌<◌, Bool, List, [], length, map, Option, None, Some, refl, sym, ap, subst, ◌∙◌, arith}
+use Rattle.std.specs.Prelude.{All, IfSome, ◌↔◌, option_map}
+use Rattle.serde_json.specs.Data.{Data, array, Items}
 use Rattle.etcs_vars.specs.declared.var.Var.TheVariants.{L_MESSAGE}
 use Rattle.etcs_vars.specs.Reading.{Reading, numbers}
 use Rattle.etcs_vars.proofs.Prefixes.{admits_parts}
@@ -23,11 +23,11 @@ use Rattle.etcs_messages.proofs.Faults.{carried_packets, no_typed_fault}
 use Rattle.etcs_messages.proofs.Fronts.{row_fields, fields_row}
 use Rattle.etcs_messages.proofs.OneReading.{message_reads}
 use Rattle.etcs_text.specs.Entries.{of_message, message_kind}
-use Rattle.etcs_text.specs.Show.{way_word}
 use Rattle.etcs_packet_text.specs.Trees.{bits_tree}
-use Rattle.etcs_json_trees.specs.Loose.{unnamed}
-use Rattle.etcs_json.specs.Loose.{HasStandIns, unnamed_message}
-use Rattle.etcs_json_trees.specs.TreeReading.{ArePairTrees, ArePacketTrees, plain}
+use Rattle.etcs_json_trees.specs.Loose.{ListHasOnly, ListHasStandIns, unnamed}
+use Rattle.etcs_json.specs.Loose.{HasStandIns, IfMessage, IsMessageOf, unnamed_message}
+use Rattle.etcs_json.specs.TreeParts.{typed_value}
+use Rattle.etcs_json_trees.specs.TreeReading.{ArePairTrees, ArePacketTrees, IsPairList, plain}
 use Rattle.etcs_json.specs.TreeReading.{IsMessageTree, kept_message_tree, message_tree}
 use Rattle.etcs_json_trees.proofs.PacketTrees.{SaysNumbers, OnlyNumbers}
 
@@ -66,109 +66,86 @@ module _ {H B P : Type 0} (way : Way) (k : HeadOf H) (o : OwnOf B) (form : P →
       }
 
   -- a message of such parts
-  pub typed_message_some : (x y w u v : Data) (c : Option (Content H B P)) (nid : ℕ) (head : H) (body : B) (ps : List P) (padding : List Bool) → IsOwn o body × (o.nid body ≡ nid) → w ≡ plain nid → ((fs : Items) × (x ≡ array fs) × ArePairTrees (o.reading body) fs) → IsHead k head × ReadsFields (head_row way) (k.reading head) × (hs : Items) × (y ≡ array hs) × ArePairTrees (k.reading head) hs → ((vs : List PacketValue) × (ds : Items) × (values_of form ps ≡ map (unnamed way) vs) × (u ≡ array ds) × ArePacketTrees way vs ds) → v ≡ bits_tree padding → IfSome c (λ m. message_value way k o form m ≡ typed_message (o.nid body) (k.reading head) (o.reading body) (values_of form ps) padding)
-      → IfSome c (λ m. (n : MessageValue) × (message_value way k o form m ≡ unnamed_message way n) × IsMessageTree way n (message_tree x y (string (way_word way)) w u v))
+  pub typed_message_some : (x y w u v : Data) (c : Option (Content H B P)) (nid : ℕ) (head : H) (body : B) (ps : List P) (padding : List Bool) → IsOwn o body × (o.nid body ≡ nid) → w ≡ plain nid → IsPairList (o.reading body) x → IsHead k head × ReadsFields (head_row way) (k.reading head) × IsPairList (k.reading head) y → ListHasStandIns way u (values_of form ps) → v ≡ bits_tree padding → IfSome c (λ m. message_value way k o form m ≡ typed_value k o form head body ps padding)
+      → IfSome c (λ m. IsMessageOf way (message_tree way x y w u v) (message_value way k o form m))
   typed_message_some x y w u v None nid head body ps padding own number fields header list padded is = tt
-  typed_message_some x y w u v (Some m) nid head body ps padding own number (fs, fields, ft) (is_head, reads, hs, header, ht) (vs, ds, named, list, pt) padded is =
+  typed_message_some x y w u v (Some m) nid head body ps padding own number (fs, fields, ft) (is_head, reads, (hs, header, ht)) (vs, ds, named, list, pt) padded is =
       let same : message_value way k o form m ≡ unnamed_message way (typed_message nid (k.reading head) (o.reading body) vs padding) = is ∙ (λ i. typed_message (own.1 i) (k.reading head) (o.reading body) (named i) padding) in
       (typed_message nid (k.reading head) (o.reading body) vs padding, same, (fs, hs, ds, rw (fields, header, number, list, padded) refl, ft, ht, pt))
 
 -- ---- Their trees.
 
 -- what a tree with these members says
-pub record TypedSays (way : Way) (m : MessageValue) (x y z w u v : Data) : Type 0 where
+pub record TypedSays (way : Way) (m : MessageValue) (x y w u v : Data) : Type 0 where
   pub nid : ℕ
   pub head : Reading
   pub body : Reading
   pub packets : List PacketValue
   pub padding : List Bool
-  pub pairs : Items
-  pub heads : Items
   pub trees : Items
   pub is : m ≡ typed_message nid head body packets padding
-  pub fields_is : x ≡ array pairs
-  pub header_is : y ≡ array heads
-  pub kind_is : z ≡ string (way_word way)
   pub nid_is : w ≡ plain nid
   pub packets_is : u ≡ array trees
   pub padding_is : v ≡ bits_tree padding
-  pub own : ArePairTrees body pairs
-  pub header : ArePairTrees head heads
+  pub own : IsPairList body x
+  pub header : IsPairList head y
   pub all : ArePacketTrees way packets trees
 
-pub typed_message_says : (way : Way) (m : MessageValue) (x y z w u v : Data) → IsMessageTree way m (message_tree x y z w u v) → TypedSays way m x y z w u v
-typed_message_says way (typed_message nid head body vs padding) x y z w u v (fs, hs, ps, e, f, h, p) = record {
+pub typed_message_says : (way : Way) (m : MessageValue) (x y w u v : Data) → IsMessageTree way m (message_tree way x y w u v) → TypedSays way m x y w u v
+typed_message_says way (typed_message nid head body vs padding) x y w u v (fs, hs, ps, e, f, h, p) = record {
   nid = nid;
   head = head;
   body = body;
   packets = vs;
   padding = padding;
-  pairs = fs;
-  heads = hs;
   trees = ps;
   is = refl;
-  fields_is = cc;
-  header_is = cc;
-  kind_is = cc;
   nid_is = cc;
   packets_is = cc;
   padding_is = cc;
-  own = f;
-  header = h;
+  own = (fs, cc, f);
+  header = (hs, cc, h);
   all = p;
 }
-typed_message_says way (kept_message nid b) x y z w u v e = absurd cc
+typed_message_says way (kept_message nid b) x y w u v e = absurd cc
 
 -- none has more bits of PADDING
-pub long_padding : (way : Way) (m : MessageValue) (x y z w u v : Data) (pad : List Bool) (r : Reading) → 7 < length pad → ((q : List Bool) → v ≡ bits_tree q → pad ≡ q) → MessageReads way (unnamed_message way m) r → IsMessageTree way m (message_tree x y z w u v) → ⊥
-long_padding way m x y z w u v pad r long padding reads tree =
-    let s = typed_message_says way m x y z w u v tree in
+pub long_padding : (way : Way) (m : MessageValue) (x y w u v : Data) (pad : List Bool) (r : Reading) → 7 < length pad → ((q : List Bool) → v ≡ bits_tree q → pad ≡ q) → MessageReads way (unnamed_message way m) r → IsMessageTree way m (message_tree way x y w u v) → ⊥
+long_padding way m x y w u v pad r long padding reads tree =
+    let s = typed_message_says way m x y w u v tree in
     let typed : TypedReads way s.nid s.head s.body (map (unnamed way) s.packets) s.padding r = subst (λ (n : MessageValue). MessageReads way (unnamed_message way n) r) s.is reads in
     let few = few_bits way s.nid s.head s.body (map (unnamed way) s.packets) s.padding r typed in
     omega (arith, few, long, ap length (padding s.padding s.padding_is))
 
 -- one that is kept as bits has no stand-ins
-kept_itself : (way : Way) (m : MessageValue) (x z : Data) → IsMessageTree way m (kept_message_tree x (string (way_word way)) z) → m ≡ unnamed_message way m
-kept_itself way (kept_message nid b) x z is = refl
-kept_itself way (typed_message nid head body vs padding) x z (fs, hs, ps, is, f, h, p) = absurd cc
-
-pub kept_named : {H B P : Type 0} (way : Way) (k : HeadOf H) (o : OwnOf B) (form : P → Form) {E : Type 0} (res : Result (Option (Content H B P)) E) (x z d : Data) → d ≡ kept_message_tree x (string (way_word way)) z → IfOk res (λ c. IfSome c (λ m. IsMessageTree way (message_value way k o form m) (kept_message_tree x (string (way_word way)) z)))
-    → IfOk res (λ c. IfSome c (λ m. (u : MessageValue) × (message_value way k o form m ≡ unnamed_message way u) × IsMessageTree way u d))
-kept_named way k o form (Err e) x z d is some = tt
-kept_named way k o form (Ok None) x z d is some = tt
-kept_named way k o form (Ok (Some m)) x z d is some =
-    let u = message_value way k o form m in
-    (u, kept_itself way u x z some, subst (IsMessageTree way u) (sym is) some)
-
-pub kept_only : (way : Way) {T E : Type 0} (res : Result (Option T) E) (x z d : Data) → d ≡ kept_message_tree x (string (way_word way)) z → IfOk res (λ c. (m : MessageValue) (r : Reading) → MessageReads way m r → IsMessageTree way m (kept_message_tree x (string (way_word way)) z) → IsSome c)
-    → IfOk res (λ c. (m : MessageValue) (r : Reading) → MessageReads way (unnamed_message way m) r → IsMessageTree way m d → IsSome c)
-kept_only way (Err e) x z d is only = tt
-kept_only way (Ok c) x z d is only = λ m r reads tree.
-    (let tree' = subst (IsMessageTree way m) is tree in
-    only m r (subst (λ (n : MessageValue). MessageReads way n r) (sym (kept_itself way m x z tree')) reads) tree')
+pub kept_stands : {H B P : Type 0} (way : Way) (k : HeadOf H) (o : OwnOf B) (form : P → Form) (c : Option (Content H B P)) (x z : Data) (nid : ℕ) (b : List Bool) → x ≡ bits_tree b → z ≡ plain nid → IfSome c (λ m. message_value way k o form m ≡ kept_message nid b)
+    → IfSome c (λ m. IsMessageOf way (kept_message_tree way x z) (message_value way k o form m))
+kept_stands way k o form None x z nid b bits number is = tt
+kept_stands way k o form (Some m) x z nid b bits number is = (kept_message nid b, is, rw (bits, number) refl)
 
 -- a tree with the members of neither
-pub no_message : (way : Way) (m : MessageValue) (d : Data) → ((x y w u v : Data) → d ≡ message_tree x y (string (way_word way)) w u v → ⊥) → ((x z : Data) → d ≡ kept_message_tree x (string (way_word way)) z → ⊥) → IsMessageTree way m d → ⊥
+pub no_message : (way : Way) (m : MessageValue) (d : Data) → ((x y w u v : Data) → d ≡ message_tree way x y w u v → ⊥) → ((x z : Data) → d ≡ kept_message_tree way x z → ⊥) → IsMessageTree way m d → ⊥
 no_message way (typed_message nid head body vs padding) d no_typed no_kept (fs, hs, ps, is, f, h, p) = no_typed (array fs) (array hs) (plain nid) (array ps) (bits_tree padding) is
 no_message way (kept_message nid b) d no_typed no_kept is = no_kept (bits_tree b) (plain nid) is
 
 -- what each part alone can be makes the message of a tree
 pub typed_message_only : {H B P : Type 0} (way : Way) (k : HeadOf H) (o : OwnOf B) (form : P → Form) (x y z v u : Data) (nid : ℕ) (h : H) (b : B) (ps : List P) (pad : List Bool) (F : Type 0)
     → z ≡ plain nid → o.nid b ≡ nid
-    → ((row : Layout) (r : Reading) (fs : Items) → message_row_to way nid ≡ Some row → Reads row [] r → x ≡ array fs → ArePairTrees r fs → o.reading b ≡ r)
-    → ((r : Reading) (hs : Items) → ReadsFields (head_row way) r → y ≡ array hs → ArePairTrees r hs → k.reading h ≡ r)
-    → ((vs : List PacketValue) (ds : Items) → All (IsPacketTo way) (map (unnamed way) vs) → v ≡ array ds → ArePacketTrees way vs ds → values_of form ps ≡ map (unnamed way) vs)
+    → ((row : Layout) (r : Reading) → message_row_to way nid ≡ Some row → Reads row [] r → IsPairList r x → o.reading b ≡ r)
+    → ((r : Reading) → ReadsFields (head_row way) r → IsPairList r y → k.reading h ≡ r)
+    → ListHasOnly way v (Some (values_of form ps))
     → ((q : List Bool) → u ≡ bits_tree q → pad ≡ q)
-    → ((r : Reading) → TypedReads way (o.nid b) (k.reading h) (o.reading b) (values_of form ps) pad r → F)
-    → (m : MessageValue) (r : Reading) → MessageReads way (unnamed_message way m) r → IsMessageTree way m (message_tree x y (string (way_word way)) z v u) → F
+    → ((r : Reading) → MessageReads way (typed_value k o form h b ps pad) r → F)
+    → IfMessage way (message_tree way x y z v u) F
 typed_message_only way k o form x y z v u nid h b ps pad F number own body head packets padding only m r reads tree =
-    let s = typed_message_says way m x y (string (way_word way)) z v u tree in
+    let s = typed_message_says way m x y z v u tree in
     let typed : TypedReads way s.nid s.head s.body (map (unnamed way) s.packets) s.padding r = subst (λ (w : MessageValue). MessageReads way (unnamed_message way w) r) s.is reads in
     let plainly : plain s.nid ≡ plain nid = sym s.nid_is ∙ number in
     let same : s.nid ≡ nid = cc in
-    let body_is : o.reading b ≡ s.body = body typed.row s.body s.pairs (subst (λ (i : ℕ). message_row_to way i ≡ Some typed.row) same typed.typed_number) typed.body_reads s.fields_is s.own in
-    let head_is : k.reading h ≡ s.head = head s.head s.heads typed.head_reads s.header_is s.header in
-    let packets_is : values_of form ps ≡ map (unnamed way) s.packets = packets s.packets s.trees (carried_packets way (map (unnamed way) s.packets) typed.run.carried) s.packets_is s.all in
+    let body_is : o.reading b ≡ s.body = body typed.row s.body (subst (λ (i : ℕ). message_row_to way i ≡ Some typed.row) same typed.typed_number) typed.body_reads s.own in
+    let head_is : k.reading h ≡ s.head = head s.head typed.head_reads s.header in
+    let all : Some (values_of form ps) ≡ Some (map (unnamed way) s.packets) = packets s.packets s.trees (carried_packets way (map (unnamed way) s.packets) typed.run.carried) s.packets_is s.all in
+    let packets_is : values_of form ps ≡ map (unnamed way) s.packets = cc in
     let pad_is : pad ≡ s.padding = padding s.padding s.padding_is in
     let number_is : o.nid b ≡ s.nid = own ∙ sym same in
     let whole : TypedReads way (o.nid b) (k.reading h) (o.reading b) (values_of form ps) pad r = rw (number_is, head_is, body_is, packets_is, pad_is) typed in
@@ -199,22 +176,22 @@ pub head_numbers : (way : Way) (row : Layout) (d : Data) (f g : List ℕ) → Is
 head_numbers way row d f g fields (r, ps, is, reads, trees, nums) same = (r, (fields r).0 reads, nums ∙ sym same)
 
 module _ {H : Type 0} (way : Way) (k : HeadOf H) {sent : H → Reading} (laws : HeadLaws way H sent k) (row : Layout) (fields : IsHeadRow way row) (d : Data) where
-  pub head_some : (f g : List ℕ) (h : H) → SaysNumbers row d f → g ≡ f → h ≡ k.made g → IsHead k h × ReadsFields (head_row way) (k.reading h) × (hs : Items) × (d ≡ array hs) × ArePairTrees (k.reading h) hs
+  pub head_some : (f g : List ℕ) (h : H) → SaysNumbers row d f → g ≡ f → h ≡ k.made g → IsHead k h × ReadsFields (head_row way) (k.reading h) × IsPairList (k.reading h) d
   head_some f g h (r, ps, is, reads, trees, nums) same e =
       let own = (fields r).0 reads in
       let back = laws.back r own in
       let h_is : h ≡ k.made (numbers r) = e ∙ ap k.made (same ∙ sym nums) in
       let reading_is : k.reading h ≡ r = ap k.reading h_is ∙ back.1 in
-      (subst (IsHead k) (sym h_is) back.0, subst (ReadsFields (head_row way)) (sym reading_is) own, ps, is, subst (λ (q : Reading). ArePairTrees q ps) (sym reading_is) trees)
+      (subst (IsHead k) (sym h_is) back.0, subst (ReadsFields (head_row way)) (sym reading_is) own, (ps, is, subst (λ (q : Reading). ArePairTrees q ps) (sym reading_is) trees))
 
-  pub head_only : (f g : List ℕ) (h : H) (r : Reading) (hs : Items) → OnlyNumbers row d (Some f) → g ≡ f → h ≡ k.made g → ReadsFields (head_row way) r → d ≡ array hs → ArePairTrees r hs → k.reading h ≡ r
-  head_only f g h r hs only same e own is t =
+  pub head_only : (f g : List ℕ) (h : H) (r : Reading) → OnlyNumbers row d (Some f) → g ≡ f → h ≡ k.made g → ReadsFields (head_row way) r → IsPairList r d → k.reading h ≡ r
+  head_only f g h r only same e own (hs, is, t) =
       let two = only r hs is ((fields r).1 own) t in
       let nums : f ≡ numbers r = cc in
       ap k.reading (e ∙ ap k.made (same ∙ nums)) ∙ (laws.back r own).1
 
-  pub head_none : (r : Reading) (hs : Items) → OnlyNumbers row d None → ReadsFields (head_row way) r → d ≡ array hs → ArePairTrees r hs → ⊥
-  head_none r hs only own is t = let no = only r hs is ((fields r).1 own) t in absurd cc
+  pub head_none : (r : Reading) → OnlyNumbers row d None → ReadsFields (head_row way) r → IsPairList r d → ⊥
+  head_none r only own (hs, is, t) = let no = only r hs is ((fields r).1 own) t in absurd cc
 
 -- ---- The variables of its own.
 
@@ -222,7 +199,7 @@ pub own_numbers : (way : Way) (nid : ℕ) (row : Layout) (d : Data) (f g : List 
 own_numbers way nid row d f g found (r, ps, is, reads, trees, nums) same = (row, r, found, reads, nums ∙ sym same)
 
 module _ {B : Type 0} (way : Way) (o : OwnOf B) {sent : B → Reading} (laws : OwnLaws way B sent o) (nid : ℕ) (row : Layout) (found : message_row_to way nid ≡ Some row) (d : Data) where
-  pub own_some : (f g : List ℕ) (b : B) → SaysNumbers row d f → g ≡ f → b ≡ o.made nid g → (IsOwn o b × (o.nid b ≡ nid)) × ((fs : Items) × (d ≡ array fs) × ArePairTrees (o.reading b) fs)
+  pub own_some : (f g : List ℕ) (b : B) → SaysNumbers row d f → g ≡ f → b ≡ o.made nid g → (IsOwn o b × (o.nid b ≡ nid)) × IsPairList (o.reading b) d
   own_some f g b (r, ps, is, reads, trees, nums) same e =
       let made : IsMadeOf o nid r b = subst (IsMadeOf o nid r) (sym (e ∙ ap (o.made nid) (same ∙ sym nums))) (laws.back nid row r found reads) in
       ((made.own, made.number), (ps, is, subst (λ (q : Reading). ArePairTrees q ps) (sym made.back) trees))
@@ -233,18 +210,18 @@ module _ {B : Type 0} (way : Way) (o : OwnOf B) {sent : B → Reading} (laws : O
       let one : row' ≡ row = cc in
       subst (λ (l : Layout). Reads l [] r) one reads
 
-  pub own_only : (f g : List ℕ) (b : B) (row' : Layout) (r : Reading) (fs : Items) → OnlyNumbers row d (Some f) → g ≡ f → b ≡ o.made nid g → message_row_to way nid ≡ Some row' → Reads row' [] r → d ≡ array fs → ArePairTrees r fs → o.reading b ≡ r
-  own_only f g b row' r fs only same e found' reads is t =
+  pub own_only : (f g : List ℕ) (b : B) (row' : Layout) (r : Reading) → OnlyNumbers row d (Some f) → g ≡ f → b ≡ o.made nid g → message_row_to way nid ≡ Some row' → Reads row' [] r → IsPairList r d → o.reading b ≡ r
+  own_only f g b row' r only same e found' reads (fs, is, t) =
       let reads' = same_row row' r found' reads in
       let two = only r fs is reads' t in
       let nums : f ≡ numbers r = cc in
       ap o.reading (e ∙ ap (o.made nid) (same ∙ nums)) ∙ (laws.back nid row r found reads').back
 
-  pub own_none : (row' : Layout) (r : Reading) (fs : Items) → OnlyNumbers row d None → message_row_to way nid ≡ Some row' → Reads row' [] r → d ≡ array fs → ArePairTrees r fs → ⊥
-  own_none row' r fs only found' reads is t = let no = only r fs is (same_row row' r found' reads) t in absurd cc
+  pub own_none : (row' : Layout) (r : Reading) → OnlyNumbers row d None → message_row_to way nid ≡ Some row' → Reads row' [] r → IsPairList r d → ⊥
+  own_none row' r only found' reads (fs, is, t) = let no = only r fs is (same_row row' r found' reads) t in absurd cc
 
 -- ---- An item.
 
-pub message_stands : (way : Way) (m : MessageValue) (d : Data) → ((r : Reading) × MessageReads way m r) → ((u : MessageValue) × (m ≡ unnamed_message way u) × IsMessageTree way u d) → HasStandIns (message_kind way) d (of_message way m)
+pub message_stands : (way : Way) (m : MessageValue) (d : Data) → ((r : Reading) × MessageReads way m r) → IsMessageOf way d m → HasStandIns (message_kind way) d (of_message way m)
 message_stands way m d (r, reads) (u, is, tree) =
     (of_message way u, ap (λ (x : MessageValue). of_message way x) is, (r, (refl, subst (λ (x : MessageValue). MessageReads way x r) is reads)), tree)

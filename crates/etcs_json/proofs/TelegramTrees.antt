@@ -1,7 +1,7 @@
 -- Telegrams and their trees.
 use Rattle.std.proofs.Common.{◌≡◌, ℕ, ◌+◌, ◌≤◌, ◌<◌, Bool, false, List, [], ◌++◌, length, map, Option, None, Some, inl, inr, refl, sym, ap, subst, ◌∙◌, arith}
 use Rattle.std.specs.Prelude.{◌⊎◌, ◌≢◌, All, IfSome, option_map, replicate}
-use Rattle.serde_json.specs.Data.{Data, array, string, Items}
+use Rattle.serde_json.specs.Data.{Data, array, Items}
 use Rattle.etcs_vars.specs.Reading.{Reading, numbers, spelled, kept}
 use Rattle.etcs_vars.specs.declared.var.Var.TheVariants.{FILL, PAD}
 use Rattle.etcs_tables.specs.declared.row.Way.TheVariants.{ToTrain}
@@ -17,11 +17,10 @@ use Rattle.etcs_telegram.proofs.HeaderLemmas.{header_length, header_back}
 use Rattle.etcs_telegram.proofs.Rows.{row_header, admitted_row, header_reads}
 use Rattle.etcs_messages.proofs.Fronts.{as_row, row_fields, fields_row}
 use Rattle.etcs_text.specs.Entries.{EntryValue, of_telegram, of_message, kind_of}
-use Rattle.etcs_text.specs.Show.{kind_word}
 use Rattle.etcs_packet_text.specs.Trees.{bits_tree}
-use Rattle.etcs_json_trees.specs.Loose.{unnamed}
-use Rattle.etcs_json.specs.Loose.{HasStandIns, IsLoose, unnamed_telegram}
-use Rattle.etcs_json_trees.specs.TreeReading.{ArePairTrees, ArePacketTrees}
+use Rattle.etcs_json_trees.specs.Loose.{ListHasStandIns}
+use Rattle.etcs_json.specs.Loose.{HasStandIns, IfTelegram, IsLoose, IsTelegramOf, unnamed_telegram}
+use Rattle.etcs_json_trees.specs.TreeReading.{ArePairTrees, ArePacketTrees, IsPairList}
 use Rattle.etcs_json.specs.TreeReading.{IsTelegramTree, IsTreeOf, telegram_tree}
 use Rattle.etcs_text.proofs.ItemKinds.{kind_same, telegram_message}
 use Rattle.etcs_json_trees.proofs.PacketTrees.{SaysNumbers, OnlyNumbers}
@@ -66,20 +65,20 @@ values_at X (Some y) x g vs e h =
     let two : g y ≡ vs = cc in
     sym two ∙ ap g same
 
-pub header_some : (d : Data) (f g : List ℕ) (h : HeaderValue) → SaysNumbers (as_row header_row) d f → g ≡ f → h ≡ header_of g → (hs : Items) × (d ≡ array hs) × IsAdmitted (header_reading h) × ArePairTrees (header_reading h) hs
+pub header_some : (d : Data) (f g : List ℕ) (h : HeaderValue) → SaysNumbers (as_row header_row) d f → g ≡ f → h ≡ header_of g → IsAdmitted (header_reading h) × IsPairList (header_reading h) d
 header_some d f g h (r, ps, is, reads, trees, nums) same e =
     let k = header_read r reads in
     let h_is : h ≡ header_of (numbers r) = e ∙ ap header_of (same ∙ sym nums) in
     let trees' : ArePairTrees (header_reading (header_of (numbers r))) ps = subst (λ (x : Reading). ArePairTrees x ps) k.is trees in
-    (ps, is, subst (λ (x : HeaderValue). IsAdmitted (header_reading x)) (sym h_is) k.admitted, subst (λ (x : HeaderValue). ArePairTrees (header_reading x) ps) (sym h_is) trees')
+    (subst (λ (x : HeaderValue). IsAdmitted (header_reading x)) (sym h_is) k.admitted, (ps, is, subst (λ (x : HeaderValue). ArePairTrees (header_reading x) ps) (sym h_is) trees'))
 
 pub header_numbers : (d : Data) (f g : List ℕ) → SaysNumbers (as_row header_row) d f → g ≡ f → IsHeaderNumbers g
 header_numbers d f g (r, ps, is, reads, trees, nums) same =
     let k = header_read r reads in
     subst IsHeaderNumbers (nums ∙ sym same) k.fine
 
-pub header_only : (d : Data) (o : Option (List ℕ)) (h : HeaderValue) (hs : Items) → OnlyNumbers (as_row header_row) d o → IsAdmitted (header_reading h) → d ≡ array hs → ArePairTrees (header_reading h) hs → o ≡ Some (numbers (header_reading h))
-header_only d o h hs only a is t = only (header_reading h) hs is (header_row_of h a) t
+pub header_only : (d : Data) (o : Option (List ℕ)) (h : HeaderValue) → OnlyNumbers (as_row header_row) d o → IsAdmitted (header_reading h) → IsPairList (header_reading h) d → o ≡ Some (numbers (header_reading h))
+header_only d o h only a (hs, is, t) = only (header_reading h) hs is (header_row_of h a) t
 
 pub header_same : (f g : List ℕ) (k h : HeaderValue) → Some f ≡ Some (numbers (header_reading h)) → g ≡ f → k ≡ header_of g → k ≡ h
 header_same f g k h two same e =
@@ -92,44 +91,38 @@ pub no_fault : (P Q : Type 0) (closed fill room : ℕ) → (P × (room < closed)
 no_fault P Q closed fill room (inl (p, l)) e = omega (arith, l, e)
 no_fault P Q closed fill room (inr (q, l, n)) e = n e
 
-pub telegram_only : (size : Size) (e : EntryValue) (d : Data) → ((t : TelegramValue) (q : Reading) → t.size ≡ size → TelegramReads (unnamed_telegram t) q → IsTelegramTree t d → ⊥) → IsLoose (kind_of size) e → IsTreeOf e d → ⊥
+pub telegram_only : (size : Size) (e : EntryValue) (d : Data) → IfTelegram size d ⊥ → IsLoose (kind_of size) e → IsTreeOf e d → ⊥
 telegram_only size (of_telegram t) d wrong (r, (k, reads)) tree = wrong t r (kind_same t.size size k) reads tree
 telegram_only size (of_message way m) d wrong (r, (k, reads)) tree = telegram_message size way (sym k)
 
-pub telegram_stands : (size : Size) (t : TelegramValue) (d : Data) → t.size ≡ size → ((r : Reading) × TelegramReads t r) → ((u : TelegramValue) × (t ≡ unnamed_telegram u) × IsTelegramTree u d) → HasStandIns (kind_of size) d (of_telegram t)
+pub telegram_stands : (size : Size) (t : TelegramValue) (d : Data) → t.size ≡ size → ((r : Reading) × TelegramReads t r) → IsTelegramOf d t → HasStandIns (kind_of size) d (of_telegram t)
 telegram_stands size t d sized (r, reads) (u, is, tree) =
     let kinded : kind_of u.size ≡ kind_of size = ap (λ (x : TelegramValue). kind_of x.size) (sym is) ∙ ap kind_of sized in
     (of_telegram u, ap of_telegram is, (r, (kinded, subst (λ (x : TelegramValue). TelegramReads x r) is reads)), tree)
 
 -- a telegram of such parts
-pub telegram_some : (x y w : Data) (o : Option TelegramContent) (size : Size) (h : HeaderValue) (us : List PacketValue) (fill : List Bool) → x ≡ bits_tree fill → ((hs : Items) × (y ≡ array hs) × IsAdmitted (header_reading h) × ArePairTrees (header_reading h) hs) → ((vs : List PacketValue) × (ds : Items) × (us ≡ map (unnamed ToTrain) vs) × (w ≡ array ds) × ArePacketTrees ToTrain vs ds) → IfSome o (λ t. telegram_value t ≡ record { size = size; header = h; packets = us; fill = fill })
-    → IfSome o (λ t. (u : TelegramValue) × (telegram_value t ≡ unnamed_telegram u) × IsTelegramTree u (telegram_tree x y (string (kind_word size)) w))
+pub telegram_some : (x y w : Data) (o : Option TelegramContent) (size : Size) (h : HeaderValue) (us : List PacketValue) (fill : List Bool) → x ≡ bits_tree fill → IsPairList (header_reading h) y → ListHasStandIns ToTrain w us → IfSome o (λ t. telegram_value t ≡ record { size = size; header = h; packets = us; fill = fill })
+    → IfSome o (λ t. IsTelegramOf (telegram_tree size x y w) (telegram_value t))
 telegram_some x y w None size h us fill filled headed listed is = tt
-telegram_some x y w (Some t) size h us fill filled (hs, headed, admitted, header) (vs, ds, named, listed, packets) is =
+telegram_some x y w (Some t) size h us fill filled (hs, headed, header) (vs, ds, named, listed, packets) is =
     let u : TelegramValue = record { size = size; header = h; packets = vs; fill = fill } in
     let same : telegram_value t ≡ unnamed_telegram u = is ∙ (λ i. record { size = size; header = h; packets = named i; fill = fill }) in
     (u, same, (hs, ds, rw (filled, headed, listed) refl, header, packets))
 
 -- what a tree with these members says
-pub record TelegramSays (t : TelegramValue) (x y z w : Data) : Type 0 where
-  pub pairs : Items
+pub record TelegramSays (t : TelegramValue) (x y w : Data) : Type 0 where
   pub trees : Items
   pub fill_is : x ≡ bits_tree t.fill
-  pub header_is : y ≡ array pairs
-  pub kind_is : z ≡ string (kind_word t.size)
   pub packets_is : w ≡ array trees
-  pub header : ArePairTrees (header_reading t.header) pairs
+  pub header : IsPairList (header_reading t.header) y
   pub packets : ArePacketTrees ToTrain t.packets trees
 
-pub telegram_says : (t : TelegramValue) (x y z w : Data) → IsTelegramTree t (telegram_tree x y z w) → TelegramSays t x y z w
-telegram_says t x y z w (hs, ps, e, h, p) = record {
-  pairs = hs;
+pub telegram_says : (size : Size) (t : TelegramValue) (x y w : Data) → IsTelegramTree t (telegram_tree size x y w) → TelegramSays t x y w
+telegram_says size t x y w (hs, ps, e, h, p) = record {
   trees = ps;
   fill_is = cc;
-  header_is = cc;
-  kind_is = cc;
   packets_is = cc;
-  header = h;
+  header = (hs, cc, h);
   packets = p;
 }
 

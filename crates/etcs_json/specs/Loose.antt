@@ -9,13 +9,14 @@ use Rattle.etcs_tables.specs.declared.row.Way.{Way}
 use Rattle.etcs_tables.specs.declared.row.Way.TheVariants.{ToTrain}
 use Rattle.etcs_packets.specs.PacketValues.{PacketValue}
 use Rattle.etcs_packets.specs.PacketReadings.{readings_to}
-use Rattle.etcs_telegram.specs.Telegrams.{TelegramValue, header_reading, closed_reading, pad_bits}
-use Rattle.etcs_messages.specs.Messages.{MessageValue, typed_message, kept_message, front_of, head_reading}
+use Rattle.etcs_telegram.specs.declared.size.Size.{Size}
+use Rattle.etcs_telegram.specs.Telegrams.{TelegramValue, TelegramReads, header_reading, closed_reading, pad_bits}
+use Rattle.etcs_messages.specs.Messages.{MessageValue, MessageReads, typed_message, kept_message, front_of, head_reading}
 use Rattle.etcs_text.specs.declared.entry.Kind.{Kind}
 use Rattle.etcs_text.specs.Entries.{EntryValue, of_telegram, of_message, EntryReads}
 use Rattle.etcs_json_trees.specs.Loose.{unnamed}
 use Rattle.etcs_json_trees.specs.TreeReading.{ArePacketTrees}
-use Rattle.etcs_json.specs.TreeReading.{IsTreeOf}
+use Rattle.etcs_json.specs.TreeReading.{IsTelegramTree, IsMessageTree, IsTreeOf}
 
 -- ---- Its packets with stand-ins.
 
@@ -30,6 +31,20 @@ abbrev pub unnamed_entry : EntryValue → EntryValue
 unnamed_entry (of_telegram t) = of_telegram (unnamed_telegram t)
 unnamed_entry (of_message way m) = of_message way (unnamed_message way m)
 
+-- t is the telegram of the tree d, and m the message, with stand-ins
+abbrev pub IsTelegramOf : Data → TelegramValue → Type 0
+IsTelegramOf d t = (u : TelegramValue) × (t ≡ unnamed_telegram u) × IsTelegramTree u d
+
+abbrev pub IsMessageOf : Way → Data → MessageValue → Type 0
+IsMessageOf way d m = (u : MessageValue) × (m ≡ unnamed_message way u) × IsMessageTree way u d
+
+-- P holds if d is the tree of any telegram of the size, or message, but that a kept packet may have such a number
+abbrev pub IfTelegram : Size → Data → Type 0 → Type 0
+IfTelegram size d P = (t : TelegramValue) (r : Reading) → t.size ≡ size → TelegramReads (unnamed_telegram t) r → IsTelegramTree t d → P
+
+abbrev pub IfMessage : Way → Data → Type 0 → Type 0
+IfMessage way d P = (m : MessageValue) (r : Reading) → MessageReads way (unnamed_message way m) r → IsMessageTree way m d → P
+
 -- o is an item of the kind, but that a kept packet may have such a number
 abbrev pub IsLoose : Kind → EntryValue → Type 0
 IsLoose kind o = (r : Reading) × EntryReads kind (unnamed_entry o) r
@@ -41,6 +56,14 @@ abbrev pub LooseSpells : EntryValue → List Bool → Type 0
 LooseSpells (of_telegram t) b = b ≡ spelled (header_reading t.header ++ closed_reading t.packets ++ kept FILL t.fill ++ kept PAD (replicate (pad_bits t.size) false))
 LooseSpells (of_message way (typed_message nid head body vs padding)) b = (len : ℕ) × (front_of way body + length (spelled (readings_to way vs)) + length padding ≡ 8 * len) × (b ≡ spelled (head_reading nid len head ++ body ++ readings_to way vs ++ kept PADDING padding))
 LooseSpells (of_message way (kept_message nid c)) b = (len : ℕ) × (18 + length c ≡ 8 * len) × (b ≡ spelled ((NID_MESSAGE, nid) ∷ (L_MESSAGE, len) ∷ kept OTHER_DATA c))
+
+-- the item e of the kind has the bits of o
+abbrev pub LooseSays : Kind → EntryValue → EntryValue → Type 0
+LooseSays kind o e = (r : Reading) × LooseSpells o (spelled r) × EntryReads kind e r
+
+-- of the bits of o the one at i is refused first, and x holds it
+abbrev pub LooseRefused : Kind → EntryValue → ℕ → Var → Type 0
+LooseRefused kind o i x = (b : List Bool) × LooseSpells o b × IsOutcome (EntryReads kind) b (refused i x)
 
 -- ---- What a tree says.
 

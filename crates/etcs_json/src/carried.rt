@@ -1,6 +1,6 @@
 //! Items with packets that were kept as bits in JSON before they were typed.
 
-ghost use Rattle.std.specs.Prelude.{◌≡◌, ◌≢◌, ℕ, Bool, Err, IfOk, List};
+ghost use Rattle.std.specs.Prelude.{◌≡◌, ◌≢◌, ℕ, Err, IfOk};
 ghost use Rattle.serde_json.specs.Data.{Items, array};
 ghost use Rattle.serde_json.specs.View.{items_view, view};
 ghost use Rattle.etcs_bits.specs.Bits.{bits};
@@ -9,7 +9,7 @@ ghost use Rattle.etcs_vars.specs.Reading.{IsOutcome, Reading, refused, spelled};
 ghost use Rattle.etcs_text.specs.Entries.{EntryReads, EntryValue, Spells, entry_value, kind_of};
 ghost use Rattle.etcs_text.specs.declared.entry.Kind.{Kind};
 ghost use Rattle.etcs_text.specs.declared.entry.Kind.TheVariants as kind_is;
-ghost use Rattle.etcs_json.specs.Loose.{HasLength, HasStandIns, LooseSpells, StandsFor, TreeRefused, TreeSays, packets_of, way_of};
+ghost use Rattle.etcs_json.specs.Loose.{HasLength, HasStandIns, LooseRefused, LooseSays, LooseSpells, StandsFor, TreeRefused, TreeSays, packets_of, way_of};
 ghost use Rattle.etcs_json_trees.specs.TreeReading.{ArePacketTrees};
 ghost use Rattle.etcs_json.specs.TreeReading.{IsTreeOf};
 
@@ -74,8 +74,8 @@ fn items_in(value: &Value) -> &[Value]
 fn renamed(alloc: Global, kind: Kind, entry: &Entry, trees: &[Value]) -> Result<Entry, JsonFault>
     requires kind { kind ≢ Kind.Train }
     requires stands { (o : EntryValue) × StandsFor kind (entry_value entry.now) (items_view trees.now) o }
-    ensures ok { IfOk result (λ e. (o : EntryValue) → StandsFor kind (entry_value entry.now) (items_view trees.now) o → (r : Reading) × LooseSpells o (spelled r) × EntryReads kind (entry_value e) r) }
-    ensures refused { (i : ℕ) (x : Var) → result ≡ Err (JsonFault.Refused i x) → (o : EntryValue) → StandsFor kind (entry_value entry.now) (items_view trees.now) o → (b : List Bool) × LooseSpells o b × IsOutcome (EntryReads kind) b (refused i x) }
+    ensures ok { IfOk result (λ e. (o : EntryValue) → StandsFor kind (entry_value entry.now) (items_view trees.now) o → LooseSays kind o (entry_value e)) }
+    ensures refused { (i : ℕ) (x : Var) → result ≡ Err (JsonFault.Refused i x) → (o : EntryValue) → StandsFor kind (entry_value entry.now) (items_view trees.now) o → LooseRefused kind o i x }
     ensures shape { result ≢ Err JsonFault.Shape }
 {
     let mut bytes = Vec::new(alloc);

@@ -1,7 +1,7 @@
 //! Messages of their trees.
 
 ghost use Rattle.std.specs.Prelude.{◌≡◌, ◌<◌, ◌^◌, [], All, Some, IfOk, IfSome, IsSome, map, option_map};
-ghost use Rattle.serde_json.specs.Data.{Data, Items, array, string};
+ghost use Rattle.serde_json.specs.Data.{Data};
 ghost use Rattle.serde_json.specs.View.{view};
 ghost use Rattle.etcs_bits.specs.Bits.{num};
 ghost use Rattle.etcs_vars.specs.Reading.{Reading};
@@ -11,11 +11,11 @@ ghost use Rattle.etcs_packets.specs.PacketValues.{IsPacketTo};
 ghost use Rattle.etcs_reader.specs.Fields.{ReadsFields};
 ghost use Rattle.etcs_messages.specs.Kinds.{IsHead, IsOwn};
 ghost use Rattle.etcs_tables.specs.Headers.{head_row};
-ghost use Rattle.etcs_messages.specs.Messages.{KeptReads, MessageReads, MessageValue, TypedReads, kept_message, message_value, typed_message, values_of};
-ghost use Rattle.etcs_text.specs.Show.{way_word};
-ghost use Rattle.etcs_json.specs.Loose.{unnamed_message};
-ghost use Rattle.etcs_json_trees.specs.TreeReading.{ArePairTrees};
-ghost use Rattle.etcs_json.specs.TreeReading.{IsMessageTree, kept_message_tree, message_tree};
+ghost use Rattle.etcs_messages.specs.Messages.{KeptReads, MessageReads, kept_message, message_value, values_of};
+ghost use Rattle.etcs_json.specs.Loose.{IfMessage, IsMessageOf};
+ghost use Rattle.etcs_json.specs.TreeParts.{typed_value};
+ghost use Rattle.etcs_json_trees.specs.TreeReading.{IsPairList};
+ghost use Rattle.etcs_json.specs.TreeReading.{kept_message_tree, message_tree};
 
 use crate::trees::way_word;
 use etcs_bits::Bits;
@@ -28,8 +28,8 @@ use std::alloc::{AllocError, Global};
 
 /// The header of the list of its pairs, if there is one.
 fn head_in<H: Head>(alloc: Global, value: &Value) -> Result<Option<H>, AllocError>
-    ensures some { IfOk result (λ o. IfSome o (λ h. IsHead H.head h × ReadsFields (head_row H.Packet.WAY) (H.head.reading h) × (hs : Items) × (view value.now ≡ array hs) × ArePairTrees (H.head.reading h) hs)) }
-    ensures only { IfOk result (λ o. (r : Reading) (hs : Items) → ReadsFields (head_row H.Packet.WAY) r → view value.now ≡ array hs → ArePairTrees r hs → option_map H.head.reading o ≡ Some r) }
+    ensures some { IfOk result (λ o. IfSome o (λ h. IsHead H.head h × ReadsFields (head_row H.Packet.WAY) (H.head.reading h) × IsPairList (H.head.reading h) (view value.now))) }
+    ensures only { IfOk result (λ o. (r : Reading) → ReadsFields (head_row H.Packet.WAY) r → IsPairList r (view value.now) → option_map H.head.reading o ≡ Some r) }
 {
     match numbers_in(alloc, head_row(H::Packet::WAY), value)? {
         Some(numbers) => Ok(Some(H::of_numbers(numbers.as_slice()))),
@@ -44,8 +44,8 @@ fn body_in<H: Head, B: Own<Front = H>>(
     value: &Value,
 ) -> Result<Option<B>, AllocError>
     ensures own { IfOk result (λ o. IfSome o (λ b. IsOwn B.own b × (B.own.nid b ≡ nid))) }
-    ensures some { IfOk result (λ o. IfSome o (λ b. (fs : Items) × (view value.now ≡ array fs) × ArePairTrees (B.own.reading b) fs)) }
-    ensures only { IfOk result (λ o. (row : Layout) (r : Reading) (fs : Items) → message_row_to H.Packet.WAY nid ≡ Some row → Reads row [] r → view value.now ≡ array fs → ArePairTrees r fs → option_map B.own.reading o ≡ Some r) }
+    ensures some { IfOk result (λ o. IfSome o (λ b. IsPairList (B.own.reading b) (view value.now))) }
+    ensures only { IfOk result (λ o. (row : Layout) (r : Reading) → message_row_to H.Packet.WAY nid ≡ Some row → Reads row [] r → IsPairList r (view value.now) → option_map B.own.reading o ≡ Some r) }
 {
     match message_row(H::Packet::WAY, nid) {
         Some(row) => match numbers_in(alloc, row, value)? {
@@ -68,9 +68,9 @@ pub(crate) fn typed_by<H: Head, B: Own<Front = H>>(
     requires body { IsOwn B.own body }
     requires packets { All (λ p. (H.Packet.form p).made) packets.items × All (IsPacketTo H.Packet.WAY) (values_of H.Packet.form packets.items) }
     requires padding { padding < 2 ^ count }
-    ensures some { IfSome result (λ m. message_value H.Packet.WAY H.head B.own H.Packet.form m ≡ typed_message (B.own.nid body) (H.head.reading head) (B.own.reading body) (values_of H.Packet.form packets.items) (num count padding)) }
+    ensures some { IfSome result (λ m. message_value H.Packet.WAY H.head B.own H.Packet.form m ≡ typed_value H.head B.own H.Packet.form head body packets.items (num count padding)) }
     ensures reads { IfSome result (λ m. (r : Reading) × MessageReads H.Packet.WAY (message_value H.Packet.WAY H.head B.own H.Packet.form m) r) }
-    ensures only { (r : Reading) → TypedReads H.Packet.WAY (B.own.nid body) (H.head.reading head) (B.own.reading body) (values_of H.Packet.form packets.items) (num count padding) r → IsSome result }
+    ensures only { (r : Reading) → MessageReads H.Packet.WAY (typed_value H.head B.own H.Packet.form head body packets.items (num count padding)) r → IsSome result }
 {
     let Ok(message) = MessageOf::with_padding(head, body, packets, padding) else {
         return None;
@@ -101,8 +101,8 @@ fn kept_of<H: Head, B: Own<Front = H>>(
     nid: &Value,
 ) -> Result<Option<MessageOf<H, B>>, AllocError>
     ensures reads { IfOk result (λ o. IfSome o (λ m. (r : Reading) × MessageReads H.Packet.WAY (message_value H.Packet.WAY H.head B.own H.Packet.form m) r)) }
-    ensures some { IfOk result (λ o. IfSome o (λ m. IsMessageTree H.Packet.WAY (message_value H.Packet.WAY H.head B.own H.Packet.form m) (kept_message_tree (view bits.now) (string (way_word H.Packet.WAY)) (view nid.now)))) }
-    ensures only { IfOk result (λ o. (m : MessageValue) (r : Reading) → MessageReads H.Packet.WAY m r → IsMessageTree H.Packet.WAY m (kept_message_tree (view bits.now) (string (way_word H.Packet.WAY)) (view nid.now)) → IsSome o) }
+    ensures some { IfOk result (λ o. IfSome o (λ m. IsMessageOf H.Packet.WAY (kept_message_tree H.Packet.WAY (view bits.now) (view nid.now)) (message_value H.Packet.WAY H.head B.own H.Packet.form m))) }
+    ensures only { IfOk result (λ o. IfMessage H.Packet.WAY (kept_message_tree H.Packet.WAY (view bits.now) (view nid.now)) (IsSome o)) }
 {
     match byte_in(nid) {
         Some(nid) => match bits_in(alloc, bits)? {
@@ -123,8 +123,8 @@ fn typed_of<H: Head, B: Own<Front = H>>(
     padding: &Value,
 ) -> Result<Option<MessageOf<H, B>>, AllocError>
     ensures reads { IfOk result (λ o. IfSome o (λ m. (r : Reading) × MessageReads H.Packet.WAY (message_value H.Packet.WAY H.head B.own H.Packet.form m) r)) }
-    ensures some { IfOk result (λ o. IfSome o (λ m. (u : MessageValue) × (message_value H.Packet.WAY H.head B.own H.Packet.form m ≡ unnamed_message H.Packet.WAY u) × IsMessageTree H.Packet.WAY u (message_tree (view fields.now) (view header.now) (string (way_word H.Packet.WAY)) (view nid.now) (view packets.now) (view padding.now)))) }
-    ensures only { IfOk result (λ o. (m : MessageValue) (r : Reading) → MessageReads H.Packet.WAY (unnamed_message H.Packet.WAY m) r → IsMessageTree H.Packet.WAY m (message_tree (view fields.now) (view header.now) (string (way_word H.Packet.WAY)) (view nid.now) (view packets.now) (view padding.now)) → IsSome o) }
+    ensures some { IfOk result (λ o. IfSome o (λ m. IsMessageOf H.Packet.WAY (message_tree H.Packet.WAY (view fields.now) (view header.now) (view nid.now) (view packets.now) (view padding.now)) (message_value H.Packet.WAY H.head B.own H.Packet.form m))) }
+    ensures only { IfOk result (λ o. IfMessage H.Packet.WAY (message_tree H.Packet.WAY (view fields.now) (view header.now) (view nid.now) (view packets.now) (view padding.now)) (IsSome o)) }
 {
     let Some(nid) = byte_in(nid) else {
         return Ok(None);
@@ -149,8 +149,8 @@ fn typed_of<H: Head, B: Own<Front = H>>(
 
 /// The fields, the header, the number, the packets and the padding of a typed message of this way.
 fn typed_members(way: Way, value: &Value) -> Option<(&Value, &Value, &Value, &Value, &Value)>
-    ensures some { IfSome result (λ m. view value.now ≡ message_tree (view m.0.now) (view m.1.now) (string (way_word way)) (view m.2.now) (view m.3.now) (view m.4.now)) }
-    ensures none { (x y w u v : Data) → view value.now ≡ message_tree x y (string (way_word way)) w u v → IsSome result }
+    ensures some { IfSome result (λ m. view value.now ≡ message_tree way (view m.0.now) (view m.1.now) (view m.2.now) (view m.3.now) (view m.4.now)) }
+    ensures none { (x y w u v : Data) → view value.now ≡ message_tree way x y w u v → IsSome result }
 {
     let mut members = Rest::of(value)?;
     let (fields, header) = members.two("fields", "header")?;
@@ -162,8 +162,8 @@ fn typed_members(way: Way, value: &Value) -> Option<(&Value, &Value, &Value, &Va
 
 /// The bits and the number of a message of this way that is kept as bits.
 fn kept_members(way: Way, value: &Value) -> Option<(&Value, &Value)>
-    ensures some { IfSome result (λ m. view value.now ≡ kept_message_tree (view m.0.now) (string (way_word way)) (view m.1.now)) }
-    ensures none { (x z : Data) → view value.now ≡ kept_message_tree x (string (way_word way)) z → IsSome result }
+    ensures some { IfSome result (λ m. view value.now ≡ kept_message_tree way (view m.0.now) (view m.1.now)) }
+    ensures none { (x z : Data) → view value.now ≡ kept_message_tree way x z → IsSome result }
 {
     let mut members = Rest::of(value)?;
     let bits = members.next("data")?;
@@ -178,8 +178,8 @@ pub(crate) fn message_in<H: Head, B: Own<Front = H>>(
     value: &Value,
 ) -> Result<Option<MessageOf<H, B>>, AllocError>
     ensures reads { IfOk result (λ o. IfSome o (λ m. (r : Reading) × MessageReads H.Packet.WAY (message_value H.Packet.WAY H.head B.own H.Packet.form m) r)) }
-    ensures some { IfOk result (λ o. IfSome o (λ m. (u : MessageValue) × (message_value H.Packet.WAY H.head B.own H.Packet.form m ≡ unnamed_message H.Packet.WAY u) × IsMessageTree H.Packet.WAY u (view value.now))) }
-    ensures only { IfOk result (λ o. (m : MessageValue) (r : Reading) → MessageReads H.Packet.WAY (unnamed_message H.Packet.WAY m) r → IsMessageTree H.Packet.WAY m (view value.now) → IsSome o) }
+    ensures some { IfOk result (λ o. IfSome o (λ m. IsMessageOf H.Packet.WAY (view value.now) (message_value H.Packet.WAY H.head B.own H.Packet.form m))) }
+    ensures only { IfOk result (λ o. IfMessage H.Packet.WAY (view value.now) (IsSome o)) }
 {
     let way = H::Packet::WAY;
     if let Some((fields, header, nid, packets, padding)) = typed_members(way, value) {

@@ -1,15 +1,14 @@
 //! Telegrams of their trees.
 
 ghost use Rattle.std.specs.Prelude.{◌≡◌, All, Some, IfOk, IfSome, IsSome, map};
-ghost use Rattle.serde_json.specs.Data.{Data, Items, array, string};
+ghost use Rattle.serde_json.specs.Data.{Data};
 ghost use Rattle.serde_json.specs.View.{view};
 ghost use Rattle.etcs_vars.specs.Reading.{Reading};
 ghost use Rattle.etcs_packets.specs.PacketValues.{IsPacket, packet_value};
 ghost use Rattle.etcs_telegram.specs.Telegrams.{HeaderValue, IsAdmitted, TelegramReads, TelegramValue, header_reading, telegram_value};
-ghost use Rattle.etcs_text.specs.Show.{kind_word};
-ghost use Rattle.etcs_json.specs.Loose.{unnamed_telegram};
-ghost use Rattle.etcs_json_trees.specs.TreeReading.{ArePairTrees};
-ghost use Rattle.etcs_json.specs.TreeReading.{IsTelegramTree, telegram_tree};
+ghost use Rattle.etcs_json.specs.Loose.{IfTelegram, IsTelegramOf};
+ghost use Rattle.etcs_json_trees.specs.TreeReading.{IsPairList};
+ghost use Rattle.etcs_json.specs.TreeReading.{telegram_tree};
 
 use crate::trees::size_word;
 use etcs_bits::Bits;
@@ -23,8 +22,8 @@ use std::alloc::{AllocError, Global};
 
 /// The header of the list of its pairs, if there is one.
 fn header_in(alloc: Global, value: &Value) -> Result<Option<Header>, AllocError>
-    ensures some { IfOk result (λ o. IfSome o (λ h. (hs : Items) × (view value.now ≡ array hs) × IsAdmitted (header_reading h) × ArePairTrees (header_reading h) hs)) }
-    ensures only { IfOk result (λ o. (h : HeaderValue) (hs : Items) → IsAdmitted (header_reading h) → view value.now ≡ array hs → ArePairTrees (header_reading h) hs → o ≡ Some h) }
+    ensures some { IfOk result (λ o. IfSome o (λ h. IsAdmitted (header_reading h) × IsPairList (header_reading h) (view value.now))) }
+    ensures only { IfOk result (λ o. (h : HeaderValue) → IsAdmitted (header_reading h) → IsPairList (header_reading h) (view value.now) → o ≡ Some h) }
 {
     match numbers_in(alloc, header_row(), value)? {
         Some(numbers) => Ok(Some(header_by(numbers.as_slice()))),
@@ -53,8 +52,8 @@ pub(crate) fn telegram_by(
 
 /// The fill, the header and the packets of a telegram of this size.
 fn telegram_members(size: Size, value: &Value) -> Option<(&Value, &Value, &Value)>
-    ensures some { IfSome result (λ m. view value.now ≡ telegram_tree (view m.0.now) (view m.1.now) (string (kind_word size)) (view m.2.now)) }
-    ensures none { (x y w : Data) → view value.now ≡ telegram_tree x y (string (kind_word size)) w → IsSome result }
+    ensures some { IfSome result (λ m. view value.now ≡ telegram_tree size (view m.0.now) (view m.1.now) (view m.2.now)) }
+    ensures none { (x y w : Data) → view value.now ≡ telegram_tree size x y w → IsSome result }
 {
     let mut members = Rest::of(value)?;
     let (fill, header) = members.two("fill", "header")?;
@@ -72,8 +71,8 @@ pub(crate) fn telegram_in(
 ) -> Result<Option<Telegram>, AllocError>
     ensures size { IfOk result (λ o. IfSome o (λ t. t.size ≡ size)) }
     ensures reads { IfOk result (λ o. IfSome o (λ t. (r : Reading) × TelegramReads (telegram_value t) r)) }
-    ensures some { IfOk result (λ o. IfSome o (λ t. (u : TelegramValue) × (telegram_value t ≡ unnamed_telegram u) × IsTelegramTree u (view value.now))) }
-    ensures only { IfOk result (λ o. (t : TelegramValue) (r : Reading) → t.size ≡ size → TelegramReads (unnamed_telegram t) r → IsTelegramTree t (view value.now) → IsSome o) }
+    ensures some { IfOk result (λ o. IfSome o (λ t. IsTelegramOf (view value.now) (telegram_value t))) }
+    ensures only { IfOk result (λ o. IfTelegram size (view value.now) (IsSome o)) }
 {
     match telegram_members(size, value) {
         Some((fill, header, packets)) => telegram_of(alloc, size, fill, header, packets),
@@ -91,8 +90,8 @@ fn telegram_of(
 ) -> Result<Option<Telegram>, AllocError>
     ensures size { IfOk result (λ o. IfSome o (λ t. t.size ≡ size)) }
     ensures reads { IfOk result (λ o. IfSome o (λ t. (r : Reading) × TelegramReads (telegram_value t) r)) }
-    ensures some { IfOk result (λ o. IfSome o (λ t. (u : TelegramValue) × (telegram_value t ≡ unnamed_telegram u) × IsTelegramTree u (telegram_tree (view fill.now) (view header.now) (string (kind_word size)) (view packets.now)))) }
-    ensures only { IfOk result (λ o. (t : TelegramValue) (r : Reading) → t.size ≡ size → TelegramReads (unnamed_telegram t) r → IsTelegramTree t (telegram_tree (view fill.now) (view header.now) (string (kind_word size)) (view packets.now)) → IsSome o) }
+    ensures some { IfOk result (λ o. IfSome o (λ t. IsTelegramOf (telegram_tree size (view fill.now) (view header.now) (view packets.now)) (telegram_value t))) }
+    ensures only { IfOk result (λ o. IfTelegram size (telegram_tree size (view fill.now) (view header.now) (view packets.now)) (IsSome o)) }
 {
     let Some(header) = header_in(alloc, header)? else {
         return Ok(None);

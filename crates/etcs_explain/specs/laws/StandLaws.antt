@@ -8,9 +8,9 @@ use Rattle.etcs_runs.specs.Promises.{Sound}
 use Rattle.etcs_runs.specs.declared.form.Form.{Form}
 use Rattle.etcs_runs.specs.declared.form.Form.TheVariants.{Hex, Bin, Json}
 use Rattle.etcs_explain.specs.declared.task.Task.{Task}
-use Rattle.etcs_explain.specs.declared.seen.Seen.{Seen}
+use Rattle.etcs_explain.specs.declared.items.Items.{Items}
 use Rattle.etcs_explain.specs.Inputs.{Token, of_byte, placed, line_tokens, line_long, lines_tokens, lines_long, Lines, IsSure, Begins, SoFar}
-use Rattle.etcs_explain.specs.Explained.{Tells, TellsFirst, explanations}
+use Rattle.etcs_explain.specs.Explained.{Outputs, OutputsFirst, explanations}
 use Rattle.etcs_explain.specs.Stands.{BytesStand, LinesTook}
 
 -- ---- What is there of an input begins it.
@@ -43,29 +43,29 @@ begins_more kind Json given more tokens long h = no_more kind Json (given ++ mor
 
 -- ---- Promises.
 
-tells_more : (page : List ℕ) (task : Task) (given more told : List ℕ) → Tells page task given told → TellsFirst page task (given ++ more) told
-tells_more page task given more told (tokens, lines, held, long, seen, so_far, short, is) =
+outputs_more : (page : List ℕ) (task : Task) (given more output : List ℕ) → Outputs page task given output → OutputsFirst page task (given ++ more) output
+outputs_more page task given more output (tokens, lines, held, long, seen, so_far, short, is) =
     let b = begins_more task.kind task.from given more (tokens ++ placed lines held) long so_far in
     let begins = subst (λ (z : List Token). Begins task.kind task.from (given ++ more) z long) (append_assoc tokens (placed lines held) b.0) b.1 in
     (tokens, placed lines held ++ b.0, long, [], seen, subst (λ (z : List ℕ). Begins task.kind task.from (given ++ more) (tokens ++ (placed lines held ++ b.0)) z) (sym (append-nil long)) begins, is)
 
-tells_first : (page : List ℕ) (task : Task) (given told : List ℕ) → Tells page task given told → TellsFirst page task given told
-tells_first page task given told h =
-    subst (λ (z : List ℕ). TellsFirst page task z told) (append-nil given) (tells_more page task given [] told h)
+outputs_first : (page : List ℕ) (task : Task) (given output : List ℕ) → Outputs page task given output → OutputsFirst page task given output
+outputs_first page task given output h =
+    subst (λ (z : List ℕ). OutputsFirst page task z output) (append-nil given) (outputs_more page task given [] output h)
 
 pub explanations_sound : (page foot : List ℕ) (task : Task) → Sound (explanations page foot task)
 explanations_sound page foot task = record {
-  tells_print = λ given told h. inl (tells_first page task given told h);
-  stops_print = λ given told fault h. elim h [ inl s ↦ inl s.1 | inr b ↦ inr (fault, b) ];
-  last_prints = λ given told fault h. inl h.1;
-  starves = λ given more told h. inl (refl, tells_more page task given more told h);
+  outputs_print = λ given output h. inl (outputs_first page task given output h);
+  stops_print = λ given output fault h. elim h [ inl s ↦ inl s.1 | inr b ↦ inr (fault, b) ];
+  last_prints = λ given output fault h. inl h.1;
+  starves = λ given more output h. inl (refl, outputs_more page task given more output h);
 }
 
 -- ---- What holds between two pieces.
 
-pub bytes_tell : (page : List ℕ) (task : Task) (lines held : List ℕ) (seen : Seen) (given told : List ℕ) → BytesStand page task lines held seen given told → Tells page task given told
-bytes_tell page task lines held seen given told h =
-    (h.took.tokens, lines, held, [], seen, subst (λ (f : Form). SoFar task.kind f given (h.took.tokens ++ placed lines held) []) (sym h.form) (sym h.took.all_are, refl), h.short, h.took.explained)
+pub bytes_output : (page : List ℕ) (s : Items) (given output : List ℕ) → BytesStand page s given output → Outputs page s.explainer.task given output
+bytes_output page s given output h =
+    (h.took.tokens, s.lines.items, s.held.items, [], s.explainer.seen, subst (λ (f : Form). SoFar s.explainer.task.kind f given (h.took.tokens ++ placed s.lines.items s.held.items) []) (sym h.form) (sym h.took.all_are, refl), h.short, h.took.explained)
 
 so_far_of : (kind : Kind) (form : Form) (given : List ℕ) (tokens : List Token) (long : List ℕ) → (form ≡ Bin → ⊥) → ((h : Lines kind form given tokens long) × IsSure h.part × IsLine h.rest) → SoFar kind form given tokens long
 so_far_of kind Bin given tokens long other h = absurd (other refl)
@@ -86,22 +86,22 @@ pub long_none : (n : ℕ) (lines : List (List ℕ)) → lines_long n lines ≡ l
 long_none n [] = refl
 long_none n (l ∷ lines) = ap (λ (z : List ℕ). line_long (n + 1) (strip_cr l) ++ z) (long_none (n + 1) lines)
 
-pub lines_tell : (page : List ℕ) (task : Task) (held_lines held : List ℕ) (seen : Seen) (n : ℕ) (lines : List (List ℕ)) (part told : List ℕ) → LinesTook page task held_lines held seen n lines told → IsLine part → Tells page task (lines_text lines ++ part) told
-lines_tell page task held_lines held seen n lines part told h l =
+pub lines_output : (page : List ℕ) (s : Items) (lines : List (List ℕ)) (part output : List ℕ) → LinesTook page s lines output → IsLine part → Outputs page s.explainer.task (lines_text lines ++ part) output
+lines_output page s lines part output h l =
     let none = All-nil (λ c. c ≡ 10 → ⊥) in (
       h.took.tokens,
-      held_lines,
-      held,
+      s.lines.items,
+      s.held.items,
       lines_long 0 lines,
-      seen,
-      so_far_of task.kind task.from (lines_text lines ++ part) _ _ h.form (
+      s.explainer.seen,
+      so_far_of s.explainer.task.kind s.explainer.task.from (lines_text lines ++ part) _ _ h.form (
         record {
           lines = lines;
           part = [];
           rest = part;
           given_is = refl;
           are_lines = All-append IsLine lines ([] ∷ []) h.are_lines (All-cons IsLine [] [] none (All-nil IsLine));
-          tokens_are = sym h.took.all_are ∙ tokens_none task.kind task.from 0 lines;
+          tokens_are = sym h.took.all_are ∙ tokens_none s.explainer.task.kind s.explainer.task.from 0 lines;
           long_is = long_none 0 lines;
         },
         inl refl,
@@ -111,14 +111,14 @@ lines_tell page task held_lines held seen n lines part told h l =
       h.took.explained,
     )
 
-pub long_tell : (page : List ℕ) (task : Task) (held_lines held : List ℕ) (seen : Seen) (n : ℕ) (lines : List (List ℕ)) (part told : List ℕ) → LinesTook page task held_lines held seen n (lines ++ part ∷ []) told → IsLine part → 1048576 + 1 < length part → Tells page task (lines_text lines ++ part) told
-long_tell page task held_lines held seen n lines part told h l m = (
+pub long_output : (page : List ℕ) (s : Items) (lines : List (List ℕ)) (part output : List ℕ) → LinesTook page s (lines ++ part ∷ []) output → IsLine part → 1048576 + 1 < length part → Outputs page s.explainer.task (lines_text lines ++ part) output
+long_output page s lines part output h l m = (
   h.took.tokens,
-  held_lines,
-  held,
+  s.lines.items,
+  s.held.items,
   lines_long 0 (lines ++ part ∷ []),
-  seen,
-  so_far_of task.kind task.from (lines_text lines ++ part) _ _ h.form (
+  s.explainer.seen,
+  so_far_of s.explainer.task.kind s.explainer.task.from (lines_text lines ++ part) _ _ h.form (
     record {
       lines = lines;
       part = part;

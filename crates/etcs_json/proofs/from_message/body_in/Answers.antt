@@ -24,12 +24,12 @@ returns-in-Some-2 g c =
     record {
       own = made;
       some = pairs;
-      only = λ row r fs is_row reads is t. ap Some (own_only g.H.Packet.AnyPacket.WAY g.B.Own.own g.met.B.Own.laws c.args.nid (layout items) found (view c.args.value.now) c.in-Some-2.numbers.items c.as_slice.result.now c.of_numbers.result row r fs only c.as_slice.ensures.value c.of_numbers.ensures is_row reads is t);
+      only = λ row r is_row reads pairs. ap Some (own_only g.H.Packet.AnyPacket.WAY g.B.Own.own g.met.B.Own.laws c.args.nid (layout items) found (view c.args.value.now) c.in-Some-2.numbers.items c.as_slice.result.now c.of_numbers.result row r only c.as_slice.ensures.value c.of_numbers.ensures is_row reads pairs);
     }
 
 pub returns-in-None-2-clause-only : goal.returns-in-None-2-clause-only
-returns-in-None-2-clause-only g c = λ row r fs is_row reads is t.
+returns-in-None-2-clause-only g c = λ row r is_row reads pairs.
     (let items = c.in-Some.row.items.now in
     let found = row_found (message_row_to g.H.Packet.AnyPacket.WAY c.args.nid) items (rw c.WAY.ensures at c.in-Some.ensures) in
     let only = none_at _ c.in_ok-numbers-in-Some.field-0 (λ f. f.items) (layout items) (view c.args.value.now) c.in-None-2.is c.in_ok-numbers-in-Some.ensures.only in
-    absurd (own_none g.H.Packet.AnyPacket.WAY g.B.Own.own g.met.B.Own.laws c.args.nid (layout items) found (view c.args.value.now) row r fs only is_row reads is t))
+    absurd (own_none g.H.Packet.AnyPacket.WAY g.B.Own.own g.met.B.Own.laws c.args.nid (layout items) found (view c.args.value.now) row r only is_row reads pairs))

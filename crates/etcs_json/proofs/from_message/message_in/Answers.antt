@@ -1,5 +1,5 @@
 use Rattle.serde_json.specs.View.{view}
-use Rattle.etcs_json.proofs.MessageTrees.{kept_named, kept_only, no_message}
+use Rattle.etcs_json.proofs.MessageTrees.{no_message}
 use Rattle.etcs_json.proofs.from_message.message_in.Goals as goal
 
 pub returns-in-Some-clause-some : goal.returns-in-Some-clause-some
@@ -15,12 +15,12 @@ returns-in-Some-clause-only g c =
 pub returns-in-Some-kept_members-clause-some : goal.returns-in-Some-kept_members-clause-some
 returns-in-Some-kept_members-clause-some g c =
     let is = rw c.WAY-way.ensures at c.in-Some-kept_members.ensures.some in
-    kept_named g.H.Packet.AnyPacket.WAY g.H.Head.head g.B.Own.own g.H.Packet.AnyPacket.form c.kept_of.result _ _ (view c.args.value.now) is c.kept_of.ensures.some
+    rw is c.kept_of.ensures.some
 
 pub returns-in-Some-kept_members-clause-only : goal.returns-in-Some-kept_members-clause-only
 returns-in-Some-kept_members-clause-only g c =
     let is = rw c.WAY-way.ensures at c.in-Some-kept_members.ensures.some in
-    kept_only g.H.Packet.AnyPacket.WAY c.kept_of.result _ _ (view c.args.value.now) is c.kept_of.ensures.only
+    rw is c.kept_of.ensures.only
 
 pub returns-clause-only : goal.returns-clause-only
 returns-clause-only g c =

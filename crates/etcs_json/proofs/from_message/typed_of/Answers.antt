@@ -1,19 +1,15 @@
-use Rattle.serde_json.specs.Data.{string}
 use Rattle.serde_json.specs.View.{view}
-use Rattle.std.proofs.Common.{◌≡◌, ◌<◌, ℕ, length, map, refl, sym, ap, ◌∙◌, Some}
+use Rattle.std.proofs.Common.{◌≡◌, ◌<◌, ℕ, length, refl, sym, ap, ◌∙◌, Some}
 use Rattle.std.specs.Prelude.{IsSome}
 use Rattle.etcs_bits.specs.Bits.{num}
-use Rattle.etcs_messages.specs.Messages.{values_of}
 use Rattle.etcs_packet_text.specs.Trees.{bits_tree}
-use Rattle.etcs_text.specs.Show.{way_word}
-use Rattle.etcs_json_trees.specs.Loose.{unnamed}
 use Rattle.etcs_json.proofs.MessageTrees.{long_padding, typed_message_some, typed_message_only, one_value}
 use Rattle.etcs_json.proofs.from_message.typed_of.Goals as goal
 
 pub returns-in_default-padding_number-clause-only : goal.returns-in_default-padding_number-clause-only
 returns-in_default-padding_number-clause-only g c = λ m r reads tree.
     (let long : 7 < length c.in-Some-5.padding = c.in_default-padding_number.ensures.none refl in
-    absurd (long_padding g.H.Packet.AnyPacket.WAY m (view c.args.fields.now) (view c.args.header.now) (string (way_word g.H.Packet.AnyPacket.WAY)) (view c.args.nid.now) (view c.args.packets.now) (view c.args.padding.now) c.in-Some-5.padding r long (λ q is. (let two : Some c.in-Some-5.padding ≡ Some q = sym c.in-Some-5.is ∙ c.in_ok-padding.ensures.only q is in cc)) reads tree))
+    absurd (long_padding g.H.Packet.AnyPacket.WAY m (view c.args.fields.now) (view c.args.header.now) (view c.args.nid.now) (view c.args.packets.now) (view c.args.padding.now) c.in-Some-5.padding r long (λ q is. (let two : Some c.in-Some-5.padding ≡ Some q = sym c.in-Some-5.is ∙ c.in_ok-padding.ensures.only q is in cc)) reads tree))
 
 pub returns-clause-some : goal.returns-clause-some
 returns-clause-some g c =
@@ -33,8 +29,8 @@ returns-clause-only g c =
     let same : num c.len.result c.in-Some-padding_number.number ≡ c.in-Some-5.padding = ap (λ (n : ℕ). num n c.in-Some-padding_number.number) c.len.ensures ∙ sym c.in-Some-padding_number.ensures.some.2 in
     typed_message_only way g.H.Head.head g.B.Own.own form (view c.args.fields.now) (view c.args.header.now) (view c.args.nid.now) (view c.args.packets.now) (view c.args.padding.now) c.in-Some.nid c.in-Some-3.head c.in-Some-2.body c.in-Some-4.packets.items (num c.len.result c.in-Some-padding_number.number) (IsSome c.typed_by.result)
     c.in-Some.ensures.some own.1
-    (λ row r fs found reads is t. one_value c.in_ok-body.field-0 c.in-Some-2.body g.B.Own.own.reading r c.in-Some-2.is (c.in_ok-body.ensures.only row r fs found reads is t))
-    (λ r hs reads is t. one_value c.in_ok-head.field-0 c.in-Some-3.head g.H.Head.head.reading r c.in-Some-3.is (c.in_ok-head.ensures.only r hs reads is t))
-    (λ vs ds all is t. one_value c.in_ok-packets.field-0 c.in-Some-4.packets (λ ps. values_of form ps.items) (map (unnamed way) vs) c.in-Some-4.is (c.in_ok-packets.ensures.only vs ds all is t))
+    (λ row r found reads pairs. one_value c.in_ok-body.field-0 c.in-Some-2.body g.B.Own.own.reading r c.in-Some-2.is (c.in_ok-body.ensures.only row r found reads pairs))
+    (λ r reads pairs. one_value c.in_ok-head.field-0 c.in-Some-3.head g.H.Head.head.reading r c.in-Some-3.is (c.in_ok-head.ensures.only r reads pairs))
+    (rw c.in-Some-4.is at c.in_ok-packets.ensures.only)
     (λ q is. (let two : Some c.in-Some-5.padding ≡ Some q = sym c.in-Some-5.is ∙ c.in_ok-padding.ensures.only q is in cc))
     c.typed_by.ensures.only

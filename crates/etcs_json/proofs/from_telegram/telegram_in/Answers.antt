@@ -1,7 +1,6 @@
 use Rattle.std.proofs.Common.{ap, ◌∙◌}
-use Rattle.serde_json.specs.Data.{array, string}
+use Rattle.serde_json.specs.Data.{array}
 use Rattle.etcs_telegram.specs.declared.size.Size.{Size}
-use Rattle.etcs_text.specs.Show.{kind_word}
 use Rattle.etcs_packet_text.specs.Trees.{bits_tree}
 use Rattle.etcs_json.specs.TreeReading.{telegram_tree}
 use Rattle.etcs_json.proofs.from_telegram.telegram_in.Goals as goal
@@ -14,4 +13,4 @@ returns-in-Some-clause-only c = rw c.in-Some.ensures.some c.telegram_of.ensures.
 
 pub returns-in-None-clause-only : goal.returns-in-None-clause-only
 returns-in-None-clause-only c = λ t r s h (hs, ps, e, ht, pt).
-    (let no' = c.in-None.ensures.none _ _ _ (e ∙ ap (λ (z : Size). telegram_tree (bits_tree t.fill) (array hs) (string (kind_word z)) (array ps)) s) in absurd cc)
+    (let no' = c.in-None.ensures.none _ _ _ (e ∙ ap (λ (z : Size). telegram_tree z (bits_tree t.fill) (array hs) (array ps)) s) in absurd cc)

@@ -1,4 +1,4 @@
-use Rattle.std.proofs.Common.{◌≡◌, ◌-◌, ◌++◌, ℕ, List, [], false, drop, length, take, ap, subst, ◌∙◌, arith}
+use Rattle.std.proofs.Common.{◌≡◌, ◌-◌, ℕ, List, [], false, drop, length, take, ap, refl, rules, subst, sym, ◌∙◌, arith}
 use Rattle.std.proofs.lemmas.List.{length-drop, take_rest}
 use Rattle.std.proofs.lemmas.Result.{err_from_is_err_and}
 use Rattle.etcs_reasons.specs.declared.page.TheConstants.{HEAD}
@@ -7,23 +7,29 @@ use Rattle.etcs_reasons.specs.declared.account.Part.{Part}
 use Rattle.etcs_reasons.specs.declared.account.End.TheVariants.{Open}
 use Rattle.etcs_explain.specs.declared.task.Task.{Task}
 use Rattle.etcs_explain.specs.Inputs.{placed}
-use Rattle.etcs_explain.specs.Stands.{AddsOne}
-use Rattle.etcs_explain.proofs.Parting.{first_kept, first_some, items_further, some_same}
+use Rattle.etcs_explain.specs.Stands.{AddsOne, ExplainsSome}
+use Rattle.etcs_explain.proofs.Parting.{explains_none, first_kept, first_some, items_further}
 use Rattle.etcs_explain.proofs.explainer.Explainer.items.Goals as goal
 use Rattle.etcs_explain.proofs.explainer.Explainer.items.Goals.{else-not-is_last-2-via-then-not-is_last-2+else-is_open, else-not-is_last-2-via-else-not-is_last-2}
 
+pub loop-at-init : goal.loop-at-init
+loop-at-init c = (search rules, refl, (λ last before. before), explains_none HEAD.now c.args.self.now.task c.args.self.now.seen c.args.text.now.items, (λ fault before. before))
+
 pub returns-in_err-account-clause-err : goal.returns-in_err-account-clause-err
-returns-in_err-account-clause-err c tokens long told h =
+returns-in_err-account-clause-err c =
     let p = err_from_is_err_and c.from_residual.result c.from_residual.ensures.1 in
     let l = c.loop-at in
-    rw p.1 (first_some HEAD.now c.args.self.now.task l.self.seen tokens long (told ++ l.text.items) l.at c.args.lines.now c.args.bytes.now (l.invariant.3 tokens long told h))
+    let a = c.args.self.now in
+    rw p.1 (first_some HEAD.now a.task a.seen l.self.seen c.args.text.now.items l.text.items l.at c.args.lines.now c.args.bytes.now l.invariant.3)
 
 pub returns-in_err-at-clause-err : goal.returns-in_err-at-clause-err
-returns-in_err-at-clause-err c tokens long told h =
+returns-in_err-at-clause-err c =
     let p = err_from_is_err_and c.from_residual-in_err-at.result c.from_residual-in_err-at.ensures.1 in
     let l = c.loop-at in
-    let some = first_some HEAD.now c.args.self.now.task l.self.seen tokens long (told ++ l.text.items) l.at c.args.lines.now c.args.bytes.now (l.invariant.3 tokens long told h) in
-    rw p.1 (some_same HEAD.now c.args.self.now.task _ long told l.text.items c.item.new.text.items c.in_err-at.ensures.err some)
+    let a = c.args.self.now in
+    let text = c.args.text.now.items in
+    let some = first_some HEAD.now a.task a.seen l.self.seen text l.text.items l.at c.args.lines.now c.args.bytes.now l.invariant.3 in
+    rw p.1 (subst (λ (z : List ℕ). ExplainsSome HEAD.now a.task a.seen text (placed c.args.lines.now c.args.bytes.now) z) (sym c.in_err-at.ensures.err) some)
 
 pub loop-at-preserved : goal.loop-at-preserved
 loop-at-preserved c =
@@ -40,7 +46,7 @@ loop-at-preserved c =
       omega (arith, l.invariant.0, e.most, ap length (take_rest bytes l.at), length-drop l.at bytes),
       e.task ∙ l.invariant.1,
       (λ last before. e.uncut (other last) (l.invariant.2 last before)),
-      (λ tokens long told h. items_further HEAD.now task l.self.seen c.item.new.self.seen tokens long told l.text.items c.item.new.text.items l.at n lines bytes (l.invariant.3 tokens long told h) added),
+      items_further HEAD.now task c.args.self.now.seen l.self.seen c.item.new.self.seen c.args.text.now.items l.text.items c.item.new.text.items l.at n lines bytes l.invariant.3 added,
       (λ fault before. first_kept HEAD.now task l.self.seen c.item.new.self.seen _ [] l.text.items c.item.new.text.items added fault (l.invariant.4 fault before)),
     )
 

@@ -1,15 +1,27 @@
-use Rattle.std.proofs.Common.{◌++◌, ℕ, List, subst, take}
+use Rattle.std.proofs.Common.{ℕ, List, subst, take}
+use Rattle.std.proofs.lemmas.Result.{err_from_is_err_and}
 use Rattle.etcs_reasons.specs.declared.page.TheConstants.{HEAD}
 use Rattle.etcs_explain.specs.Inputs.{placed}
-use Rattle.etcs_explain.specs.Explained.{Explained}
-use Rattle.etcs_explain.proofs.Parting.{took_first}
+use Rattle.etcs_explain.specs.Stands.{Explains, ExplainsSome}
+use Rattle.etcs_explain.proofs.Taking.{some_first, takes_first}
 use Rattle.etcs_explain.proofs.items.Items.pass.Goals as goal
 
+pub returns-in_err-count-clause-err : goal.returns-in_err-count-clause-err
+returns-in_err-count-clause-err c =
+    let p = err_from_is_err_and c.from_residual.result c.from_residual.ensures.1 in
+    let s = c.args.self.now in
+    let text = c.args.text.now.items in
+    let text' = c.items.new.text.items in
+    let some1 = subst (λ (z : List ℕ). ExplainsSome HEAD.now s.explainer.task s.explainer.seen text (placed z c.as_slice.result.now) text') c.as_slice-2.ensures.value c.in_err-count.ensures.err in
+    let some = subst (λ (z : List ℕ). ExplainsSome HEAD.now s.explainer.task s.explainer.seen text (placed s.lines.items z) text') c.as_slice.ensures.value some1 in
+    rw p.1 (some_first HEAD.now s _ text text' c.items.ensures.task some)
+
 pub returns-clause-ok : goal.returns-clause-ok
-returns-clause-ok c all long told h =
+returns-clause-ok c =
     let s = c.args.self.now in
     let n = c.in_ok-count.count in
-    let text = told ++ c.items.new.text.items in
-    let is1 = subst (λ (z : List ℕ). Explained HEAD.now s.explainer.task c.items.new.self.seen (h.tokens ++ placed (take n z) (take n c.as_slice.result.now)) long text) c.as_slice-2.ensures.value (c.in_ok-count.ensures.ok h.tokens long told h.explained) in
-    let is = subst (λ (z : List ℕ). Explained HEAD.now s.explainer.task c.items.new.self.seen (h.tokens ++ placed (take n s.lines.items) (take n z)) long text) c.as_slice.ensures.value is1 in
-    took_first HEAD.now s.explainer.task s.lines.items c.drop_first-2.new.list.items s.held.items c.drop_first.new.list.items s.explainer.seen c.items.new.self.seen all long (told ++ c.args.text.now.items) text n h is c.drop_first-2.ensures c.drop_first.ensures
+    let text = c.args.text.now.items in
+    let text' = c.items.new.text.items in
+    let is1 = subst (λ (z : List ℕ). Explains HEAD.now s.explainer.task s.explainer.seen text (placed (take n z) (take n c.as_slice.result.now)) c.items.new.self.seen text') c.as_slice-2.ensures.value c.in_ok-count.ensures.ok in
+    let is = subst (λ (z : List ℕ). Explains HEAD.now s.explainer.task s.explainer.seen text (placed (take n s.lines.items) (take n z)) c.items.new.self.seen text') c.as_slice.ensures.value is1 in
+    takes_first HEAD.now s _ text text' n c.items.ensures.task is c.drop_first-2.ensures c.drop_first.ensures

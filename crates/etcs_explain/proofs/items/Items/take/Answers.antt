@@ -1,48 +1,27 @@
-use Rattle.std.proofs.Common.{◌++◌, ◌∙◌, ℕ, map, subst}
-use Rattle.std.specs.Prelude.{OnErr, OnOk}
-use Rattle.std.proofs.lemmas.Result.{err_from_is_err_and}
+use Rattle.std.proofs.Common.{ℕ, [], ap, map, refl}
+use Rattle.std.proofs.lemmas.Result.{err_from_is_err_and, on_err_weaker, on_ok_weaker}
 use Rattle.etcs_reasons.specs.declared.page.TheConstants.{HEAD}
 use Rattle.etcs_explain.specs.Inputs.{of_byte}
-use Rattle.etcs_explain.specs.Stands.{Took, TookSome}
-use Rattle.etcs_explain.proofs.Parting.{at_task, err_task, ok_task, some_of, some_tokens}
+use Rattle.etcs_explain.proofs.Taking.{some_after, some_before, some_none, some_then, takes_at, takes_both, takes_then}
 use Rattle.etcs_explain.proofs.items.Items.take.Goals as goal
 
 pub returns-in_err-end_cut-clause-err : goal.returns-in_err-end_cut-clause-err
-returns-in_err-end_cut-clause-err c all long told h =
+returns-in_err-end_cut-clause-err c =
     let p = err_from_is_err_and c.from_residual.result c.from_residual.ensures.1 in
-    rw p.1 (some_tokens HEAD.now c.args.self.now.explainer.task all (map (of_byte c.args.self.now.line) c.args.bytes.now) long (told ++ c.end_cut.new.text.items) (c.in_err-end_cut.ensures.err all long told h))
+    rw p.1 (some_before (map (of_byte c.args.self.now.line) c.args.bytes.now) [] c.in_err-end_cut.ensures.err)
 
 pub returns-in_err-add-clause-err : goal.returns-in_err-add-clause-err
-returns-in_err-add-clause-err c all long told h =
+returns-in_err-add-clause-err c =
     let p = err_from_is_err_and c.from_residual-in_err-add.result c.from_residual-in_err-add.ensures.1 in
-    let s = c.end_cut.new.self in
-    let text = told ++ c.end_cut.new.text.items in
-    let task = c.args.self.now.explainer.task in
-    rw p.1 (some_tokens HEAD.now task all (map (of_byte c.args.self.now.line) c.args.bytes.now) long text (some_of HEAD.now task s.lines.items s.held.items s.explainer.seen all long text (c.in_ok-end_cut.ensures.ok all long told h)))
+    let text = c.end_cut.new.text.items in
+    rw p.1 (some_after c.in_ok-end_cut.ensures.ok (some_none HEAD.now c.end_cut.new.self c.add.new.self (map (of_byte c.args.self.now.line) c.args.bytes.now) [] text text c.add.ensures.same.0 refl))
 
 pub returns-clause-ok : goal.returns-clause-ok
-returns-clause-ok c all long told h =
-    let task = c.args.self.now.explainer.task in
-    let s = c.end_cut.new.self in
-    let a = c.add.new.self in
-    let q = c.pass.new.self in
-    let bytes = c.args.bytes.now in
-    let text = told ++ c.end_cut.new.text.items in
-    let e = at_task HEAD.now task s.explainer.task s.lines.items s.held.items s.explainer.seen all long text c.end_cut.ensures.same.0 (c.in_ok-end_cut.ensures.ok all long told h) in
-    let more = all ++ map (of_byte s.line) bytes in
-    let f = at_task HEAD.now s.explainer.task a.explainer.task a.lines.items a.held.items a.explainer.seen more long text c.add.ensures.same.0 (c.in_ok-add.ensures.ok all long text e) in
-    let r = ok_task c.pass.result HEAD.now task a.explainer.task q.lines.items q.held.items q.explainer.seen more long (told ++ c.pass.new.text.items) (c.add.ensures.same.0 ∙ c.end_cut.ensures.same.0) (c.pass.ensures.ok more long told f) in
-    subst (λ (z : ℕ). OnOk c.pass.result (Took HEAD.now task q.lines.items q.held.items q.explainer.seen (all ++ map (of_byte z) bytes) long (told ++ c.pass.new.text.items))) c.end_cut.ensures.same.1 r
+returns-clause-ok c =
+    let added = takes_at (ap (λ (n : ℕ). map (of_byte n) c.args.bytes.now) c.end_cut.ensures.same.1) (c.in_ok-add.ensures.ok c.end_cut.new.text.items) in
+    on_ok_weaker c.pass.result (λ k. takes_then (takes_both c.in_ok-end_cut.ensures.ok added) k) c.pass.ensures.ok
 
 pub returns-clause-err : goal.returns-clause-err
-returns-clause-err c all long told h =
-    let task = c.args.self.now.explainer.task in
-    let s = c.end_cut.new.self in
-    let a = c.add.new.self in
-    let bytes = c.args.bytes.now in
-    let text = told ++ c.end_cut.new.text.items in
-    let e = at_task HEAD.now task s.explainer.task s.lines.items s.held.items s.explainer.seen all long text c.end_cut.ensures.same.0 (c.in_ok-end_cut.ensures.ok all long told h) in
-    let more = all ++ map (of_byte s.line) bytes in
-    let f = at_task HEAD.now s.explainer.task a.explainer.task a.lines.items a.held.items a.explainer.seen more long text c.add.ensures.same.0 (c.in_ok-add.ensures.ok all long text e) in
-    let r = err_task c.pass.result HEAD.now task a.explainer.task more long (told ++ c.pass.new.text.items) (c.add.ensures.same.0 ∙ c.end_cut.ensures.same.0) (c.pass.ensures.err more long told f) in
-    subst (λ (z : ℕ). OnErr c.pass.result (TookSome HEAD.now task (all ++ map (of_byte z) bytes) long (told ++ c.pass.new.text.items))) c.end_cut.ensures.same.1 r
+returns-clause-err c =
+    let added = takes_at (ap (λ (n : ℕ). map (of_byte n) c.args.bytes.now) c.end_cut.ensures.same.1) (c.in_ok-add.ensures.ok c.end_cut.new.text.items) in
+    on_err_weaker c.pass.result (λ k. some_then (takes_both c.in_ok-end_cut.ensures.ok added) k) c.pass.ensures.err

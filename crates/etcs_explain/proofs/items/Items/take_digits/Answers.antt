@@ -1,10 +1,9 @@
-use Rattle.std.proofs.Common.{◌++◌, ◌∙◌, ◌/◌, ◌+◌, ℕ, List, ap, length, map, subst, sym, take}
-use Rattle.std.specs.Prelude.{OnErr, OnOk}
+use Rattle.std.proofs.Common.{◌∙◌, ◌/◌, ◌+◌, ℕ, List, ap, length, map, sym, take}
 use Rattle.std.proofs.lemmas.List.{length-take-le}
-use Rattle.etcs_reasons.specs.declared.page.TheConstants.{HEAD}
+use Rattle.std.proofs.lemmas.Result.{on_err_weaker, on_ok_weaker}
 use Rattle.etcs_explain.specs.Inputs.{of_byte}
-use Rattle.etcs_explain.specs.Stands.{Took, TookSome}
 use Rattle.etcs_explain.proofs.HexLines.{say_bits, say_bytes, has_bits}
+use Rattle.etcs_explain.proofs.Taking.{some_same, takes_at}
 use Rattle.etcs_explain.proofs.items.Items.take_digits.Goals as goal
 
 pub slice_bounds-packed-end : goal.slice_bounds-packed-end
@@ -16,31 +15,27 @@ slice_bounds-take-end c =
     sym (length-take-le ((length bytes + 3) / 4) c.packed-packed.result (has_bits c.args.self.now.explainer.task.kind bytes c.packed-packed.result (sym c.are_bits.ensures ∙ c.if-are_bits.true) c.packed-packed.ensures))
 
 pub returns-then-are_bits-clause-ok : goal.returns-then-are_bits-clause-ok
-returns-then-are_bits-clause-ok c all long told h =
+returns-then-are_bits-clause-ok c =
     let s = c.args.self.now in
-    let q = c.take.new.self in
     let bytes = c.args.bytes.now in
     let e = ap (λ (z : List ℕ). take ((length bytes + 3) / 4) z) c.packed-packed.ensures ∙ sym (say_bits s.explainer.task.kind bytes (sym c.are_bits.ensures ∙ c.if-are_bits.true)) in
-    subst (λ (z : List ℕ). OnOk c.take.result (Took HEAD.now s.explainer.task q.lines.items q.held.items q.explainer.seen (all ++ map (of_byte s.line) z) long (told ++ c.take.new.text.items))) e (c.take.ensures.ok all long told h)
+    on_ok_weaker c.take.result (λ k. takes_at (ap (λ (z : List ℕ). map (of_byte s.line) z) e) k) c.take.ensures.ok
 
 pub returns-then-are_bits-clause-err : goal.returns-then-are_bits-clause-err
-returns-then-are_bits-clause-err c all long told h =
+returns-then-are_bits-clause-err c =
     let s = c.args.self.now in
     let bytes = c.args.bytes.now in
     let e = ap (λ (z : List ℕ). take ((length bytes + 3) / 4) z) c.packed-packed.ensures ∙ sym (say_bits s.explainer.task.kind bytes (sym c.are_bits.ensures ∙ c.if-are_bits.true)) in
-    subst (λ (z : List ℕ). OnErr c.take.result (TookSome HEAD.now s.explainer.task (all ++ map (of_byte s.line) z) long (told ++ c.take.new.text.items))) e (c.take.ensures.err all long told h)
+    on_err_weaker c.take.result (λ k. some_same (ap (λ (z : List ℕ). map (of_byte s.line) z) e) k) c.take.ensures.err
 
 pub returns-clause-ok : goal.returns-clause-ok
-returns-clause-ok c all long told h =
+returns-clause-ok c =
     let s = c.args.self.now in
-    let q = c.take-2.new.self in
-    let bytes = c.args.bytes.now in
-    let e = sym (say_bytes s.explainer.task.kind bytes (sym c.are_bits.ensures ∙ c.if-are_bits.false)) in
-    subst (λ (z : List ℕ). OnOk c.take-2.result (Took HEAD.now s.explainer.task q.lines.items q.held.items q.explainer.seen (all ++ map (of_byte s.line) z) long (told ++ c.take-2.new.text.items))) e (c.take-2.ensures.ok all long told h)
+    let e = sym (say_bytes s.explainer.task.kind c.args.bytes.now (sym c.are_bits.ensures ∙ c.if-are_bits.false)) in
+    on_ok_weaker c.take-2.result (λ k. takes_at (ap (λ (z : List ℕ). map (of_byte s.line) z) e) k) c.take-2.ensures.ok
 
 pub returns-clause-err : goal.returns-clause-err
-returns-clause-err c all long told h =
+returns-clause-err c =
     let s = c.args.self.now in
-    let bytes = c.args.bytes.now in
-    let e = sym (say_bytes s.explainer.task.kind bytes (sym c.are_bits.ensures ∙ c.if-are_bits.false)) in
-    subst (λ (z : List ℕ). OnErr c.take-2.result (TookSome HEAD.now s.explainer.task (all ++ map (of_byte s.line) z) long (told ++ c.take-2.new.text.items))) e (c.take-2.ensures.err all long told h)
+    let e = sym (say_bytes s.explainer.task.kind c.args.bytes.now (sym c.are_bits.ensures ∙ c.if-are_bits.false)) in
+    on_err_weaker c.take-2.result (λ k. some_same (ap (λ (z : List ℕ). map (of_byte s.line) z) e) k) c.take-2.ensures.err

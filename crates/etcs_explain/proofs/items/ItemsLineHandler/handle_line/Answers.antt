@@ -8,13 +8,12 @@ use Rattle.etcs_explain.proofs.Standing.{line_prints}
 use Rattle.etcs_explain.proofs.items.ItemsLineHandler.handle_line.Goals as goal
 
 pub returns-clause-ok : goal.returns-clause-ok
-returns-clause-ok c lines raw told h l e =
-    let s = c.args.self.now in
-    let q = c.handle.new.self in
-    line_ok c.handle.result c.or_memory.result HEAD.now s.explainer.task q.explainer.task s.lines.items q.lines.items s.held.items q.held.items s.explainer.seen q.explainer.seen s.line q.line lines raw c.args.line.now (told ++ c.args.text.now.items) (told ++ c.handle.new.text.items) c.or_memory.ensures.ok c.handle.ensures.task h l e (c.handle.ensures.ok _ _ told h.took) c.handle.ensures.short c.handle.ensures.json c.handle.ensures.line
+returns-clause-ok c lines raw output h l e =
+    line_ok c.handle.result c.or_memory.result HEAD.now c.args.self.now c.handle.new.self lines raw c.args.line.now output c.args.text.now.items c.handle.new.text.items c.or_memory.ensures.ok h l e c.handle.ensures.task c.handle.ensures.line c.handle.ensures.ok c.handle.ensures.short c.handle.ensures.json
 
 pub returns-clause-err : goal.returns-clause-err
-returns-clause-err c lines raw more told h l e number =
+returns-clause-err c lines raw more output h l e number =
     let s = c.args.self.now in
-    memory_err c.handle.result c.or_memory.result _ (λ f. IsOfEngine f × (explanations HEAD.now FOOT.now s.explainer.task).Stops (lines_text lines ++ (raw ++ 10 ∷ more)) (told ++ c.handle.new.text.items) f) c.or_memory.ensures.err (c.handle.ensures.err _ _ told h.took)
-    (λ p. (tt, inl (refl, line_prints HEAD.now s.explainer.task s.lines.items s.held.items s.explainer.seen s.line lines raw c.args.line.now more (told ++ c.args.text.now.items) (told ++ c.handle.new.text.items) h l e p)))
+    let text = c.handle.new.text.items in
+    memory_err c.handle.result c.or_memory.result _ (λ f. IsOfEngine f × (explanations HEAD.now FOOT.now s.explainer.task).Stops (lines_text lines ++ (raw ++ 10 ∷ more)) (output ++ text) f) c.or_memory.ensures.err c.handle.ensures.err
+    (λ p. (tt, inl (refl, line_prints HEAD.now s c.handle.new.self lines raw c.args.line.now more output c.args.text.now.items text h l e c.handle.ensures.task p)))

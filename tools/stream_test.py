@@ -208,11 +208,11 @@ def check_bytes(program):
 
 def check_long_lines(program):
     """What `log` and `explain` say of lines that no vector has, and that the next line is read."""
-    told = "more than 1,048,576 bytes, which no line has"
+    too_long = "more than 1,048,576 bytes, which no line has"
     for words, count, said, fault in (
         ("log --kind radio", MOST + 1, "more than 1048576 characters", b""),
-        ("explain --kind radio", MOST + 1, told, b"etcs: line 1: bad hexadecimal at 1048576\n"),
-        ("explain --kind radio --from json", MOST + 1, told, b"etcs: line 1: bad JSON\n"),
+        ("explain --kind radio", MOST + 1, too_long, b"etcs: line 1: bad hexadecimal at 1048576\n"),
+        ("explain --kind radio --from json", MOST + 1, too_long, b"etcs: line 1: bad JSON\n"),
         ("explain --kind radio --from json", 65_537, "65537 bytes, of which at most 65,536 are looked into", b"etcs: line 1: bad JSON\n"),
     ):
         status, output, faults = program.call(words, b" " * count + b"\n!\n")

@@ -15,8 +15,8 @@ use Rattle.etcs_c.specs.declared.answer.EtcsAnswer.{EtcsAnswer}
 use Rattle.etcs_c.specs.Writes.{Starves, Writes, name_field}
 use Rattle.etcs_c.specs.declared.found.Found.{Found}
 use Rattle.etcs_c.specs.declared.found.Found.TheVariants.{Whole, More, Refused, Memory}
-use Rattle.etcs_c.specs.declared.told.Wanted.{Wanted}
-use Rattle.etcs_c.specs.declared.told.Wanted.TheVariants.{Show, Json}
+use Rattle.etcs_c.specs.declared.texts.Wanted.{Wanted}
+use Rattle.etcs_c.specs.declared.texts.Wanted.TheVariants.{Show, Json}
 
 -- the number of a kind
 abbrev pub kind_number : Kind → ℕ
@@ -52,23 +52,23 @@ abbrev pub IsText : Wanted → EntryValue → List ℕ → Type 0
 IsText (Show item) e text = text ≡ entry_text e item
 IsText Json e text = text ≡ compact_text (json_tree e)
 
-abbrev pub TellsOf : Wanted → EntryValue → List ℕ → List ℕ → ℕ → EtcsAnswer → Type 0
-TellsOf wanted e old new s a = ((text : List ℕ) × IsText wanted e text × Writes text old new s a) ⊎ Starves old new s
+abbrev pub OutputsOf : Wanted → EntryValue → List ℕ → List ℕ → ℕ → EtcsAnswer → Type 0
+OutputsOf wanted e old new s a = ((text : List ℕ) × IsText wanted e text × Writes text old new s a) ⊎ Starves old new s
 
 -- of an item its bytes and what is written of it; else as a check, and nothing is written
 abbrev pub SaysText : Wanted → Found → List ℕ → List ℕ → ℕ → EtcsAnswer → Type 0
-SaysText wanted (Whole e k) old new s a = (a.taken ≡ k) × TellsOf wanted (entry_value e) old new s a
+SaysText wanted (Whole e k) old new s a = (a.taken ≡ k) × OutputsOf wanted (entry_value e) old new s a
 SaysText wanted More old new s a = Says More s a × (new ≡ old)
 SaysText wanted (Refused i x) old new s a = Says (Refused i x) s a × (new ≡ old)
 SaysText wanted Memory old new s a = Says Memory s a × (new ≡ old)
 
-abbrev pub Tells : Wanted → ℕ → List Bool → List ℕ → List ℕ → ℕ → EtcsAnswer → Type 0
-Tells wanted n b old new s a = ((kind : Kind) × (found : Found) × (kind_number kind ≡ n) × Finds kind b found × SaysText wanted found old new s a) ⊎ (NoKind n s × (new ≡ old))
+abbrev pub Outputs : Wanted → ℕ → List Bool → List ℕ → List ℕ → ℕ → EtcsAnswer → Type 0
+Outputs wanted n b old new s a = ((kind : Kind) × (found : Found) × (kind_number kind ≡ n) × Finds kind b found × SaysText wanted found old new s a) ⊎ (NoKind n s × (new ≡ old))
 
 -- the encoding of the item that a line of JSON says; or it says none: its shape isn't that of an item, or the bits that it
 -- stores are refused
 abbrev pub SaysLine : Kind → List ℕ → List ℕ → List ℕ → ℕ → EtcsAnswer → Type 0
 SaysLine kind line old new s a = ((e : EntryValue) × (bytes : List ℕ) × SaysItem kind line e × IsEncoded e bytes × Writes bytes old new s a) ⊎ (((i : ℕ) × (x : Var) × (s ≡ 2) × (a.bit ≡ i) × (a.var ≡ name_field x) × (new ≡ old) × SaysRefused kind line i x) ⊎ (((s ≡ 6) × (new ≡ old) × ((e : EntryValue) → IsLoose kind e → OfLine (λ d. IsTreeOf e d) line → ⊥)) ⊎ Starves old new s))
 
-abbrev pub TellsJson : ℕ → List ℕ → List ℕ → List ℕ → ℕ → EtcsAnswer → Type 0
-TellsJson n line old new s a = ((kind : Kind) × (kind_number kind ≡ n) × SaysLine kind line old new s a) ⊎ (NoKind n s × (new ≡ old))
+abbrev pub OutputsJson : ℕ → List ℕ → List ℕ → List ℕ → ℕ → EtcsAnswer → Type 0
+OutputsJson n line old new s a = ((kind : Kind) × (kind_number kind ≡ n) × SaysLine kind line old new s a) ⊎ (NoKind n s × (new ≡ old))

@@ -8,7 +8,7 @@ use std::alloc::AllocError;
 
 /// An item, or what is written of it.
 pub const WHOLE: u32 = 0;
-/// The bytes begin an item, and hold none.
+/// The bytes are only the beginning of an item.
 pub const MORE: u32 = 1;
 /// A bit is refused.
 pub const REFUSED: u32 = 2;
@@ -18,9 +18,10 @@ pub const NO_ROOM: u32 = 3;
 pub const NO_MEMORY: u32 = 4;
 /// No kind has this number.
 pub const UNKNOWN_KIND: u32 = 5;
-/// The JSON is that of no item of the kind.
+/// No item of the kind has this JSON.
 pub const BAD_JSON: u32 = 6;
-/// The variables are those of no item of the kind.
+/// A number has more bits than its width, a width is above 64, or the item that the bits begin with has other fields; of a
+/// meaning: no variable has this number.
 pub const BAD_FIELDS: u32 = 7;
 /// A line is blank, or a comment.
 pub const EMPTY_LINE: u32 = 8;
@@ -45,13 +46,14 @@ pub const CLASH_DIFFERS: u32 = 16;
 #[repr(C)]
 #[derive(Drop)]
 pub struct EtcsAnswer {
-    /// How many bytes of the input the item takes.
+    /// How many bytes of the input the item takes; of `etcs_line_bytes` an odd number of digits, of `etcs_assemble` the index
+    /// of the first telegram that isn't held.
     pub taken: usize,
-    /// How many bytes or variables were written, or would be.
+    /// How many bytes or fields were written, or with `NO_ROOM` would be.
     pub written: usize,
-    /// The first bit that is refused.
+    /// The first bit that is refused, counted from 0.
     pub bit: usize,
-    /// The name of the variable that holds it, and zeros.
+    /// The name of the variable that holds it, or that was asked for, and zeros after it.
     pub var: [u8; 32],
 }
 
@@ -66,7 +68,7 @@ pub fn name_field(var: Var) -> [u8; 32]
     field
 }
 
-/// Answers that this bit is refused, which the variable holds.
+/// Puts the refused bit and the name of the variable that holds it into the answer, and returns the status `REFUSED`.
 pub fn refuse(bit: usize, var: Var, answer: &mut EtcsAnswer) -> u32
     ensures status { result ≡ 2 }
     ensures bit { answer.new.bit ≡ bit }
@@ -77,7 +79,8 @@ pub fn refuse(bit: usize, var: Var, answer: &mut EtcsAnswer) -> u32
     REFUSED
 }
 
-/// Writes to the front of a buffer, where it has room, and answers how many there are.
+/// Writes the items to the front of `out` and returns the status `done`; or, if `out` is shorter than they are, writes
+/// nothing and returns `NO_ROOM`. Either way `written` says how many they are.
 pub fn write_out<T: Copy>(done: u32, items: &[T], out: &mut [T], answer: &mut EtcsAnswer) -> u32
     ensures writes { WritesAs done items.now out.old out.new result answer.new }
     ensures taken { answer.new.taken ≡ answer.old.taken }
@@ -93,8 +96,8 @@ pub fn write_out<T: Copy>(done: u32, items: &[T], out: &mut [T], answer: &mut Et
     done
 }
 
-/// Writes what was made to the front of a buffer, where it has room and memory wasn't refused; the status is then this
-/// one.
+/// Writes the items that were made as [`write_out`] does; or, if memory was refused for them, writes nothing and returns
+/// `NO_MEMORY`.
 pub fn deliver<T: Copy>(
     done: u32,
     made: Result<Vec<T>, AllocError>,

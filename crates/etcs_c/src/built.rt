@@ -15,10 +15,10 @@ use etcs_bits::inner::write;
 use etcs_text::Kind;
 use std::alloc::{AllocError, Global};
 
-/// As many bytes as the longest item has.
+/// How many bytes the longest item has.
 const LONGEST: usize = 1023;
 
-/// Whether the number of a field, of at most 64 bits, has no more than its width says.
+/// Whether a field's width is at most 64 bits, and its number has no more bits than that.
 fn is_fit(field: &EtcsField) -> bool
     ensures { Decides result (IsFit field.now) }
 {
@@ -30,15 +30,15 @@ fn is_fit(field: &EtcsField) -> bool
     }
 }
 
-/// Whether the numbers of all fields have no more bits than their widths say.
+/// Whether the same holds of all fields.
 fn are_fit(fields: &[EtcsField]) -> bool
     ensures { Decides result (AreFit fields.now) }
 {
     fields.iter().all(|field| is_fit(field))
 }
 
-/// Writes the number of a field from a bit on, or its first bits where there is no room for more, and says which bit
-/// comes after them.
+/// Writes the number of a field at the bit `place`, or only its first bits if there is no room for more, and returns the
+/// place after them.
 #[tactic(auto, using(crate::proofs::Rooms::bits_of_bytes))]
 fn put(field: &EtcsField, place: usize, out: &mut [u8]) -> usize
     requires fit { IsFit field.now }
@@ -57,7 +57,7 @@ fn put(field: &EtcsField, place: usize, out: &mut [u8]) -> usize
     place + count
 }
 
-/// Writes the numbers of fields one after another, as far as there is room, and says how many whole bytes they are.
+/// Writes the numbers of fields one after another, as far as there is room, and returns how many whole bytes they are.
 fn pack(fields: &[EtcsField], out: &mut [u8]) -> usize
     requires fit { AreFit fields.now }
     requires room { length out.old ≡ 1023 }

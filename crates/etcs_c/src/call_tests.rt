@@ -5,7 +5,7 @@ use crate::{
     etcs_explain_json, etcs_fields, etcs_fields_before, etcs_from_fields, etcs_from_json,
     etcs_line_bytes, etcs_line_front, etcs_meaning, etcs_show, etcs_to_json, etcs_version,
 };
-use etcs_fakes::starve;
+use etcs_fakes::{starve, starve_to};
 use std::alloc::Global;
 use std::test::Fail;
 
@@ -518,5 +518,30 @@ fn refused_memory(rt: HostRuntime) -> Result<(), Fail> {
     assert_eq!(rt; hex, None);
     assert_eq!(rt; meanings, None);
     assert_eq!(rt; groups, None);
+    Ok(())
+}
+
+/// JSON whose header lacks its variables: why is said in a sentence that is put together from several.
+const HOLLOW: &[u8] = b"{\"header\":[],\"kind\":\"short\"}";
+
+/// The status for it, and how many bytes were written.
+fn why_hollow(alloc: Global) -> (u32, usize) {
+    let answer = &mut unanswered();
+    let status = etcs_explain_json(alloc, 2, HOLLOW, &mut [0; 256], answer);
+    (status, answer.written)
+}
+
+/// With whatever memory there is, the sentence is whole, or memory was refused.
+#[test]
+fn whole_sentences(rt: HostRuntime) -> Result<(), Fail> {
+    let alloc = rt.alloc();
+    let whole = why_hollow(alloc);
+    assert_eq!(rt; whole.0, 6);
+    for step in 0..128usize {
+        let held = starve_to(alloc, step * 16)?;
+        let found = why_hollow(alloc);
+        drop(held);
+        assert!(rt; found.0 == 4 || (found.0 == whole.0 && found.1 == whole.1));
+    }
     Ok(())
 }

@@ -85,7 +85,7 @@ fn say_before(
 }
 
 /// Answers what the bytes begin with, and writes why a bit is refused.
-pub(crate) fn tell_why(
+pub(crate) fn write_why(
     alloc: Global,
     kind: Kind,
     bytes: &[u8],
@@ -98,7 +98,7 @@ pub(crate) fn tell_why(
 }
 
 /// Answers what the bytes begin with, and writes the fields before a refused bit.
-pub(crate) fn tell_before(
+pub(crate) fn write_before(
     alloc: Global,
     kind: Kind,
     bytes: &[u8],
@@ -123,7 +123,7 @@ fn line_sentence_of(
 }
 
 /// Answers as where the encoding of a line's item is wanted, and writes why the line says none.
-pub(crate) fn tell_line_why(
+pub(crate) fn write_line_why(
     alloc: Global,
     kind: Kind,
     line: &[u8],

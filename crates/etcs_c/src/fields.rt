@@ -18,9 +18,9 @@ use std::marker::Model;
 #[repr(C)]
 #[derive(Clone, Copy, PartialEq, Eq)]
 pub struct EtcsField {
-    /// Its number; of bits the first is the highest.
+    /// Its number; in a run of bits the first one is the highest.
     pub number: u64,
-    /// Which variable it is.
+    /// The number of the variable: its `ETCS_VAR_..` in C.
     pub var: u32,
     /// How many bits its number takes.
     pub width: u32,
@@ -44,7 +44,7 @@ fn field_of(var: Var, number: u64) -> EtcsField
     }
 }
 
-/// Whether a variable with its number is one bit more of these.
+/// Whether a variable with its number is one more bit of this field.
 fn joins(field: &EtcsField, var: Var, number: u64) -> bool
     ensures { result ≡ joins field.now (var, number) }
 {
@@ -55,7 +55,7 @@ fn joins(field: &EtcsField, var: Var, number: u64) -> bool
         && number < 2
 }
 
-/// Fields of variables, in the order of sending. The last one is by itself, since a bit more may join it.
+/// Fields of variables, in the order of sending. The last one is kept apart, since one more bit may join it.
 #[derive(Drop)]
 struct FieldList {
     before: Vec<EtcsField>,
@@ -84,7 +84,7 @@ impl FieldList {
         }
     }
 
-    /// Takes a variable more.
+    /// Takes the next variable.
     fn join(&mut self, var: Var, number: u64) -> Result<(), AllocError>
         ensures { OnOk result (self.new ≡ join self.old (var, number)) }
     {

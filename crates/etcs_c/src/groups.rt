@@ -24,9 +24,9 @@ use std::alloc::Global;
 #[repr(C)]
 #[derive(Clone, Copy)]
 pub struct EtcsTelegram {
-    /// Its kind.
+    /// The number of its kind: 1 long, 2 short.
     pub kind: u32,
-    /// Its bytes: of a short one the first 27.
+    /// Its bytes: all 104 of a long one, the first 27 of a short one.
     pub bytes: [u8; 104],
 }
 
@@ -66,7 +66,7 @@ fn clash_status(clash: Clash) -> u32
     }
 }
 
-/// Holds a telegram where it belongs to those that are held, or answers its clash.
+/// Holds a telegram if it fits those that are held, and returns the status of that, or of its first clash.
 fn hold(telegram: Telegram, assembly: &mut Assembly) -> u32
     ensures held { (earlier : List TelegramContent) → IsHeldOf earlier assembly.old → IsHeldOf (telegram ∷ earlier) assembly.new }
     ensures status { ((result ≡ 0) × Joins assembly.old telegram) ⊎ ((c : Clash) × IsFirstClash c assembly.old telegram × (result ≡ clash_status c)) }
@@ -77,7 +77,7 @@ fn hold(telegram: Telegram, assembly: &mut Assembly) -> u32
     }
 }
 
-/// Holds a telegram where its bytes are one that belongs to those that are held, or answers why it isn't held.
+/// Holds the telegram that the bytes are if it fits those that are held, or answers why it isn't held.
 fn add(
     alloc: Global,
     telegram: &EtcsTelegram,

@@ -22,7 +22,7 @@ fn say_fields(alloc: Global, found: &Found, out: &mut [EtcsField], answer: &mut 
 }
 
 /// Answers what the bytes begin with, and writes the fields of an item.
-pub(crate) fn tell_fields(
+pub(crate) fn write_fields(
     alloc: Global,
     kind: Kind,
     bytes: &[u8],

@@ -1,6 +1,10 @@
-//! The codec for callers of C: functions over numbers and over bytes of the caller's. `etcs.h` declares them.
+//! The codec for callers of C: functions over numbers and over the caller's buffers. `etcs.h` declares them.
 //!
-//! A slice is a pointer and then its length; `alloc` takes no place. Nothing is kept from one call to the next.
+//! In C a slice is a pointer followed by its length, and `alloc` is no parameter. Nothing is kept between two calls.
+//!
+//! Each call but [`etcs_line_front`] returns a status. Beside those that a call's comment names there are `ETCS_OK` if it
+//! did what it is for, `ETCS_NO_ROOM` if `out` is shorter than `written` of the answer, `ETCS_NO_MEMORY` if memory was
+//! refused, and `ETCS_UNKNOWN_KIND` if no kind has the number `kind`. After the last three `out` is as before.
 #![tactic(auto)]
 
 mod answer;
@@ -17,14 +21,14 @@ mod json;
 mod kind;
 mod lines;
 mod meanings;
-mod told;
+mod texts;
 mod vars;
 
 ghost use Rattle.std.specs.Prelude.{◌≡◌, ◌++◌, ◌∷◌, ◌⊎◌, [], codes, length};
 ghost use Rattle.etcs_bits.specs.Bits.{bits};
 ghost use Rattle.etcs_runs.specs.Digits.{line_front};
 ghost use Rattle.etcs_text.specs.declared.entry.Kind.{Kind};
-ghost use Rattle.etcs_c.specs.Answers.{Checks, Finds, NoKind, Tells, TellsJson, kind_number};
+ghost use Rattle.etcs_c.specs.Answers.{Checks, Finds, NoKind, Outputs, OutputsJson, kind_number};
 ghost use Rattle.etcs_c.specs.Built.{Builds};
 ghost use Rattle.etcs_c.specs.Explained.{SaysBefore, SaysLineWhy, SaysWhy};
 ghost use Rattle.etcs_c.specs.Groups.{SaysGroup};
@@ -33,30 +37,30 @@ ghost use Rattle.etcs_c.specs.Lines.{SaysBytes};
 ghost use Rattle.etcs_c.specs.Meanings.{SaysMeaning};
 ghost use Rattle.etcs_c.specs.Writes.{Writes};
 ghost use Rattle.etcs_c.specs.declared.found.Found.{Found};
-ghost use Rattle.etcs_c.specs.declared.told.Wanted.TheVariants as wanted;
+ghost use Rattle.etcs_c.specs.declared.texts.Wanted.TheVariants as wanted;
 
 pub use answer::EtcsAnswer;
 use answer::{UNKNOWN_KIND, WHOLE, write_out};
 use built::from_fields;
 use etcs_runs::line_front;
-use explained::{tell_before, tell_line_why, tell_why};
+use explained::{write_before, write_line_why, write_why};
 pub use fields::EtcsField;
 use found::{find, say};
 use groups::assemble;
 pub use groups::{EtcsGroup, EtcsTelegram};
-use item_fields::tell_fields;
+use item_fields::write_fields;
 use json::from_json;
 use kind::kind_of;
-use lines::tell_bytes;
-use meanings::{Asked, tell_meaning};
+use lines::write_bytes;
+use meanings::{Asked, print_meaning};
 use std::alloc::Global;
-use told::{Wanted, tell};
+use texts::{Wanted, write_text};
 
 /// The library's version, and a zero.
 const VERSION: &[u8] = b"0.1.0\0";
 
-/// Whether the bytes begin with an item of the kind: `ETCS_OK` with the number of its bytes, `ETCS_MORE` where they
-/// begin one and hold none, `ETCS_REFUSED` with the first bit with which none continues and the variable that holds it.
+/// Whether the bytes begin with an item of the kind: `ETCS_OK` with the number of its bytes, `ETCS_MORE` if they are only
+/// the beginning of one, `ETCS_REFUSED` with the first bit with which none continues and the variable that holds it.
 #[unsafe(no_mangle)]
 pub extern "C" fn etcs_check(alloc: Global, kind: u32, bytes: &[u8], answer: &mut EtcsAnswer) -> u32
     ensures { Checks kind (bits bytes.now) result answer.new }
@@ -67,7 +71,7 @@ pub extern "C" fn etcs_check(alloc: Global, kind: u32, bytes: &[u8], answer: &mu
     }
 }
 
-/// As `etcs_check`, and of an item its text, as the item of this number.
+/// As `etcs_check`, and writes the text of an item, numbered `item`.
 #[unsafe(no_mangle)]
 pub extern "C" fn etcs_show(
     alloc: Global,
@@ -77,15 +81,15 @@ pub extern "C" fn etcs_show(
     out: &mut [u8],
     answer: &mut EtcsAnswer,
 ) -> u32
-    ensures { Tells (wanted.Show item) kind (bits bytes.now) out.old out.new result answer.new }
+    ensures { Outputs (wanted.Show item) kind (bits bytes.now) out.old out.new result answer.new }
 {
     match kind_of(kind) {
-        Some(kind) => tell(alloc, Wanted::Show(item), kind, bytes, out, answer),
+        Some(kind) => write_text(alloc, Wanted::Show(item), kind, bytes, out, answer),
         None => UNKNOWN_KIND,
     }
 }
 
-/// As `etcs_check`, and of an item its JSON.
+/// As `etcs_check`, and writes the JSON of an item, without a LF.
 #[unsafe(no_mangle)]
 pub extern "C" fn etcs_to_json(
     alloc: Global,
@@ -94,16 +98,16 @@ pub extern "C" fn etcs_to_json(
     out: &mut [u8],
     answer: &mut EtcsAnswer,
 ) -> u32
-    ensures { Tells wanted.Json kind (bits bytes.now) out.old out.new result answer.new }
+    ensures { Outputs wanted.Json kind (bits bytes.now) out.old out.new result answer.new }
 {
     match kind_of(kind) {
-        Some(kind) => tell(alloc, Wanted::Json, kind, bytes, out, answer),
+        Some(kind) => write_text(alloc, Wanted::Json, kind, bytes, out, answer),
         None => UNKNOWN_KIND,
     }
 }
 
-/// The encoding of the item whose JSON this is; `ETCS_BAD_JSON` where it is that of no item of the kind, `ETCS_REFUSED`
-/// where it stores bits of packets that are typed by now, and no item has them.
+/// Writes the encoding of the item whose JSON this is. `ETCS_BAD_JSON` if no item of the kind has this JSON;
+/// `ETCS_REFUSED` if it is older JSON, which has as bits a packet that is typed now, and no item has these bits.
 #[unsafe(no_mangle)]
 pub extern "C" fn etcs_from_json(
     alloc: Global,
@@ -112,7 +116,7 @@ pub extern "C" fn etcs_from_json(
     out: &mut [u8],
     answer: &mut EtcsAnswer,
 ) -> u32
-    ensures { TellsJson kind line.now out.old out.new result answer.new }
+    ensures { OutputsJson kind line.now out.old out.new result answer.new }
 {
     match kind_of(kind) {
         Some(kind) => from_json(alloc, kind, line, out, answer),
@@ -120,8 +124,8 @@ pub extern "C" fn etcs_from_json(
     }
 }
 
-/// As `etcs_check`, and of an item its fields, in the order of sending: a variable each, or up to 64 bits of a run of
-/// FILL, OTHER_DATA, PADDING or PAD.
+/// As `etcs_check`, and writes the fields of an item, in the order of sending: each is a variable, or up to 64 bits of a
+/// run of FILL, OTHER_DATA, PADDING or PAD.
 #[unsafe(no_mangle)]
 pub extern "C" fn etcs_fields(
     alloc: Global,
@@ -133,14 +137,14 @@ pub extern "C" fn etcs_fields(
     ensures { ((k : Kind) × (found : Found) × (kind_number k ≡ kind) × Finds k (bits bytes.now) found × SaysFields found out.old out.new result answer.new) ⊎ (NoKind kind result × (out.new ≡ out.old)) }
 {
     match kind_of(kind) {
-        Some(kind) => tell_fields(alloc, kind, bytes, out, answer),
+        Some(kind) => write_fields(alloc, kind, bytes, out, answer),
         None => UNKNOWN_KIND,
     }
 }
 
-/// The encoding of the item whose fields these are, as `etcs_fields` writes them. Where no item has them:
-/// `ETCS_BAD_FIELDS` if a number has more bits than its width or another item begins with their bits, and else as
-/// `etcs_check` of their bits up to the last whole byte.
+/// Writes the encoding of the item that has these fields, as `etcs_fields` writes them. If no item has them:
+/// `ETCS_BAD_FIELDS` if a number has more bits than its width, a width is above 64, or an item with other fields begins
+/// with their bits; otherwise the status of `etcs_check` for their bits up to the last whole byte.
 #[unsafe(no_mangle)]
 pub extern "C" fn etcs_from_fields(
     alloc: Global,
@@ -157,7 +161,7 @@ pub extern "C" fn etcs_from_fields(
     }
 }
 
-/// As `etcs_check`, and of a refused bit why it is, in a sentence in UTF-8.
+/// As `etcs_check`, and writes why a bit is refused, as a sentence in UTF-8. The status is then still `ETCS_REFUSED`.
 #[unsafe(no_mangle)]
 pub extern "C" fn etcs_explain(
     alloc: Global,
@@ -169,12 +173,13 @@ pub extern "C" fn etcs_explain(
     ensures { ((k : Kind) × (found : Found) × (kind_number k ≡ kind) × Finds k (bits bytes.now) found × SaysWhy found out.old out.new result answer.new) ⊎ (NoKind kind result × (out.new ≡ out.old)) }
 {
     match kind_of(kind) {
-        Some(kind) => tell_why(alloc, kind, bytes, out, answer),
+        Some(kind) => write_why(alloc, kind, bytes, out, answer),
         None => UNKNOWN_KIND,
     }
 }
 
-/// As `etcs_check`, and of a refused bit the fields of the variables before the one that holds it.
+/// As `etcs_check`, and for a refused bit writes the fields of the variables before the one that holds it. The status is
+/// then still `ETCS_REFUSED`.
 #[unsafe(no_mangle)]
 pub extern "C" fn etcs_fields_before(
     alloc: Global,
@@ -186,13 +191,13 @@ pub extern "C" fn etcs_fields_before(
     ensures { ((k : Kind) × (found : Found) × (kind_number k ≡ kind) × Finds k (bits bytes.now) found × SaysBefore k (bits bytes.now) found out.old out.new result answer.new) ⊎ (NoKind kind result × (out.new ≡ out.old)) }
 {
     match kind_of(kind) {
-        Some(kind) => tell_before(alloc, kind, bytes, out, answer),
+        Some(kind) => write_before(alloc, kind, bytes, out, answer),
         None => UNKNOWN_KIND,
     }
 }
 
-/// As `etcs_from_json`, but that no encoding is written; and of a line that is the JSON of no item why, in UTF-8: the path
-/// of the first part that is wrong, and a sentence.
+/// As `etcs_from_json`, but writes no encoding. If no item has this JSON, it writes why, in UTF-8: the path of the first
+/// part that is wrong, and a sentence. The status is then still `ETCS_BAD_JSON` or `ETCS_REFUSED`.
 #[unsafe(no_mangle)]
 pub extern "C" fn etcs_explain_json(
     alloc: Global,
@@ -204,14 +209,14 @@ pub extern "C" fn etcs_explain_json(
     ensures { ((k : Kind) × (kind_number k ≡ kind) × SaysLineWhy k line.now out.old out.new result answer.new) ⊎ (NoKind kind result × (out.new ≡ out.old)) }
 {
     match kind_of(kind) {
-        Some(kind) => tell_line_why(alloc, kind, line, out, answer),
+        Some(kind) => write_line_why(alloc, kind, line, out, answer),
         None => UNKNOWN_KIND,
     }
 }
 
-/// What a number of a variable of an item of the kind means, in the words of `explain`, and the variable's name. A distance
-/// is in the unit of this Q_SCALE, and has no meaning where that is none of 0, 1 and 2. `ETCS_BAD_FIELDS` where no variable
-/// has this number `var`.
+/// Writes what a number of a variable means in an item of the kind, in the words of `explain`; answers the variable's name.
+/// A distance is in the unit that `scale`, a number of Q_SCALE, gives, and has no meaning if that is none of 0, 1 and 2.
+/// `ETCS_BAD_FIELDS` if no variable has the number `var`.
 #[unsafe(no_mangle)]
 pub extern "C" fn etcs_meaning(
     alloc: Global,
@@ -232,14 +237,14 @@ pub extern "C" fn etcs_meaning(
                 number,
                 scale,
             };
-            tell_meaning(alloc, asked, out, answer)
+            print_meaning(alloc, asked, out, answer)
         }
         None => UNKNOWN_KIND,
     }
 }
 
-/// The bytes that the digits of a line of hexadecimal say, by the rule of logs; `ETCS_EMPTY_LINE` where it is blank or a
-/// comment, and else `ETCS_NO_DIGITS`, or `ETCS_ODD_DIGITS` with how many there are.
+/// Writes the bytes that the hexadecimal digits of a line stand for, found by the rule of logs. `ETCS_EMPTY_LINE` if the
+/// line is blank or a comment, `ETCS_NO_DIGITS` if it has no digits, `ETCS_ODD_DIGITS` with their number if that is odd.
 #[unsafe(no_mangle)]
 pub extern "C" fn etcs_line_bytes(
     alloc: Global,
@@ -249,11 +254,11 @@ pub extern "C" fn etcs_line_bytes(
 ) -> u32
     ensures { SaysBytes line.now out.old out.new result answer.new }
 {
-    tell_bytes(alloc, line, out, answer)
+    write_bytes(alloc, line, out, answer)
 }
 
-/// How many characters are in front of a line's digits, after a byte order mark and without blanks at their end: of a line
-/// without digits all.
+/// How many bytes are before the digits of a line, counting neither a byte order mark at its start nor blanks and tabs just
+/// before the digits.
 #[unsafe(no_mangle)]
 pub extern "C" fn etcs_line_front(line: &[u8]) -> usize
     ensures { result ≡ length (line_front line.now) }
@@ -261,9 +266,10 @@ pub extern "C" fn etcs_line_front(line: &[u8]) -> usize
     line_front(line).len()
 }
 
-/// What telegrams make together, each held beside those before it (SUBSET-026, 3.16.2.4). Of the first that isn't held, whose
-/// place is answered, a clash, `ETCS_REFUSED` where no telegram begins with its bytes, or `ETCS_UNKNOWN_KIND` where its kind
-/// is that of none.
+/// Puts the telegrams of a balise group together (SUBSET-026, 3.16.2.4), and writes which positions are missing and whether
+/// the group is complete. If one doesn't fit those before it, answers its index, and as status its first clash;
+/// `ETCS_REFUSED` if no telegram begins with its bytes, `ETCS_UNKNOWN_KIND` if its kind is not that of a telegram. The
+/// group is then as before.
 #[unsafe(no_mangle)]
 pub extern "C" fn etcs_assemble(
     alloc: Global,
@@ -276,7 +282,7 @@ pub extern "C" fn etcs_assemble(
     assemble(alloc, telegrams, group, answer)
 }
 
-/// The library's version, and a zero.
+/// Writes the library's version, and a zero after it.
 #[unsafe(no_mangle)]
 pub extern "C" fn etcs_version(out: &mut [u8], answer: &mut EtcsAnswer) -> u32
     ensures { Writes (codes "0.1.0" ++ 0 ∷ []) out.old out.new result answer.new }

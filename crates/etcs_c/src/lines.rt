@@ -24,7 +24,12 @@ fn say_bytes(line: &[u8], buffer: &mut [u8], out: &mut [u8], answer: &mut EtcsAn
 }
 
 /// Writes the bytes that the digits of a line say.
-pub(crate) fn tell_bytes(alloc: Global, line: &[u8], out: &mut [u8], answer: &mut EtcsAnswer) -> u32
+pub(crate) fn write_bytes(
+    alloc: Global,
+    line: &[u8],
+    out: &mut [u8],
+    answer: &mut EtcsAnswer,
+) -> u32
     ensures { SaysBytes line.now out.old out.new result answer.new }
 {
     match Vec::from_elem(alloc, 0, line.len() / 2 + 1) {

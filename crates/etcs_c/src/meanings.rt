@@ -46,7 +46,7 @@ fn meaning_of(alloc: Global, var: Var, asked: Asked) -> Result<Vec<u8>, AllocErr
 }
 
 /// Answers the name of the variable, and writes what its number means.
-pub(crate) fn tell_meaning(
+pub(crate) fn print_meaning(
     alloc: Global,
     asked: Asked,
     out: &mut [u8],

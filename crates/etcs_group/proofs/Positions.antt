@@ -50,5 +50,5 @@ pub FirstGive-more : (slots : List (Option TelegramContent)) (n m : ℕ) (ps mor
 unfolding FirstGive
 FirstGive-more slots n m ps more e before last =
     let next : suc n ≡ m = omega (arith, e) in
-    let told : FirstGive slots (suc n) (ps ++ more) = (ps, more, before, last, refl) in
-    subst (λ (k : ℕ). FirstGive slots k (ps ++ more)) next told
+    let whole : FirstGive slots (suc n) (ps ++ more) = (ps, more, before, last, refl) in
+    subst (λ (k : ℕ). FirstGive slots k (ps ++ more)) next whole

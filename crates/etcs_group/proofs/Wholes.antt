@@ -18,12 +18,12 @@ missing_iff slots total p held =
 
 -- where something is held, the group is whole where none is reported as missing
 pub none_missing : (slots : List (Option TelegramContent)) (missing : List Bool) (b : Bool) → ((t : TelegramContent) × Holds slots t) → ((p : ℕ) → (slice_get missing p ≡ Some true) ↔ IsMissing slots p) → Decides b (Contains missing true) → Decides (not b) (IsWhole slots)
-none_missing slots missing b held told among = (
-  λ e. (held, λ p m. both_ways b (not-true b e) (among.1 (place_contains missing p true ((told p).1 m)))),
+none_missing slots missing b held marked among = (
+  λ e. (held, λ p m. both_ways b (not-true b e) (among.1 (place_contains missing p true ((marked p).1 m)))),
   λ w. elim (cases_Bool b) [
     | inl e ↦
         let place = contains_place missing true (among.0 e) in
-        absurd (w.1 place.0 ((told place.0).0 place.1))
+        absurd (w.1 place.0 ((marked place.0).0 place.1))
     | inr e ↦ ap not e
   ],
 )

@@ -11,17 +11,17 @@ use etcs_telegram::Telegram;
 use etcs_telegram::inner::header_numbers;
 use std::marker::Model;
 
-/// What an accepted telegram is.
+/// What an accepted telegram is to those that are held.
 #[derive(Clone, Copy, Debug, PartialEq, Eq)]
 pub enum Added {
     /// None was held at its position.
     New,
-    /// An equal one is held at its position; it was dropped.
+    /// An equal telegram was already held at its position; the new one was dropped.
     Repeat,
 }
 
-/// The telegrams of a balise group, in whatever order they come (SUBSET-026, 3.16.2.4): at most one for each of the
-/// eight positions. It takes no memory but that of the telegrams.
+/// The telegrams of a balise group, in whatever order they come (SUBSET-026, 3.16.2.4): at most one for each of the eight
+/// positions. It allocates nothing: it holds the telegrams that it is given.
 #[derive(Debug, Drop)]
 pub struct Assembly {
     held: [Option<Telegram>; 8],
@@ -51,16 +51,16 @@ impl Assembly {
         }
     }
 
-    /// Holds the telegram where it belongs to those that are held. Where all of some telegrams are accepted in one order,
-    /// they are in any, and the same is held then (`laws::any_order`).
+    /// Holds the telegram if it fits those that are held. If all telegrams of a list are accepted in one order, they are
+    /// in every order, and what is held afterwards is the same (`laws::any_order`).
     ///
     /// # Errors
     ///
-    /// The first [`Clash`] that the telegram has with what is held, and the same telegram. What is held stays as it was.
+    /// The first [`Clash`] that the telegram has with what is held, and the telegram itself. What is held stays as it was.
     pub fn add(&mut self, telegram: Telegram) -> Result<Added, (Clash, Telegram)>
         ensures held { HeldAfter self.old telegram self.new }
         ensures placed { IsGroup self.new }
-        // So what is held after calls is what their telegrams make of nothing.
+        // So after any calls, what is held is what their telegrams make of an empty assembly.
         ensures adds { (earlier : List TelegramContent) → IsHeldOf earlier self.old → IsHeldOf (telegram ∷ earlier) self.new }
         ensures new { (result ≡ Ok Added.New) ↔ (Joins self.old telegram × (Holds self.old telegram → ⊥)) }
         ensures repeat { (result ≡ Ok Added.Repeat) ↔ (Joins self.old telegram × Holds self.old telegram) }
@@ -79,8 +79,8 @@ impl Assembly {
         Ok(Added::New)
     }
 
-    /// For each of the positions 0 to 7, whether it is missing: it isn't after N_TOTAL and isn't held, the position
-    /// before isn't held with M_DUP 1, and the one after isn't with M_DUP 2. All are false where nothing is held.
+    /// For each of the positions 0 to 7, whether it is missing: it is at most N_TOTAL and not held, and neither is the
+    /// position before it held with M_DUP 1, nor the one after it with M_DUP 2. If nothing is held, none is missing.
     pub fn missing(&self) -> [bool; 8]
         ensures { (p : ℕ) → (slice_get result p ≡ Some true) ↔ IsMissing self.now p }
     {
@@ -110,7 +110,7 @@ impl Assembly {
         first_in(&self.held)
     }
 
-    /// N_TOTAL of those that are held, if there are any.
+    /// N_TOTAL of the telegrams that are held, if there are any.
     fn total(&self) -> Option<usize>
         ensures small { IfSome result (λ total. total < 8) }
         ensures held { IfSome result (λ total. (t : TelegramContent) × Holds self.now t) }
@@ -145,7 +145,7 @@ impl Assembly {
         }
     }
 
-    /// Whether the position is held neither itself nor by a duplicate.
+    /// Whether neither the position nor a duplicate of it is held.
     fn is_lacking(&self, position: usize) -> bool
         requires { position < 8 }
         ensures { IsTrue result ↔ IsLacking self.now position }

@@ -9,8 +9,8 @@ use etcs_telegram::laws::exact_equality;
 use std::error::Error;
 use std::fmt;
 
-/// Why a telegram isn't accepted beside those that are held (SUBSET-026, 3.16.2.4; the variables: 7.5). They are looked
-/// for in this order. M_VERSION, Q_LINK and the size are compared with a telegram at the same position alone.
+/// Why a telegram isn't accepted beside those that are held (SUBSET-026, 3.16.2.4; the variables: 7.5). Clashes are
+/// looked for in this order. M_VERSION, Q_LINK and the size are compared only with a telegram at the same position.
 #[derive(Clone, Copy, Debug, PartialEq, Eq)]
 pub enum Clash {
     /// N_PIG is above N_TOTAL.
@@ -57,7 +57,7 @@ impl fmt::Display for Clash {
 impl Error for Clash {}
 
 impl Clash {
-    /// Whether the telegram has this clash by itself.
+    /// Whether the telegram has this clash whatever else is held.
     fn alone(self, telegram: &Telegram) -> bool
         ensures { IsTrue result ↔ Alone self telegram.now.header }
     {
@@ -72,7 +72,7 @@ impl Clash {
         }
     }
 
-    /// Whether it has it beside another.
+    /// Whether it has this clash with another telegram.
     fn between(self, telegram: &Telegram, other: &Telegram) -> bool
         ensures { IsTrue result ↔ Between self telegram.now other.now }
     {
@@ -87,7 +87,7 @@ impl Clash {
         }
     }
 
-    /// Whether it has it with what is held.
+    /// Whether it has this clash with what is held.
     fn is_met(self, held: &[Option<Telegram>], telegram: &Telegram) -> bool
         ensures { IsTrue result ↔ Clashes held.now telegram.now self }
     {

@@ -49,8 +49,8 @@ impl Group {
     }
 }
 
-/// Balise groups by NID_C and NID_BG, in the order in which they began. A group takes 656 bytes, up to twice these where
-/// the list has grown, some 25 for its place, and the memory of the telegrams that it holds, at most eight.
+/// Balise groups by NID_C and NID_BG, in the order in which they began. A group takes 656 bytes, up to twice that when
+/// the list has spare room, some 25 bytes for its place, and the memory of its telegrams, at most eight.
 #[derive(Debug, Drop)]
 pub struct Groups {
     groups: Vec<Group>,
@@ -80,15 +80,15 @@ impl Groups {
         }
     }
 
-    /// Adds the telegram to its group, which begins with it where there is none. Where it has a clash with what is held
-    /// ([`Assembly::add`]), it is dropped and counted there.
+    /// Adds the telegram to its group, which begins with it if there is none yet. If it clashes with what the group holds
+    /// ([`Assembly::add`]), it is dropped and the group counts a clash.
     ///
     /// # Errors
     ///
     /// Where memory is refused. The groups are then as before, and the telegram is dropped.
     pub fn add(&mut self, telegram: Telegram) -> Result<(), AllocError>
         ensures ok { OnOk result (Adds self.old telegram self.new) }
-        // So the groups after calls are those of their telegrams.
+        // So after any calls, the groups are those of the telegrams that were added.
         ensures adds { OnOk result ((earlier : List TelegramContent) → AreGroupsOf earlier self.old → AreGroupsOf (earlier ++ telegram ∷ []) self.new) }
         ensures err { OnErr result (self.new ≡ self.old) }
         ensures distinct { AreDistinct self.new }
@@ -119,7 +119,7 @@ impl Groups {
         written
     }
 
-    /// The place of the group of these numbers, which begins where there is none.
+    /// The place of the group of these numbers, which is begun if there is none.
     fn open(&mut self, nid_c: u16, nid_bg: u16) -> Result<usize, AllocError>
         ensures ok { IfOk result (λ place. Opens self.old nid_c nid_bg place self.new) }
         ensures err { OnErr result (self.new ≡ self.old) }

@@ -9,15 +9,15 @@ use etcs_packets::Packet;
 use std::alloc::{AllocError, Global};
 
 impl Assembly {
-    /// The group's message (SUBSET-026, 3.16.2.4): equal packets to those of the held positions, in rising order. A
-    /// position gives none where the one before is held and one of the two is the other's duplicate.
+    /// The group's message (SUBSET-026, 3.16.2.4): copies of the packets of the held telegrams, by rising position. A
+    /// position gives none if the one before it is held and one of the two is the other's duplicate.
     ///
     /// # Errors
     ///
     /// - [`GroupFault::NotWhole`] exactly where nothing is held or a position is missing;
-    /// - [`GroupFault::Memory`] where neither is so, and the memory of the packets is refused.
+    /// - [`GroupFault::Memory`] where neither is so, and memory for the copies is refused.
     ///
-    /// What is held stays either way.
+    /// What is held doesn't change.
     pub fn message(&self, alloc: Global) -> Result<Vec<Packet>, GroupFault>
         ensures ok { IfOk result (λ ps. IsWhole self.now × IsGroupMessage self.now ps.items) }
         ensures not_whole { (result ≡ Err GroupFault.NotWhole) ↔ (IsWhole self.now → ⊥) }

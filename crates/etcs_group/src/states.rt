@@ -1,4 +1,4 @@
-//! What is written of what a group holds.
+//! How the state of a group is written: complete, missing or empty.
 
 ghost use Rattle.std.specs.Prelude.{◌≡◌, ◌++◌, ℕ, List, OnErr, OnOk};
 ghost use Rattle.std.specs.Fmt.{decimal};

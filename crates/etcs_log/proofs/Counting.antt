@@ -15,8 +15,8 @@ use Rattle.etcs_log.specs.declared.seen.Seen.{Seen}
 use Rattle.etcs_telegram.specs.Telegrams.{TelegramValue}
 use Rattle.etcs_group.specs.declared.groups.Group.{Group}
 use Rattle.etcs_log.specs.LogGroups.{AreGroups, telegram_of}
-use Rattle.etcs_log.specs.Logs.{Answer, passed, item, other, bad, IsAnswer, AreAnswers, Answered, EndText, IsLog, IsSaid, Tells, items_in, bad_in, other_in, telegrams_in}
-use Rattle.etcs_log.specs.Promised.{AllTold, FirstTold, FrontTold}
+use Rattle.etcs_log.specs.Logs.{Answer, passed, item, other, bad, IsAnswer, AreAnswers, Answered, EndText, IsLog, IsSaid, Outputs, items_in, bad_in, other_in, telegrams_in}
+use Rattle.etcs_log.specs.Promised.{AllOutput, FirstOutput, FrontOutput}
 use Rattle.etcs_log.specs.laws.LogLaws.{All-left}
 use Rattle.etcs_log.specs.Stands.{AreAnswered, LogTook}
 
@@ -82,27 +82,27 @@ telegrams_in-push (other count ∷ others) a = telegrams_in-push others a
 telegrams_in-push (bad ∷ others) a = telegrams_in-push others a
 
 -- of a line after them, what is said
-tells-push : (job : LogJob) (n m : ℕ) (others : List Answer) (a : Answer) (text added : List ℕ) → m ≡ n + length others → Tells job n others text → IsSaid job m a added → Tells job n (others ++ a ∷ []) (text ++ added)
-tells-push job n m [] a text added e h k =
+outputs-push : (job : LogJob) (n m : ℕ) (others : List Answer) (a : Answer) (text added : List ℕ) → m ≡ n + length others → Outputs job n others text → IsSaid job m a added → Outputs job n (others ++ a ∷ []) (text ++ added)
+outputs-push job n m [] a text added e h k =
     let same : m ≡ n = omega (arith, e) in
     (added, [], subst (λ (z : ℕ). IsSaid job z a added) same k, ap (λ (z : List ℕ). z ++ added) h ∙ sym (append-nil added), refl)
-tells-push job n m (b ∷ others) a text added e (said, rest, is, t, more) k =
-    (said, rest ++ added, is, ap (λ (z : List ℕ). z ++ added) t ∙ append_assoc said rest added, tells-push job (n + 1) m others a rest added (omega (arith, e)) more k)
+outputs-push job n m (b ∷ others) a text added e (said, rest, is, t, more) k =
+    (said, rest ++ added, is, ap (λ (z : List ℕ). z ++ added) t ∙ append_assoc said rest added, outputs-push job (n + 1) m others a rest added (omega (arith, e)) more k)
 
 -- ---- What was answered.
 
 -- the text of a line more
-told_more : (job : LogJob) (lines : List (List ℕ)) (n : ℕ) (seen : Seen) (told before text text' added : List ℕ) (a : Answer) (h : AreAnswered job lines seen told) → told ≡ before ++ text → n ≡ length lines + 1 → IsSaid job n a added → text' ≡ text ++ added → Tells job 1 (h.answers ++ a ∷ []) (before ++ text')
-told_more job lines n seen told before text text' added a h t e said grown =
+output_more : (job : LogJob) (lines : List (List ℕ)) (n : ℕ) (seen : Seen) (output before text text' added : List ℕ) (a : Answer) (h : AreAnswered job lines seen output) → output ≡ before ++ text → n ≡ length lines + 1 → IsSaid job n a added → text' ≡ text ++ added → Outputs job 1 (h.answers ++ a ∷ []) (before ++ text')
+output_more job lines n seen output before text text' added a h t e said grown =
     let count = answers_count job.kinds lines h.answers h.are_answers in
-    subst (λ (z : List ℕ). Tells job 1 (h.answers ++ a ∷ []) z) (ap (λ (z : List ℕ). z ++ added) t ∙ append_assoc before text added ∙ ap (λ (z : List ℕ). before ++ z) (sym grown)) (tells-push job 1 n h.answers a told added (omega (arith, e, count)) h.tells said)
+    subst (λ (z : List ℕ). Outputs job 1 (h.answers ++ a ∷ []) z) (ap (λ (z : List ℕ). z ++ added) t ∙ append_assoc before text added ∙ ap (λ (z : List ℕ). before ++ z) (sym grown)) (outputs-push job 1 n h.answers a output added (omega (arith, e, count)) h.outputs said)
 
 -- a line more
-answered_more : (job : LogJob) (lines : List (List ℕ)) (n : ℕ) (line : List ℕ) (seen seen' : Seen) (told before text text' : List ℕ) → AreAnswered job lines seen told → told ≡ before ++ text → n ≡ length lines + 1 → Answered job n (strip_cr line) seen seen' text text' → AreAnswered job (lines ++ line ∷ []) seen' (before ++ text')
-answered_more job lines n line seen seen' told before text text' h t e (a, is, ((added, said, grown, items, bads, others), grouped)) = record {
+answered_more : (job : LogJob) (lines : List (List ℕ)) (n : ℕ) (line : List ℕ) (seen seen' : Seen) (output before text text' : List ℕ) → AreAnswered job lines seen output → output ≡ before ++ text → n ≡ length lines + 1 → Answered job n (strip_cr line) seen seen' text text' → AreAnswered job (lines ++ line ∷ []) seen' (before ++ text')
+answered_more job lines n line seen seen' output before text text' h t e (a, is, ((added, said, grown, items, bads, others), grouped)) = record {
   answers = h.answers ++ a ∷ [];
   are_answers = answers-push job.kinds lines h.answers line a h.are_answers is;
-  tells = told_more job lines n seen told before text text' added a h t e said grown;
+  outputs = output_more job lines n seen output before text text' added a h t e said grown;
   items_are = omega (arith, items, h.items_are, items_in-push h.answers a);
   bad_are = omega (arith, bads, h.bad_are, bad_in-push h.answers a);
   other_are = omega (arith, others, h.other_are, other_in-push h.answers a);
@@ -110,8 +110,8 @@ answered_more job lines n line seen seen' told before text text' h t e (a, is, (
 }
 
 -- no more than there are lines
-answered_few : (job : LogJob) (lines : List (List ℕ)) (seen : Seen) (told : List ℕ) → AreAnswered job lines seen told → (seen.tally.items ≤ length lines) × (seen.tally.bad ≤ length lines) × (seen.tally.other ≤ length lines)
-answered_few job lines seen told h =
+answered_few : (job : LogJob) (lines : List (List ℕ)) (seen : Seen) (output : List ℕ) → AreAnswered job lines seen output → (seen.tally.items ≤ length lines) × (seen.tally.bad ≤ length lines) × (seen.tally.other ≤ length lines)
+answered_few job lines seen output h =
     let count = answers_count job.kinds lines h.answers h.are_answers in
     (omega (arith, h.items_are, items_few h.answers, count), omega (arith, h.bad_are, bad_few h.answers, count), omega (arith, h.other_are, other_few h.answers, count))
 
@@ -121,12 +121,12 @@ pub took_nothing : (job : LogJob) (line : ℕ) (seen : Seen) → line ≡ 0 → 
 took_nothing job line seen l i b o g = record {
   are_lines = All-nil IsLine;
   line_is = l;
-  answered = record { answers = []; are_answers = tt; tells = refl; items_are = i; bad_are = b; other_are = o; groups_are = λ asked. subst (λ (z : List Group). AreGroups [] z) (sym g) ([], refl, refl) };
+  answered = record { answers = []; are_answers = tt; outputs = refl; items_are = i; bad_are = b; other_are = o; groups_are = λ asked. subst (λ (z : List Group). AreGroups [] z) (sym g) ([], refl, refl) };
 }
 
-pub took_few : (job : LogJob) (line : ℕ) (seen : Seen) → (lines : List (List ℕ)) × (told : List ℕ) × LogTook job line seen lines told × (length lines < 2 ^ 62) → (line < 2 ^ 63) × (seen.tally.items < 2 ^ 63) × (seen.tally.bad < 2 ^ 63) × (seen.tally.other < 2 ^ 63)
-took_few job line seen (lines, told, h, short) =
-    let few = answered_few job lines seen told h.answered in
+pub took_few : (job : LogJob) (line : ℕ) (seen : Seen) → (lines : List (List ℕ)) × (output : List ℕ) × LogTook job line seen lines output × (length lines < 2 ^ 62) → (line < 2 ^ 63) × (seen.tally.items < 2 ^ 63) × (seen.tally.bad < 2 ^ 63) × (seen.tally.other < 2 ^ 63)
+took_few job line seen (lines, output, h, short) =
+    let few = answered_few job lines seen output h.answered in
     (omega (arith, short, h.line_is), omega (arith, short, few.0), omega (arith, short, few.1), omega (arith, short, few.2))
 
 -- the next line was answered
@@ -140,26 +140,26 @@ took_more job job' line line' seen seen' lines raw cut before text text' h l e s
     subst (λ (j : LogJob). LogTook j line' seen' (lines ++ raw ∷ []) (before ++ text')) (sym same) here
 
 -- the text of the lines before it is there
-pub took_front : (job : LogJob) (line : ℕ) (seen : Seen) (lines : List (List ℕ)) (rest before text text' : List ℕ) → LogTook job line seen lines (before ++ text) → text' ≡ text → FirstTold job (lines_text lines ++ rest) (before ++ text')
+pub took_front : (job : LogJob) (line : ℕ) (seen : Seen) (lines : List (List ℕ)) (rest before text text' : List ℕ) → LogTook job line seen lines (before ++ text) → text' ≡ text → FirstOutput job (lines_text lines ++ rest) (before ++ text')
 took_front job line seen lines rest before text text' h none =
-    let here : FrontTold job (lines_text lines ++ rest) rest (before ++ text) = record {
+    let here : FrontOutput job (lines_text lines ++ rest) rest (before ++ text) = record {
       lines = lines;
       part = [];
       given_is = ap (λ (z : List ℕ). z ++ rest) (sym (append-nil (lines_text lines)));
       are_lines = (h.are_lines, All-nil (λ c. c ≡ 10 → ⊥));
-      lines_told = inl (record { answers = h.answered.answers; are_answers = h.answered.are_answers; tells = h.answered.tells });
+      lines_output = inl (record { answers = h.answered.answers; are_answers = h.answered.are_answers; outputs = h.answered.outputs });
     } in
-    (rest, subst (λ (z : List ℕ). FrontTold job (lines_text lines ++ rest) rest (before ++ z)) (sym none) here)
+    (rest, subst (λ (z : List ℕ). FrontOutput job (lines_text lines ++ rest) rest (before ++ z)) (sym none) here)
 
 -- no text was there yet
-pub took_empty : (job : LogJob) (line : ℕ) (seen : Seen) (lines : List (List ℕ)) (told text : List ℕ) → text ≡ [] → LogTook job line seen lines told → LogTook job line seen lines (told ++ text)
-took_empty job line seen lines told text none h = subst (λ (z : List ℕ). LogTook job line seen lines z) (sym (ap (λ (z : List ℕ). told ++ z) none ∙ append-nil told)) h
+pub took_empty : (job : LogJob) (line : ℕ) (seen : Seen) (lines : List (List ℕ)) (output text : List ℕ) → text ≡ [] → LogTook job line seen lines output → LogTook job line seen lines (output ++ text)
+took_empty job line seen lines output text none h = subst (λ (z : List ℕ). LogTook job line seen lines z) (sym (ap (λ (z : List ℕ). output ++ z) none ∙ append-nil output)) h
 
 -- ---- The end of a log.
 
 -- the last line was taken, and then the counts were written
 pub ended_if : {E : Type 0} (r : Result LogTally E) (job job' : LogJob) (line : ℕ) (seen : Seen) (lines : List (List ℕ)) (last before text text' : List ℕ) → LogTook job' line seen (lines ++ last ∷ []) (before ++ text) → job' ≡ job → IsLine last → IfOk r (λ t. (t ≡ seen.tally) × ((end : List ℕ) × EndText job' t seen.groups end × (text' ≡ text ++ end))) → IfOk r (λ t. IsLog job (lines_text lines ++ last) (before ++ text') t)
-ended_if (Ok t) job job' line seen lines last before text text' h same l (is, (end, told, grown)) =
+ended_if (Ok t) job job' line seen lines last before text text' h same l (is, (end, output, grown)) =
     let here : IsLog job' (lines_text lines ++ last) (before ++ text') seen.tally = record {
       lines = lines;
       last = last;
@@ -170,9 +170,9 @@ ended_if (Ok t) job job' line seen lines last before text text' h same l (is, (e
       text = before ++ text;
       groups = seen.groups;
       end = end;
-      told_is = ap (λ (z : List ℕ). before ++ z) grown ∙ sym (append_assoc before text end);
-      tells = h.answered.tells;
-      end_is = subst (λ (z : LogTally). EndText job' z seen.groups end) is told;
+      output_is = ap (λ (z : List ℕ). before ++ z) grown ∙ sym (append_assoc before text end);
+      outputs = h.answered.outputs;
+      end_is = subst (λ (z : LogTally). EndText job' z seen.groups end) is output;
       groups_are = h.answered.groups_are;
       items_are = h.answered.items_are;
       bad_are = h.answered.bad_are;
@@ -182,18 +182,18 @@ ended_if (Ok t) job job' line seen lines last before text text' h same l (is, (e
 ended_if (Err e) job job' line seen lines last before text text' h same l k = tt
 
 -- or in vain
-pub ended_not : {T : Type 0} (r : Result T RunFault) (job job' : LogJob) (line : ℕ) (seen : Seen) (lines : List (List ℕ)) (last before text text' : List ℕ) → LogTook job' line seen (lines ++ last ∷ []) (before ++ text) → job' ≡ job → IsLine last → IfErr r (λ e. (e ≡ Memory) × (text' ≡ text)) → IfErr r (λ e. IsOfEngine e × ((e ≡ Memory) × (FirstTold job (lines_text lines ++ last) (before ++ text') ⊎ AllTold job (lines_text lines ++ last) (before ++ text'))))
+pub ended_not : {T : Type 0} (r : Result T RunFault) (job job' : LogJob) (line : ℕ) (seen : Seen) (lines : List (List ℕ)) (last before text text' : List ℕ) → LogTook job' line seen (lines ++ last ∷ []) (before ++ text) → job' ≡ job → IsLine last → IfErr r (λ e. (e ≡ Memory) × (text' ≡ text)) → IfErr r (λ e. IsOfEngine e × ((e ≡ Memory) × (FirstOutput job (lines_text lines ++ last) (before ++ text') ⊎ AllOutput job (lines_text lines ++ last) (before ++ text'))))
 ended_not (Ok t) job job' line seen lines last before text text' h same l k = tt
 ended_not (Err e) job job' line seen lines last before text text' h same l (is, none) =
-    let here : AllTold job' (lines_text lines ++ last) (before ++ text) = record {
+    let here : AllOutput job' (lines_text lines ++ last) (before ++ text) = record {
       lines = lines;
       last = last;
       given_is = refl;
       are_lines = (All-left lines (last ∷ []) h.are_lines, l);
-      lines_told = record { answers = h.answered.answers; are_answers = h.answered.are_answers; tells = h.answered.tells };
+      lines_output = record { answers = h.answered.answers; are_answers = h.answered.are_answers; outputs = h.answered.outputs };
     } in
-    let moved = subst (λ (z : List ℕ). AllTold job' (lines_text lines ++ last) (before ++ z)) (sym none) here in
-    (subst IsOfEngine (sym is) tt, (is, inr (subst (λ (j : LogJob). AllTold j (lines_text lines ++ last) (before ++ text')) same moved)))
+    let moved = subst (λ (z : List ℕ). AllOutput job' (lines_text lines ++ last) (before ++ z)) (sym none) here in
+    (subst IsOfEngine (sym is) tt, (is, inr (subst (λ (j : LogJob). AllOutput j (lines_text lines ++ last) (before ++ text')) same moved)))
 
 -- a fault says no more
 pub no_more : {T E : Type 0} (r : Result T E) → OnErr r ⊤

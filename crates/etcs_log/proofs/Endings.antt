@@ -9,7 +9,7 @@ use Rattle.etcs_runs.specs.declared.fault.RunFault.{RunFault}
 use Rattle.etcs_runs.specs.declared.fault.RunFault.TheVariants.{Refused, Truncated, BadHex, BadJson, Read, Write, Endless, Memory}
 use Rattle.etcs_log.specs.declared.job.LogJob.{LogJob}
 use Rattle.etcs_log.specs.declared.job.LogTally.{LogTally}
-use Rattle.etcs_log.specs.Promised.{WholeTold, log_promises}
+use Rattle.etcs_log.specs.Promised.{WholeOutput, log_promises}
 
 failed_one : (e : RunFault) (missed missed' failed failed' : ℕ) → FailedBy e missed missed' failed failed' → failed' ≤ failed + 1
 failed_one (Refused item bit var) missed missed' failed failed' h = omega (arith, h.1)
@@ -29,7 +29,7 @@ one_of AtEnd (Err e) missed missed' failed failed' h k = failed_one e missed mis
 module _ (job : LogJob) (left left' held held' : Option (List ℕ)) (reads reads' most : ℕ) where
   -- what is known of a fault that is of no call
   abbrev Why : RunFault → List ℕ → List ℕ → Type 0
-  Why e given told = (log_promises job).Stops given told e ⊎ ((IsAtEnd left' × (log_promises job).StopsAtEnd given told e) ⊎ ((e ≡ Endless) × (reads' ≡ reads + most) × (most ≤ length given) × (log_promises job).Tells given told))
+  Why e given output = (log_promises job).Stops given output e ⊎ ((IsAtEnd left' × (log_promises job).StopsAtEnd given output e) ⊎ ((e ≡ Endless) × (reads' ≡ reads + most) × (most ≤ length given) × (log_promises job).Outputs given output))
 
   -- there is no fault of a line
   fault_is : (e : RunFault) → (IsOfEngine e → Piped (Why e) left left' held held') → (e ≡ Read) ⊎ (((n : ℕ) × (e ≡ Write n)) ⊎ ((e ≡ Endless) ⊎ (e ≡ Memory)))
@@ -70,14 +70,14 @@ module _ (job : LogJob) (left left' held held' : Option (List ℕ)) (reads reads
   faults_are (Ok tally) h = tt
   faults_are (Err e) h = fault_is e h
 
-  endless_by : (given told : List ℕ) → Why Endless given told → (reads' ≡ reads + most) × (most ≤ length given) × WholeTold job given told
-  endless_by given told (inl s) = let is : ◌≡◌ {A = RunFault} Endless Memory = s.0 in absurd cc
-  endless_by given told (inr (inl (at, s))) = let is : ◌≡◌ {A = RunFault} Endless Memory = s.0 in absurd cc
-  endless_by given told (inr (inr s)) = (s.1, s.2, s.3)
+  endless_by : (given output : List ℕ) → Why Endless given output → (reads' ≡ reads + most) × (most ≤ length given) × WholeOutput job given output
+  endless_by given output (inl s) = let is : ◌≡◌ {A = RunFault} Endless Memory = s.0 in absurd cc
+  endless_by given output (inr (inl (at, s))) = let is : ◌≡◌ {A = RunFault} Endless Memory = s.0 in absurd cc
+  endless_by given output (inr (inr s)) = (s.1, s.2, s.3)
 
-  pub endless_of : (r : Result LogTally RunFault) → IfErr r (λ e. IsOfEngine e → Piped (Why e) left left' held held') → r ≡ Err Endless → (reads' ≡ reads + most) × Piped (λ given told. (most ≤ length given) × WholeTold job given told) left left' held held'
+  pub endless_of : (r : Result LogTally RunFault) → IfErr r (λ e. IsOfEngine e → Piped (Why e) left left' held held') → r ≡ Err Endless → (reads' ≡ reads + most) × Piped (λ given output. (most ≤ length given) × WholeOutput job given output) left left' held held'
   endless_of r h is =
       let here : IsOfEngine Endless → Piped (Why Endless) left left' held held' = subst (λ (z : Result LogTally RunFault). IfErr z (λ e. IsOfEngine e → Piped (Why e) left left' held held')) is h in
-      let (given, told, gave, took, why) = here tt in
-      let by = endless_by given told why in
-      (by.0, (given, told, gave, took, (by.1, by.2)))
+      let (given, output, gave, took, why) = here tt in
+      let by = endless_by given output why in
+      (by.0, (given, output, gave, took, (by.1, by.2)))

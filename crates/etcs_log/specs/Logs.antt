@@ -1,4 +1,4 @@
--- What is said of the lines of a log.
+-- What is reported of the lines of a log.
 use Rattle.std.specs.Prelude.{◌≡◌, ℕ, ◌+◌, ◌<◌, ◌≤◌, Bool, true, false, ◌==◌, List, [], ◌∷◌, ◌++◌, length, if◌then◌else◌, codes, ◌⊎◌, Ok, All}
 use Rattle.std.specs.Fmt.{decimal}
 use Rattle.hex.specs.Hex.{decode_of, encode_upper}
@@ -67,7 +67,7 @@ GoodText Left kinds n kind before e text = text ≡ []
 GoodText Digits kinds n kind before e text = (bytes : List ℕ) × IsEncoded e bytes × (text ≡ named kinds kind ++ (encode_upper bytes ++ 10 ∷ []))
 GoodText Json kinds n kind before e text = IsJsonItem n before e text
 
--- what is said of the bad line of this number: a line with a reason
+-- what is reported of the bad line of this number: a line with a reason
 abbrev pub IsNote : ℕ → List ℕ → Type 0
 IsNote number text = (reason : List ℕ) × (text ≡ codes "line " ++ decimal number ++ codes ": " ++ reason ++ codes "\n")
 
@@ -75,7 +75,7 @@ IsNote number text = (reason : List ℕ) × (text ≡ codes "line " ++ decimal n
 abbrev pub other_words : ℕ → List ℕ
 other_words count = if count == 104 then codes " bytes, as a long telegram has\n" else if count == 27 then codes " bytes, as a short telegram has\n" else codes " bytes, as a radio message whose L_MESSAGE says so\n"
 
--- what is said of a line of another kind
+-- what is reported of a line of another kind
 abbrev pub other_note : ℕ → ℕ → List ℕ
 other_note number count = codes "line " ++ decimal number ++ codes ": other: " ++ decimal count ++ other_words count
 
@@ -87,9 +87,9 @@ IsSaid job n (other count) text = (is_written job.good ≡ true → text ≡ [])
 IsSaid job n bad text = (is_written job.good ≡ true → text ≡ []) × (is_written job.good ≡ false → IsNote n text)
 
 -- of lines one after another, of which the first has this number
-abbrev pub Tells : LogJob → ℕ → List Answer → List ℕ → Type 0
-Tells job n [] text = text ≡ []
-Tells job n (a ∷ others) text = (said : List ℕ) × (rest : List ℕ) × IsSaid job n a said × (text ≡ said ++ rest) × Tells job (n + 1) others rest
+abbrev pub Outputs : LogJob → ℕ → List Answer → List ℕ → Type 0
+Outputs job n [] text = text ≡ []
+Outputs job n (a ∷ others) text = (said : List ℕ) × (rest : List ℕ) × IsSaid job n a said × (text ≡ said ++ rest) × Outputs job (n + 1) others rest
 
 abbrev pub items_in : List Answer → ℕ
 items_in [] = 0
@@ -170,7 +170,7 @@ Tried cs true job n front before after text text' = (kind : Kind) × (e : EntryV
 Tried cs false job n front before after text text' = AreNone cs × (after ≡ before) × (text' ≡ text)
 
 -- a whole log: each of its lines, of which the last may be empty and has no LF, is answered once and in order
-pub record IsLog (job : LogJob) (given told : List ℕ) (tally : LogTally) : Type 0 where
+pub record IsLog (job : LogJob) (given output : List ℕ) (tally : LogTally) : Type 0 where
   pub lines : List (List ℕ)
   pub last : List ℕ
   pub given_is : given ≡ lines_text lines ++ last
@@ -180,8 +180,8 @@ pub record IsLog (job : LogJob) (given told : List ℕ) (tally : LogTally) : Typ
   pub text : List ℕ
   pub groups : List Group
   pub end : List ℕ
-  pub told_is : told ≡ text ++ end
-  pub tells : Tells job 1 answers text
+  pub output_is : output ≡ text ++ end
+  pub outputs : Outputs job 1 answers text
   pub end_is : EndText job tally groups end
   pub groups_are : job.groups ≡ true → AreGroups (telegrams_in answers) groups
   pub items_are : tally.items ≡ items_in answers

@@ -1,23 +1,23 @@
--- What was said of the lines that a log has so far.
+-- What was reported of the lines of a log so far.
 use Rattle.std.specs.Prelude.{◌≡◌, ℕ, true, List, length, All}
 use Rattle.etcs_runs.specs.Lines.{IsLine}
 use Rattle.etcs_log.specs.declared.job.LogJob.{LogJob}
 use Rattle.etcs_log.specs.declared.seen.Seen.{Seen}
 use Rattle.etcs_log.specs.LogGroups.{AreGroups}
-use Rattle.etcs_log.specs.Logs.{Answer, AreAnswers, Tells, items_in, bad_in, other_in, telegrams_in}
+use Rattle.etcs_log.specs.Logs.{Answer, AreAnswers, Outputs, items_in, bad_in, other_in, telegrams_in}
 
 -- these lines were answered one after another, and this text was written of them
-pub record AreAnswered (job : LogJob) (lines : List (List ℕ)) (seen : Seen) (told : List ℕ) : Type 0 where
+pub record AreAnswered (job : LogJob) (lines : List (List ℕ)) (seen : Seen) (output : List ℕ) : Type 0 where
   pub answers : List Answer
   pub are_answers : AreAnswers job.kinds lines answers
-  pub tells : Tells job 1 answers told
+  pub outputs : Outputs job 1 answers output
   pub items_are : seen.tally.items ≡ items_in answers
   pub bad_are : seen.tally.bad ≡ bad_in answers
   pub other_are : seen.tally.other ≡ other_in answers
   pub groups_are : job.groups ≡ true → AreGroups (telegrams_in answers) seen.groups
 
 -- these lines were there, and their number
-pub record LogTook (job : LogJob) (line : ℕ) (seen : Seen) (lines : List (List ℕ)) (told : List ℕ) : Type 0 where
+pub record LogTook (job : LogJob) (line : ℕ) (seen : Seen) (lines : List (List ℕ)) (output : List ℕ) : Type 0 where
   pub are_lines : All IsLine lines
   pub line_is : line ≡ length lines
-  pub answered : AreAnswered job lines seen told
+  pub answered : AreAnswered job lines seen output

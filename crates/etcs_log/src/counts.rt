@@ -53,7 +53,7 @@ fn write_packets(counts: &[u64; 256], out: &mut String) -> Result<(), AllocError
     Ok(())
 }
 
-/// What is said of a message's number that is of a way that isn't asked for.
+/// What is added to a message's number of the other way, if that isn't asked for.
 fn other_way(kinds: Kinds, number: u8) -> &'static str {
     match way_of_message(number) {
         Some(Way::ToTrack) if !kinds.train => " (to the track)",

@@ -10,14 +10,14 @@ use crate::kinds::Kinds;
 pub enum Good {
     /// Nothing.
     Left,
-    /// Their digits in upper case; of several kinds the kind is named before them.
+    /// Their digits in upper case, with the name of the kind before them if several kinds are asked for.
     Digits,
     /// A line of JSON each: the line's number, what is before its digits, and its item.
     Json,
 }
 
 impl Good {
-    /// Whether they are written. What is said of all other lines, and the counts, then go to the notes.
+    /// Whether good lines are written. What is reported of all other lines, the counts and the groups then go to the notes.
     pub(crate) fn is_written(self) -> bool
         ensures { result ≡ is_written self }
     {
@@ -48,6 +48,6 @@ pub struct LogTally {
     pub items: u64,
     /// How many are bad.
     pub bad: u64,
-    /// How many have the number of bytes of a kind that isn't asked for.
+    /// How many are no item, and have a number of bytes that only items of a kind that isn't asked for have.
     pub other: u64,
 }

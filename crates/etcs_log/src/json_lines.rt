@@ -71,10 +71,10 @@ fn write_json_item(
     out.extend_from_slice(b"}\n")
 }
 
-/// Appends the line of an item as JSON, or nothing: an object of the line's number (`line`), of what is before its digits
-/// (`front`), and of the item as `convert --to json` writes it (`item`). What is not UTF-8 before the digits is written as
-/// U+FFFD. What a terminal may obey is escaped: not only what is below U+0020, but also U+007F to U+009F, U+061C, U+200E,
-/// U+200F, U+2028 to U+202E and U+2066 to U+2069.
+/// Appends the line of an item as JSON, or nothing: an object with the line's number (`line`), what is before its digits
+/// (`front`), and the item as `convert --to json` writes it (`item`). Bytes before the digits that aren't UTF-8 are written
+/// as U+FFFD. Characters that a terminal may obey are escaped: not only those below U+0020, but also U+007F to U+009F,
+/// U+061C, U+200E, U+200F, U+2028 to U+202E and U+2066 to U+2069.
 ///
 /// # Errors
 ///

@@ -58,7 +58,7 @@ impl Kinds {
         kinds
     }
 
-    /// Whether they are two or more.
+    /// Whether there are two or more of them.
     pub fn several(self) -> bool
         ensures { result ≡ several self }
     {

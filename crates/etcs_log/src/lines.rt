@@ -1,4 +1,4 @@
-//! What is said of one line after another.
+//! What is reported of each line.
 
 ghost use Rattle.std.specs.Prelude.{◌≡◌, ◌+◌, ◌*◌, ◌<◌, ◌≤◌, ◌^◌, ◌++◌, ◌∷◌, ℕ, List, [], All, IfOk, OnErr, OnOk, length};
 ghost use Rattle.hex.specs.Hex.{encode_upper};
@@ -106,7 +106,7 @@ fn may_have(kind: Kind, count: usize) -> bool
     }
 }
 
-/// Says what lines are, and counts them.
+/// Reports what lines are, and counts them.
 #[derive(Drop)]
 pub(crate) struct Answers {
     pub(crate) job: LogJob,
@@ -116,7 +116,7 @@ pub(crate) struct Answers {
     readers: Readers,
     counts: Counts,
     words: String,
-    /// What is said of bad lines where good ones are asked for.
+    /// What is reported of lines that aren't good, where good ones are asked for.
     pub(crate) notes: Vec<u8>,
 }
 
@@ -146,7 +146,7 @@ impl Answers {
         }
     }
 
-    /// Says what the last line that has come is, by a buffer that has room for the bytes that it says.
+    /// Reports the last line that has come, by way of a buffer that has room for its bytes.
     ///
     /// # Errors
     ///
@@ -175,7 +175,7 @@ impl Answers {
         }
     }
 
-    /// Says what the line is that says these bytes.
+    /// Reports the line that has these bytes.
     ///
     /// # Errors
     ///
@@ -418,7 +418,7 @@ impl Answers {
         }
     }
 
-    /// Says what a line is whose bytes are no item of the kinds: of another kind, by their number, or bad.
+    /// Reports a line whose bytes are no item of the kinds: as of another kind, by their number, or as bad.
     ///
     /// # Errors
     ///
@@ -443,7 +443,7 @@ impl Answers {
         self.refuse(Bad::Bytes, bytes, text)
     }
 
-    /// Says that a line has this number of bytes, which only a kind that isn't asked for has.
+    /// Reports that a line has this number of bytes, which only items of a kind that isn't asked for have.
     ///
     /// # Errors
     ///
@@ -463,7 +463,7 @@ impl Answers {
         }
     }
 
-    /// Says why a line is bad, which says these bytes, if it says any.
+    /// Reports why a line with these bytes, if it has any, is bad.
     ///
     /// # Errors
     ///

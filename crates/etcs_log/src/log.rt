@@ -5,7 +5,7 @@ ghost use Rattle.etcs_log.specs.Logs.{Answered, EndText};
 ghost use Rattle.etcs_log.specs.Promised.{log_promises};
 ghost use Rattle.etcs_runs.specs.declared.fault.RunFault.{RunFault};
 ghost use Rattle.etcs_log.specs.Stands.{LogTook};
-ghost use Rattle.etcs_log.specs.laws.LogLaws.{log_sound, long_told, stands_told, took_told};
+ghost use Rattle.etcs_log.specs.laws.LogLaws.{log_sound, long_output, stands_output, took_output};
 
 use crate::job::{LogJob, LogTally};
 use crate::lines::Answers;
@@ -14,10 +14,10 @@ use etcs_runs::inner::{Engine, LineHandler, Lines, send};
 use etcs_runs::{MOST_LINE, RunFault, Sink, without_cr};
 use std::alloc::{AllocError, Global};
 
-/// How often a sink of notes fails before it is asked no more.
+/// After how many failures the sink of notes isn't called any more.
 const MOST_FAILURES: u64 = 1 << 62;
 
-/// Makes a buffer at least so long.
+/// Lengthens a buffer to at least this many bytes.
 ///
 /// # Errors
 ///
@@ -51,7 +51,7 @@ impl LogLines {
         }
     }
 
-    /// Says what the next line is.
+    /// Reports what the next line is.
     ///
     /// # Errors
     ///
@@ -74,7 +74,7 @@ impl LogLines {
         self.answers.take(line, self.buffer.as_mut_slice(), text)
     }
 
-    /// The log is at its end: writes the counts and the groups.
+    /// Ends the log: writes the counts and the groups.
     ///
     /// # Errors
     ///
@@ -101,9 +101,9 @@ impl LineHandler for LogLines {
 
     ghost most = { λ job. 1048576 };
 
-    ghost took = { λ s lines told. LogTook s.answers.job s.answers.line s.answers.seen lines told };
+    ghost took = { λ s lines output. LogTook s.answers.job s.answers.line s.answers.seen lines output };
 
-    ghost said = { λ s told. ⊤ };
+    ghost said = { λ s output. ⊤ };
 
     fn most(&self) -> usize {
         MOST_LINE
@@ -147,11 +147,11 @@ impl LineHandler for LogLines {
 
     ghost sound = { λ s. log_sound s.answers.job };
 
-    ghost took_tells = { λ s lines begun told h l. took_told s.answers.job s.answers.line s.answers.seen lines begun told h l };
+    ghost took_outputs = { λ s lines begun output h l. took_output s.answers.job s.answers.line s.answers.seen lines begun output h l };
 
-    ghost long_tells = { λ s lines part told h l long. long_told s.answers.job s.answers.line s.answers.seen lines part told h l long };
+    ghost long_outputs = { λ s lines part output h l long. long_output s.answers.job s.answers.line s.answers.seen lines part output h l long };
 
-    ghost took_said = { λ s lines told h. tt };
+    ghost took_said = { λ s lines output h. tt };
 }
 
 /// The lines of a log, and where notes go to where good lines are asked for.
@@ -178,9 +178,9 @@ impl<'a, N: Sink> Engine for LogEngine<'a, N> {
 
     ghost promises = { log_promises };
 
-    ghost stands = { λ e given told. ⟦<Lines<LogLines> as Engine>⟧.stands e.lines given told };
+    ghost stands = { λ e given output. ⟦<Lines<LogLines> as Engine>⟧.stands e.lines given output };
 
-    ghost said = { λ e told. ⊤ };
+    ghost said = { λ e output. ⊤ };
 
     fn wanted(&self) -> usize {
         self.lines.wanted()
@@ -204,5 +204,5 @@ impl<'a, N: Sink> Engine for LogEngine<'a, N> {
 
     ghost sound = { λ e. log_sound e.lines.handler.answers.job };
 
-    ghost stands_tells = { λ e given told h. stands_told e.lines.handler.answers.job e.lines.handler.answers.line e.lines.handler.answers.seen _ _ _ given told h };
+    ghost stands_outputs = { λ e given output h. stands_output e.lines.handler.answers.job e.lines.handler.answers.line e.lines.handler.answers.seen _ _ _ given output h };
 }

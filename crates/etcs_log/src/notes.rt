@@ -1,4 +1,4 @@
-//! What is said of a bad line.
+//! What is reported of a bad line.
 
 ghost use Rattle.std.specs.Prelude.{◌≡◌, ◌++◌, ℕ, List, codes, OnErr, OnOk};
 ghost use Rattle.std.specs.Fmt.{decimal};

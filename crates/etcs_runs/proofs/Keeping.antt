@@ -24,8 +24,8 @@ pub longer_text : (front rest given more : List ℕ) → given ≡ front ++ rest
 longer_text front rest given more e = ap (λ (z : List ℕ). z ++ more) e ∙ append_assoc front rest more
 
 -- no text was written since
-pub none_told : (P : List ℕ → Type 0) (told t : List ℕ) → t ≡ [] → P told → P (told ++ t)
-none_told P told t e h = subst P (sym (ap (λ (z : List ℕ). told ++ z) e ∙ append-nil told)) h
+pub none_output : (P : List ℕ → Type 0) (output t : List ℕ) → t ≡ [] → P output → P (output ++ t)
+none_output P output t e h = subst P (sym (ap (λ (z : List ℕ). output ++ z) e ∙ append-nil output)) h
 
 -- ---- What is kept of a line.
 
@@ -33,7 +33,7 @@ length-zero : (xs : List ℕ) → length xs ≡ 0 → xs ≡ []
 length-zero [] h = refl
 length-zero (x ∷ xs) h = absurd (omega (arith, h))
 
-module _ {Took : List (List ℕ) → List ℕ → Type 0} {most : ℕ} {begun : List ℕ} {n line : ℕ} {given told : List ℕ} (h : LinesStand Took most begun n line given told) where
+module _ {Took : List (List ℕ) → List ℕ → Type 0} {most : ℕ} {begun : List ℕ} {n line : ℕ} {given output : List ℕ} (h : LinesStand Took most begun n line given output) where
   -- there are no more lines than bytes
   pub few_lines : (line ≡ length h.lines) × (length h.lines + n ≤ length given)
   few_lines = (h.line_is, omega (arith, h.n_is, lines_few h.lines, ap length h.given_is, length-append (lines_text h.lines) h.part))
@@ -43,7 +43,7 @@ module _ {Took : List (List ℕ) → List ℕ → Type 0} {most : ℕ} {begun : 
   no_part zero = length-zero h.part (sym h.n_is ∙ zero)
 
   -- it isn't too long
-  pub short_took : n ≤ most + 1 → Took h.lines told
+  pub short_took : n ≤ most + 1 → Took h.lines output
   short_took short = elim h.kept [
     | inl k ↦ k.2
     | inr k ↦ absurd (omega (arith, k.0, h.n_is, short))
@@ -56,14 +56,14 @@ module _ {Took : List (List ℕ) → List ℕ → Type 0} {most : ℕ} {begun : 
   ]
 
   -- it is
-  long_took : most + 1 < n → (rest : List ℕ) → IsLine rest → Took (h.lines ++ (h.part ++ rest) ∷ []) told
+  long_took : most + 1 < n → (rest : List ℕ) → IsLine rest → Took (h.lines ++ (h.part ++ rest) ∷ []) output
   long_took long = elim h.kept [
     | inl k ↦ absurd (omega (arith, k.0, h.n_is, long))
     | inr k ↦ k.1
   ]
 
-  pub whole_took : most + 1 < n → Took (h.lines ++ h.part ∷ []) told
-  whole_took long = subst (λ (z : List ℕ). Took (h.lines ++ z ∷ []) told) (append-nil h.part) (long_took long [] (All-nil (λ c. c ≡ 10 → ⊥)))
+  pub whole_took : most + 1 < n → Took (h.lines ++ h.part ∷ []) output
+  whole_took long = subst (λ (z : List ℕ). Took (h.lines ++ z ∷ []) output) (append-nil h.part) (long_took long [] (All-nil (λ c. c ≡ 10 → ⊥)))
 
   -- with a part more
   module _ (part : List ℕ) where
@@ -80,23 +80,23 @@ module _ {Took : List (List ℕ) → List ℕ → Type 0} {most : ℕ} {begun : 
     pub keep_refused : (P : List ℕ → Type 0) (more : List ℕ) → P (lines_text h.lines ++ ((h.part ++ part) ++ more)) → P (given ++ (part ++ more))
     keep_refused P more = subst P (sym (longer_text (lines_text h.lines) (h.part ++ part) (given ++ part) more more_text) ∙ append_assoc given part more)
 
-    continued : {Took' : List (List ℕ) → List ℕ → Type 0} {most' : ℕ} {begun' : List ℕ} {n' : ℕ} {told' : List ℕ} → IsLine part → n' ≡ n + length part → IsKept Took' most' h.lines (h.part ++ part) begun' told' → LinesStand Took' most' begun' n' line (given ++ part) told'
+    continued : {Took' : List (List ℕ) → List ℕ → Type 0} {most' : ℕ} {begun' : List ℕ} {n' : ℕ} {output' : List ℕ} → IsLine part → n' ≡ n + length part → IsKept Took' most' h.lines (h.part ++ part) begun' output' → LinesStand Took' most' begun' n' line (given ++ part) output'
     continued l m kept =
         record { lines = h.lines; part = h.part ++ part; given_is = more_text; is_line = more_line l; n_is = omega (arith, m, h.n_is, length-append h.part part); line_is = h.line_is; kept = kept }
 
     -- the part is kept
-    pub keeps : {begun' : List ℕ} {n' : ℕ} → IsLine part → begun' ≡ begun ++ part → n' ≡ n + length part → n' ≤ most + 1 → LinesStand Took most begun' n' line (given ++ part) told
+    pub keeps : {begun' : List ℕ} {n' : ℕ} → IsLine part → begun' ≡ begun ++ part → n' ≡ n + length part → n' ≤ most + 1 → LinesStand Took most begun' n' line (given ++ part) output
     keeps l e m short =
         let before : n ≤ most + 1 = omega (arith, m, short) in
         continued l m (inl (omega (arith, m, short, h.n_is, length-append h.part part), e ∙ ap (λ (z : List ℕ). z ++ part) (short_begun before), short_took before))
 
     -- it is skipped
-    pub skips : {begun' : List ℕ} {n' : ℕ} → IsLine part → n' ≡ n + length part → most + 1 < n → LinesStand Took most begun' n' line (given ++ part) told
+    pub skips : {begun' : List ℕ} {n' : ℕ} → IsLine part → n' ≡ n + length part → most + 1 < n → LinesStand Took most begun' n' line (given ++ part) output
     skips l m long =
-        continued l m (inr (omega (arith, long, h.n_is, length-append h.part part), λ rest r. subst (λ (z : List ℕ). Took (h.lines ++ z ∷ []) told) (sym (append_assoc h.part part rest)) (long_took long (part ++ rest) (All-append (λ c. c ≡ 10 → ⊥) part rest l r))))
+        continued l m (inr (omega (arith, long, h.n_is, length-append h.part part), λ rest r. subst (λ (z : List ℕ). Took (h.lines ++ z ∷ []) output) (sym (append_assoc h.part part rest)) (long_took long (part ++ rest) (All-append (λ c. c ≡ 10 → ⊥) part rest l r))))
 
     -- the line was reported
-    pub reported : {Took' : List (List ℕ) → List ℕ → Type 0} {most' : ℕ} {begun' : List ℕ} {n' : ℕ} {told' : List ℕ} → IsLine part → most' ≡ most → n' ≡ n + length part → most + 1 < length (h.part ++ part) → ((rest : List ℕ) → IsLine rest → Took' (h.lines ++ ((h.part ++ part) ++ rest) ∷ []) told') → LinesStand Took' most' begun' n' line (given ++ part) told'
+    pub reported : {Took' : List (List ℕ) → List ℕ → Type 0} {most' : ℕ} {begun' : List ℕ} {n' : ℕ} {output' : List ℕ} → IsLine part → most' ≡ most → n' ≡ n + length part → most + 1 < length (h.part ++ part) → ((rest : List ℕ) → IsLine rest → Took' (h.lines ++ ((h.part ++ part) ++ rest) ∷ []) output') → LinesStand Took' most' begun' n' line (given ++ part) output'
     reported l same m long took = continued l m (inr (omega (arith, same, long), took))
 
 -- ---- A line that ends.
@@ -105,7 +105,7 @@ module _ (lines : List (List ℕ)) (raw given part : List ℕ) (is : given ++ pa
   line_text : (more : List ℕ) → given ++ (part ++ 10 ∷ more) ≡ lines_text lines ++ (raw ++ 10 ∷ more)
   line_text more = sym (append_assoc given part (10 ∷ more)) ∙ longer_text (lines_text lines) raw (given ++ part) (10 ∷ more) is
 
-  pub line_taken : {Took : List (List ℕ) → List ℕ → Type 0} {most : ℕ} {begun : List ℕ} {n line : ℕ} {told : List ℕ} → begun ≡ [] → n ≡ 0 → line ≡ length lines + 1 → Took (lines ++ raw ∷ []) told → LinesStand Took most begun n line (given ++ (part ++ 10 ∷ [])) told
+  pub line_taken : {Took : List (List ℕ) → List ℕ → Type 0} {most : ℕ} {begun : List ℕ} {n line : ℕ} {output : List ℕ} → begun ≡ [] → n ≡ 0 → line ≡ length lines + 1 → Took (lines ++ raw ∷ []) output → LinesStand Took most begun n line (given ++ (part ++ 10 ∷ [])) output
   line_taken e z m took = record {
     lines = lines ++ raw ∷ [];
     part = [];

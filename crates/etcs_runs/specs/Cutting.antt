@@ -9,44 +9,44 @@ use Rattle.etcs_runs.specs.Lines.{IsLine, lines_text}
 -- of the line that begins so, all is kept, and those before it were taken; or it is too long, and was taken with them
 -- however it continues
 abbrev pub IsKept : (List (List ℕ) → List ℕ → Type 0) → ℕ → List (List ℕ) → List ℕ → List ℕ → List ℕ → Type 0
-IsKept Took most lines part begun told =
-    ((length part ≤ most + 1) × (begun ≡ part) × Took lines told)
-    ⊎ ((most + 1 < length part) × ((rest : List ℕ) → IsLine rest → Took (lines ++ (part ++ rest) ∷ []) told))
+IsKept Took most lines part begun output =
+    ((length part ≤ most + 1) × (begun ≡ part) × Took lines output)
+    ⊎ ((most + 1 < length part) × ((rest : List ℕ) → IsLine rest → Took (lines ++ (part ++ rest) ∷ []) output))
 
 -- the bytes are lines, of which the last has no LF yet, but n characters; the others were taken, and this text was written
 -- of them
-pub record LinesStand (Took : List (List ℕ) → List ℕ → Type 0) (most : ℕ) (begun : List ℕ) (n line : ℕ) (given told : List ℕ) : Type 0 where
+pub record LinesStand (Took : List (List ℕ) → List ℕ → Type 0) (most : ℕ) (begun : List ℕ) (n line : ℕ) (given output : List ℕ) : Type 0 where
   pub lines : List (List ℕ)
   pub part : List ℕ
   pub given_is : given ≡ lines_text lines ++ part
   pub is_line : IsLine part
   pub n_is : n ≡ length part
   pub line_is : line ≡ length lines
-  pub kept : IsKept Took most lines part begun told
+  pub kept : IsKept Took most lines part begun output
 
 module _ {H J T : Type 0} (h : HandlerOf H J T) where
   -- these bytes were given to the cutter, and its handler wrote this text of them
   abbrev pub Stands : Lines H J T → List ℕ → List ℕ → Type 0
-  Stands s given told = LinesStand (h.took s.handler) (h.most (h.job s.handler)) s.begun.items s.count s.line given told
+  Stands s given output = LinesStand (h.took s.handler) (h.most (h.job s.handler)) s.begun.items s.count s.line given output
 
   module _ (old : Lines H J T) (text : List ℕ) where
     -- some were, and this many more may be
     abbrev pub HasRoom : ℕ → Type 0
-    HasRoom n = (given : List ℕ) × (told : List ℕ) × Stands old given (told ++ text) × (length given + n < 2 ^ 62)
+    HasRoom n = (given : List ℕ) × (output : List ℕ) × Stands old given (output ++ text) × (length given + n < 2 ^ 62)
 
     -- whatever they are, and whatever text was written before this one
     abbrev pub WhereGiven : (List ℕ → List ℕ → Type 0) → Type 0
-    WhereGiven Holds = (given told : List ℕ) → Stands old given (told ++ text) → Holds given told
+    WhereGiven Holds = (given output : List ℕ) → Stands old given (output ++ text) → Holds given output
 
     module _ (text' : List ℕ) (r : Result Unit RunFault) where
       -- this part more is taken
       abbrev pub TakesPart : Lines H J T → List ℕ → Type 0
-      TakesPart new part = WhereGiven (λ given told. OnOk r (Stands new (given ++ part) (told ++ text')))
+      TakesPart new part = WhereGiven (λ given output. OnOk r (Stands new (given ++ part) (output ++ text')))
 
       -- each input that continues with these bytes stops so
       abbrev pub StopsAt : List ℕ → Type 0
-      StopsAt bytes = WhereGiven (λ given told. IfFault r ((h.promises (h.job old.handler)).Stops (given ++ bytes) (told ++ text')))
+      StopsAt bytes = WhereGiven (λ given output. IfFault r ((h.promises (h.job old.handler)).Stops (given ++ bytes) (output ++ text')))
 
       -- where it fails, the handler says this
       abbrev pub SaysSo : Lines H J T → Type 0
-      SaysSo new = WhereGiven (λ given told. OnErr r (h.said new.handler (told ++ text')))
+      SaysSo new = WhereGiven (λ given output. OnErr r (h.said new.handler (output ++ text')))

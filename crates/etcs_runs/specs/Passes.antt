@@ -20,14 +20,14 @@ module _ {W : Type 0} (w : SinkOf W) (sink sink' : W) where
 
   -- after the text written the sink took this one; the fault is the engine's
   abbrev pub Stopped : (List ℕ → RunFault → Type 0) → List ℕ → List ℕ → RunFault → Type 0
-  Stopped Stops told text e = IsOfEngine e × Stops (told ++ text) e × Appends (w.contents sink) (w.contents sink') text
+  Stopped Stops output text e = IsOfEngine e × Stops (output ++ text) e × Appends (w.contents sink) (w.contents sink') text
 
   -- the sink took the first bytes of it, and failed
   abbrev pub Broken : (List ℕ → Type 0) → List ℕ → List ℕ → RunFault → Type 0
-  Broken Prints told text e = TookFirst (length told) text e × Prints (told ++ text) × (w.failures sink' ≡ w.failures sink + 1)
+  Broken Prints output text e = TookFirst (length output) text e × Prints (output ++ text) × (w.failures sink' ≡ w.failures sink + 1)
 
   abbrev pub Fails : (List ℕ → RunFault → Type 0) → (List ℕ → Type 0) → List ℕ → List ℕ → RunFault → Type 0
-  Fails Stops Prints told text e = Stopped Stops told text e ⊎ Broken Prints told text e
+  Fails Stops Prints output text e = Stopped Stops output text e ⊎ Broken Prints output text e
 
   -- it took this text, and no call failed
   abbrev pub Writes : List ℕ → Type 0
@@ -36,39 +36,39 @@ module _ {W : Type 0} (w : SinkOf W) (sink sink' : W) where
 module _ {E J T : Type 0} (g : EngineOf E J T) (engine : E) where
   -- it was fed some bytes, and may be fed this many more
   abbrev pub HasRoom : ℕ → Type 0
-  HasRoom n = (given : List ℕ) × (told : List ℕ) × g.stands engine given told × (length given + n < 2 ^ 62)
+  HasRoom n = (given : List ℕ) × (output : List ℕ) × g.stands engine given output × (length given + n < 2 ^ 62)
 
   -- where memory is refused, it says this
   abbrev pub Starves : {A : Type 0} → E → List ℕ → Result A RunFault → Type 0
-  Starves engine' text r = (given told : List ℕ) → g.stands engine given told → IfErr r (λ e. e ≡ Memory → g.said engine' (told ++ text))
+  Starves engine' text r = (given output : List ℕ) → g.stands engine given output → IfErr r (λ e. e ≡ Memory → g.said engine' (output ++ text))
 
   -- whatever it was fed, and whatever text of that was written and counted
   abbrev pub WhereFed : ℕ → (List ℕ → List ℕ → Type 0) → Type 0
-  WhereFed sent Holds = (given told : List ℕ) → g.stands engine given told → sent ≡ counted (length told) → Holds given told
+  WhereFed sent Holds = (given output : List ℕ) → g.stands engine given output → sent ≡ counted (length output) → Holds given output
 
   module _ {W : Type 0} (w : SinkOf W) (sink sink' : W) (text : List ℕ) (sent : ℕ) where
     -- a piece more was fed, and its text written and counted
     abbrev pub Passes : E → List ℕ → ℕ → Result Unit RunFault → Type 0
     Passes engine' piece sent' r =
-        WhereFed sent (λ given told. OnOk r (g.stands engine' (given ++ piece) (told ++ text) × Writes w sink sink' text × (sent' ≡ counted (length (told ++ text)))))
+        WhereFed sent (λ given output. OnOk r (g.stands engine' (given ++ piece) (output ++ text) × Writes w sink sink' text × (sent' ≡ counted (length (output ++ text)))))
 
     -- it was fed in vain, or its text wasn't written
     abbrev pub PassesNot : List ℕ → Result Unit RunFault → Type 0
     PassesNot piece r =
         let p = g.promises (g.job engine) in
-        WhereFed sent (λ given told. IfErr r (Fails w sink sink' (p.Stops (given ++ piece)) (p.Prints (given ++ piece)) told text))
+        WhereFed sent (λ given output. IfErr r (Fails w sink sink' (p.Stops (given ++ piece)) (p.Prints (given ++ piece)) output text))
 
     -- the input was whole, and the last text was written
     abbrev pub Closes : Result T RunFault → Type 0
-    Closes r = WhereFed sent (λ given told. IfOk r (λ tally. (g.promises (g.job engine)).Ends given (told ++ text) tally × Writes w sink sink' text))
+    Closes r = WhereFed sent (λ given output. IfOk r (λ tally. (g.promises (g.job engine)).Ends given (output ++ text) tally × Writes w sink sink' text))
 
     abbrev pub ClosesNot : Result T RunFault → Type 0
     ClosesNot r =
         let p = g.promises (g.job engine) in
-        WhereFed sent (λ given told. IfErr r (Fails w sink sink' (p.StopsAtEnd given) (λ t. p.Prints given t ⊎ EndsWhole p given t) told text))
+        WhereFed sent (λ given output. IfErr r (Fails w sink sink' (p.StopsAtEnd given) (λ t. p.Prints given t ⊎ EndsWhole p given t) output text))
 
     -- a sink was flushed in vain only after all of the text of a whole input
     abbrev pub FlushesLast : Result T RunFault → Type 0
     FlushesLast r =
         let p = g.promises (g.job engine) in
-        WhereFed sent (λ given told. IfErr r (λ e. FlushedOnlyWhere (w.flushes sink) (w.flushes sink') ((e ≡ Write (counted (length (told ++ text)))) × Appends (w.contents sink) (w.contents sink') text × EndsWhole p given (told ++ text))))
+        WhereFed sent (λ given output. IfErr r (λ e. FlushedOnlyWhere (w.flushes sink) (w.flushes sink') ((e ≡ Write (counted (length (output ++ text)))) × Appends (w.contents sink) (w.contents sink') text × EndsWhole p given (output ++ text))))

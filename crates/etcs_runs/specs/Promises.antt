@@ -6,7 +6,7 @@ use Rattle.etcs_runs.specs.declared.fault.RunFault.TheVariants.{Memory}
 -- what is written of an input, and how a run of it ends, with an answer in T
 pub record Promises (T : Type 0) : Type 1 where
   -- all that is whole in what is given has this text
-  pub Tells : List ℕ → List ℕ → Type 0
+  pub Outputs : List ℕ → List ℕ → Type 0
   -- the bytes are a whole input, with this text and this answer
   pub Ends : List ℕ → List ℕ → T → Type 0
   -- each input that begins so ends by this fault, after this text; or memory was refused
@@ -18,25 +18,25 @@ pub record Promises (T : Type 0) : Type 1 where
 
 -- a whole input with this text, and some answer
 abbrev pub EndsWhole : {T : Type 0} → Promises T → List ℕ → List ℕ → Type 0
-EndsWhole {T} p given told = (answer : T) × p.Ends given told answer
+EndsWhole {T} p given output = (answer : T) × p.Ends given output answer
 
 -- which promises follow from others
 pub record Sound {T : Type 0} (p : Promises T) : Type 0 where
-  pub tells_print : (given told : List ℕ) → p.Tells given told → p.Prints given told
-  pub stops_print : (given told : List ℕ) (fault : RunFault) → p.Stops given told fault → p.Prints given told
-  pub last_prints : (given told : List ℕ) (fault : RunFault) → p.StopsAtEnd given told fault → p.Prints given told
+  pub outputs_print : (given output : List ℕ) → p.Outputs given output → p.Prints given output
+  pub stops_print : (given output : List ℕ) (fault : RunFault) → p.Stops given output fault → p.Prints given output
+  pub last_prints : (given output : List ℕ) (fault : RunFault) → p.StopsAtEnd given output fault → p.Prints given output
   -- memory may be refused at any further part
-  pub starves : (given more told : List ℕ) → p.Tells given told → p.Stops (given ++ more) told Memory
+  pub starves : (given more output : List ℕ) → p.Outputs given output → p.Stops (given ++ more) output Memory
 
 -- memory was refused at the last piece that was read: all items that were whole before it are reported, and after them
 -- perhaps the next ones
-pub record StarvesIn {T : Type 0} (p : Promises T) (given told : List ℕ) : Type 0 where
+pub record StarvesIn {T : Type 0} (p : Promises T) (given output : List ℕ) : Type 0 where
   pub before : List ℕ
   pub last : List ℕ
   pub given_is : given ≡ before ++ last
   pub short : length last ≤ 4096
   pub whole : List ℕ
   pub more : List ℕ
-  pub told_is : told ≡ whole ++ more
-  pub tells : p.Tells before whole
-  pub prints : p.Prints given told
+  pub output_is : output ≡ whole ++ more
+  pub outputs : p.Outputs before whole
+  pub prints : p.Prints given output

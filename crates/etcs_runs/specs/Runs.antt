@@ -14,13 +14,13 @@ use Rattle.etcs_runs.specs.Promises.{Promises, EndsWhole, StarvesIn}
 -- by its answer, with at most this number of reads: of the source what is left, how often it was read and how often that failed;
 -- of the sink what it holds, how often it failed and how often it was flushed; each of them before the run and after it
 pub record Ran {T : Type 0} (p : Promises T) (most : ℕ) (left left' : Option (List ℕ)) (reads reads' missed missed' : ℕ) (held held' : Option (List ℕ)) (failed failed' flushes flushes' : ℕ) (result : Result T RunFault) : Type 0 where
-  pub ok : IfOk result (λ answer. Piped (λ given told. p.Ends given told answer) left left' held held')
+  pub ok : IfOk result (λ answer. Piped (λ given output. p.Ends given output answer) left left' held held')
   pub at_end : OnOk result (IsAtEnd left' × (missed' ≡ missed) × (failed' ≡ failed))
-  pub engine : IfErr result (λ e. IsOfEngine e → Piped (λ given told. p.Stops given told e ⊎ ((IsAtEnd left' × p.StopsAtEnd given told e) ⊎ ((e ≡ Endless) × (reads' ≡ reads + most) × (most ≤ length given) × p.Tells given told))) left left' held held')
-  pub read : result ≡ Err Read → Piped p.Tells left left' held held'
-  pub write : (n : ℕ) → result ≡ Err (Write n) → (k : ℕ) × (n ≡ counted k) × PipedFirst k (λ given told. p.Prints given told ⊎ (IsAtEnd left' × EndsWhole p given told)) left left' held held'
+  pub engine : IfErr result (λ e. IsOfEngine e → Piped (λ given output. p.Stops given output e ⊎ ((IsAtEnd left' × p.StopsAtEnd given output e) ⊎ ((e ≡ Endless) × (reads' ≡ reads + most) × (most ≤ length given) × p.Outputs given output))) left left' held held')
+  pub read : result ≡ Err Read → Piped p.Outputs left left' held held'
+  pub write : (n : ℕ) → result ≡ Err (Write n) → (k : ℕ) × (n ≡ counted k) × PipedFirst k (λ given output. p.Prints given output ⊎ (IsAtEnd left' × EndsWhole p given output)) left left' held held'
   pub flushed : OnOk result (flushes' ≡ (flushes + 1) % 2 ^ 64)
-  pub unflushed : IfErr result (λ e. FlushedOnlyWhere flushes flushes' (Piped (λ given told. (e ≡ Write (counted (length told))) × IsAtEnd left' × EndsWhole p given told) left left' held held'))
+  pub unflushed : IfErr result (λ e. FlushedOnlyWhere flushes flushes' (Piped (λ given output. (e ≡ Write (counted (length output))) × IsAtEnd left' × EndsWhole p given output) left left' held held'))
   pub few_reads : reads' ≤ reads + most
   pub memory : IfErr result (λ e. e ≡ Memory → Piped (StarvesIn p) left left' held held')
   pub failures : IfErr result (λ e. FailedBy e missed missed' failed failed')

@@ -80,7 +80,7 @@ pub trait LineHandler {
         requires empty { text.old.items ≡ [] }
         ensures ok { EndsWith (took self.old) (promises (job self.old)) line.now text.new.items result }
         ensures err { StopsWith (took self.old) (promises (job self.old)) line.now number text.new.items result }
-        ensures said { (lines : List (List ℕ)) (told : List ℕ) → took self.old lines told → OnErr result (said self.new (told ++ text.new.items)) };
+        ensures said { (lines : List (List ℕ)) (output : List ℕ) → took self.old lines output → OnErr result (said self.new (output ++ text.new.items)) };
 
     /// The last line was too long, and was reported: writes what comes at the end.
     ///
@@ -92,16 +92,16 @@ pub trait LineHandler {
         requires empty { text.old.items ≡ [] }
         ensures ok { EndsLong (took self.old) (promises (job self.old)) (most (job self.old)) text.new.items result }
         ensures err { StopsLong (took self.old) (promises (job self.old)) (most (job self.old)) text.new.items result }
-        ensures said { (lines : List (List ℕ)) (told : List ℕ) → took self.old lines told → OnErr result (said self.new (told ++ text.new.items)) };
+        ensures said { (lines : List (List ℕ)) (output : List ℕ) → took self.old lines output → OnErr result (said self.new (output ++ text.new.items)) };
 
     ghost sound: { (t : Self) → Sound (promises (job t)) };
 
-    ghost took_tells: { (t : Self) (lines : List (List ℕ)) (begun told : List ℕ) → took t lines told → IsLine begun → (promises (job t)).Tells (lines_text lines ++ begun) told };
+    ghost took_outputs: { (t : Self) (lines : List (List ℕ)) (begun output : List ℕ) → took t lines output → IsLine begun → (promises (job t)).Outputs (lines_text lines ++ begun) output };
 
     /// The last of the lines is too long, and may have no LF yet.
-    ghost long_tells: { (t : Self) (lines : List (List ℕ)) (part told : List ℕ) → took t (lines ++ part ∷ []) told → IsLine part → most (job t) + 1 < length part → (promises (job t)).Tells (lines_text lines ++ part) told };
+    ghost long_outputs: { (t : Self) (lines : List (List ℕ)) (part output : List ℕ) → took t (lines ++ part ∷ []) output → IsLine part → most (job t) + 1 < length part → (promises (job t)).Outputs (lines_text lines ++ part) output };
 
-    ghost took_said: { (t : Self) (lines : List (List ℕ)) (told : List ℕ) → took t lines told → said t told };
+    ghost took_said: { (t : Self) (lines : List (List ℕ)) (output : List ℕ) → took t lines output → said t output };
 }
 
 /// The line that isn't whole yet, how many characters it has so far and how many lines came before it, and what they are
@@ -188,7 +188,7 @@ impl<T: LineHandler> Lines<T> {
 
 impl<T: LineHandler> Engine for Lines<T> {
     ghost use Rattle.etcs_runs.specs.Cutting.{Stands};
-    ghost use Rattle.etcs_runs.specs.laws.CutLaws.{lines_tell};
+    ghost use Rattle.etcs_runs.specs.laws.CutLaws.{lines_outputs};
 
     type Job = T::Job;
 
@@ -200,7 +200,7 @@ impl<T: LineHandler> Engine for Lines<T> {
 
     ghost stands = { Stands T.LineHandler };
 
-    ghost said = { λ s told. T.said s.handler told };
+    ghost said = { λ s output. T.said s.handler output };
 
     fn wanted(&self) -> usize {
         MOST_READ
@@ -225,5 +225,5 @@ impl<T: LineHandler> Engine for Lines<T> {
 
     ghost sound = { λ s. T.sound s.handler };
 
-    ghost stands_tells = { λ s given told h. lines_tell (T.promises (T.job s.handler)).Tells (T.took s.handler) (T.most (T.job s.handler)) (T.took_tells s.handler) (T.long_tells s.handler) s.begun.items s.count s.line given told h };
+    ghost stands_outputs = { λ s given output h. lines_outputs (T.promises (T.job s.handler)).Outputs (T.took s.handler) (T.most (T.job s.handler)) (T.took_outputs s.handler) (T.long_outputs s.handler) s.begun.items s.count s.line given output h };
 }

@@ -41,12 +41,12 @@ pub trait Engine {
     ///
     /// Where each input that begins so ends so, and `Memory`. The text of the items in front was appended.
     fn feed(&mut self, piece: &[u8], text: &mut Vec<u8>) -> Result<(), RunFault>
-        requires stands { (given : List ℕ) × (told : List ℕ) × stands self.old given told × (length given + length piece.now < 2 ^ 62) }
+        requires stands { (given : List ℕ) × (output : List ℕ) × stands self.old given output × (length given + length piece.now < 2 ^ 62) }
         requires empty { text.old.items ≡ [] }
         ensures job { job self.new ≡ job self.old }
-        ensures ok { (given told : List ℕ) → stands self.old given told → OnOk result (stands self.new (given ++ piece.now) (told ++ text.new.items)) }
-        ensures err { (given told : List ℕ) → stands self.old given told → IfFault result ((promises (job self.old)).Stops (given ++ piece.now) (told ++ text.new.items)) }
-        ensures said { (given told : List ℕ) → stands self.old given told → OnErr result (said self.new (told ++ text.new.items)) };
+        ensures ok { (given output : List ℕ) → stands self.old given output → OnOk result (stands self.new (given ++ piece.now) (output ++ text.new.items)) }
+        ensures err { (given output : List ℕ) → stands self.old given output → IfFault result ((promises (job self.old)).Stops (given ++ piece.now) (output ++ text.new.items)) }
+        ensures said { (given output : List ℕ) → stands self.old given output → OnErr result (said self.new (output ++ text.new.items)) };
 
     /// The input ends here.
     ///
@@ -54,13 +54,13 @@ pub trait Engine {
     ///
     /// The same, and what is wrong with an input that ends so.
     fn finish(&mut self, text: &mut Vec<u8>) -> Result<Self::Tally, RunFault>
-        requires stands { (given : List ℕ) × (told : List ℕ) × stands self.old given told × (length given < 2 ^ 62) }
+        requires stands { (given : List ℕ) × (output : List ℕ) × stands self.old given output × (length given < 2 ^ 62) }
         requires empty { text.old.items ≡ [] }
-        ensures ok { (given told : List ℕ) → stands self.old given told → IfOk result (λ tally. (promises (job self.old)).Ends given (told ++ text.new.items) tally) }
-        ensures err { (given told : List ℕ) → stands self.old given told → IfFault result ((promises (job self.old)).StopsAtEnd given (told ++ text.new.items)) }
-        ensures said { (given told : List ℕ) → stands self.old given told → OnErr result (said self.new (told ++ text.new.items)) };
+        ensures ok { (given output : List ℕ) → stands self.old given output → IfOk result (λ tally. (promises (job self.old)).Ends given (output ++ text.new.items) tally) }
+        ensures err { (given output : List ℕ) → stands self.old given output → IfFault result ((promises (job self.old)).StopsAtEnd given (output ++ text.new.items)) }
+        ensures said { (given output : List ℕ) → stands self.old given output → OnErr result (said self.new (output ++ text.new.items)) };
 
     ghost sound: { (e : Self) → Sound (promises (job e)) };
 
-    ghost stands_tells: { (e : Self) (given told : List ℕ) → stands e given told → (promises (job e)).Tells given told };
+    ghost stands_outputs: { (e : Self) (given output : List ℕ) → stands e given output → (promises (job e)).Outputs given output };
 }

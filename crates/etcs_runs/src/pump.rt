@@ -71,7 +71,7 @@ fn close<E: Engine, W: Sink>(
     sink: &mut W,
     sent: &mut u64,
 ) -> Result<E::Tally, RunFault>
-    requires stands { (given : List ℕ) × (told : List ℕ) × E.stands engine.old given told × (length given < 2 ^ 62) }
+    requires stands { (given : List ℕ) × (output : List ℕ) × E.stands engine.old given output × (length given < 2 ^ 62) }
     requires failures { W.failures sink.old < 2 ^ 63 }
     ensures ok { Closes E.Engine engine.old W.Sink sink.old sink.new text.new.items sent.old result }
     ensures err { ClosesNot E.Engine engine.old W.Sink sink.old sink.new text.new.items sent.old result }
@@ -129,7 +129,7 @@ pub fn run_engine<E: Engine, S: Source, W: Sink>(
     requires read_failures { S.failures source.old < 2 ^ 63 }
     requires write_failures { W.failures sink.old < 2 ^ 63 }
     ensures ran { RanOver S.Source W.Sink (E.promises (E.job engine.old)) most_reads source.old source.new sink.old sink.new result }
-    ensures said { IfErr result (λ e. e ≡ RunFault.Memory → Piped (λ given told. E.said engine.new told) (S.remaining source.old) (S.remaining source.new) (W.contents sink.old) (W.contents sink.new)) }
+    ensures said { IfErr result (λ e. e ≡ RunFault.Memory → Piped (λ given output. E.said engine.new output) (S.remaining source.old) (S.remaining source.new) (W.contents sink.old) (W.contents sink.new)) }
 {
     let mut text = Vec::new(alloc);
     let mut buffer = [0u8; MOST_READ];

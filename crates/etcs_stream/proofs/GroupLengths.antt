@@ -30,10 +30,10 @@ use Rattle.etcs_packet_text.specs.Packets.{packet_text, packets_text}
 use Rattle.etcs_packet_text.proofs.TextLengths.{decimal_short, fit_front, fit_behind, spelled_long, packets_short}
 use Rattle.etcs_text.proofs.TextLengths.{five_long}
 use Rattle.etcs_stream.specs.declared.job.Command.TheVariants.{Group}
-use Rattle.etcs_stream.specs.Told.{Told}
+use Rattle.etcs_stream.specs.Reported.{Reported}
 use Rattle.etcs_group.specs.GroupLines.{positions_text, trues}
 use Rattle.etcs_stream.specs.Groups.{GroupItem, LastLines, GroupLines, clash_name, answer_words, group_front}
-use Rattle.etcs_stream.specs.Tellers.{TellsItems, nothing_told}
+use Rattle.etcs_stream.specs.Printers.{OutputsItems, nothing_reported}
 
 -- ---- The line of an item.
 
@@ -50,7 +50,7 @@ words_short (Ok New) = omega arith
 words_short (Ok Repeat) = omega arith
 words_short (Err c) = omega (arith, length-append (codes "clash ") (clash_name c), name_short c)
 
-pub group_item_short : (t : TelegramValue) (s : Told) (text : List ℕ) (s' : Told) → s.count + 1 < 2 ^ 64 → GroupItem t s text s' → length text ≤ 2097152
+pub group_item_short : (t : TelegramValue) (s : Reported) (text : List ℕ) (s' : Reported) → s.count + 1 < 2 ^ 64 → GroupItem t s text s' → length text ≤ 2097152
 group_item_short t s text s' h x =
     let item = decimal_short (s.count + 1) h in
     let words = words_short x.answer in
@@ -67,19 +67,19 @@ none_at zero k t e = none-some (Some t) e
 none_at (suc n) zero t e = none-some t (same_Some None (Some t) e)
 none_at (suc n) (suc k) t e = none_at n k t e
 
-item_made : (t : TelegramValue) (s : Told) (text : List ℕ) (s' : Told) → GroupItem t s text s' → AreMade s.held → AreMade s'.held
+item_made : (t : TelegramValue) (s : Reported) (text : List ℕ) (s' : Reported) → GroupItem t s text s' → AreMade s.held → AreMade s'.held
 item_made t s text s' x made u h = elim ((x.held_is u).0 h) [
   | inl old ↦ made u old
   | inr new ↦ subst (λ (v : TelegramContent). IsTelegram v) (sym new.1) x.made
 ]
 
-items_made : (es : List EntryValue) (s : Told) (text : List ℕ) (s' : Told) → TellsItems Group s es text s' → AreMade s.held → AreMade s'.held
-items_made [] s text s' h made = subst (λ (k : Told). AreMade k.held) (sym h.1) made
-items_made (of_telegram t ∷ es) s text s' (mid, first, rest, _, told, more) made = items_made es mid rest s' more (item_made t s first mid told made)
-items_made (of_message way m ∷ es) s text s' (mid, first, rest, _, told, more) made = absurd told
+items_made : (es : List EntryValue) (s : Reported) (text : List ℕ) (s' : Reported) → OutputsItems Group s es text s' → AreMade s.held → AreMade s'.held
+items_made [] s text s' h made = subst (λ (k : Reported). AreMade k.held) (sym h.1) made
+items_made (of_telegram t ∷ es) s text s' (mid, first, rest, _, outputs, more) made = items_made es mid rest s' more (item_made t s first mid outputs made)
+items_made (of_message way m ∷ es) s text s' (mid, first, rest, _, outputs, more) made = absurd outputs
 
-pub held_made : (es : List EntryValue) (text : List ℕ) (s : Told) → TellsItems Group nothing_told es text s → AreMade s.held
-held_made es text s h = items_made es nothing_told text s h (λ t held. let place = held_place (replicate 8 None) t held in absurd (none_at 8 place.0 t place.1))
+pub held_made : (es : List EntryValue) (text : List ℕ) (s : Reported) → OutputsItems Group nothing_reported es text s → AreMade s.held
+held_made es text s h = items_made es nothing_reported text s h (λ t held. let place = held_place (replicate 8 None) t held in absurd (none_at 8 place.0 t place.1))
 
 -- ---- The message of a group.
 
@@ -180,7 +180,7 @@ lines_short held front text made short (inr (_, (bs, _, is))) =
     let z = length-append front (codes " missing") in
     rw is (omega (arith, short, missing, x, y, z))
 
-pub last_lines_short : (es : List EntryValue) (lines : List ℕ) (s : Told) (last : List ℕ) → TellsItems Group nothing_told es lines s → LastLines s.held last → length last ≤ 2 ^ 40
+pub last_lines_short : (es : List EntryValue) (lines : List ℕ) (s : Reported) (last : List ℕ) → OutputsItems Group nothing_reported es lines s → LastLines s.held last → length last ≤ 2 ^ 40
 last_lines_short es lines s last h (inl (_, is)) = rw is (omega arith)
 last_lines_short es lines s last h (inr (t, holds, x)) =
     let made = held_made es lines s h in

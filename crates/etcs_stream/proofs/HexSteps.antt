@@ -18,8 +18,8 @@ use Rattle.etcs_runs.specs.declared.fault.RunFault.TheVariants.{Truncated, BadHe
 use Rattle.etcs_runs.specs.Faults.{IsOfEngine}
 use Rattle.etcs_runs.specs.Lines.{IsLine, strip_cr, lines_text}
 use Rattle.etcs_stream.specs.Lines.{bad_place, line_bytes, lines_bytes, AreGood, IsHexText}
-use Rattle.etcs_stream.specs.Told.{Told}
-use Rattle.etcs_stream.specs.Tellers.{Closes}
+use Rattle.etcs_stream.specs.Reported.{Reported}
+use Rattle.etcs_stream.specs.Printers.{Closes}
 use Rattle.etcs_stream.specs.declared.job.Tally.{Tally}
 use Rattle.etcs_text.specs.Readers.{ReaderValue, seen_bits}
 use Rattle.etcs_stream.specs.Readers.{Awaits, HasRoom}
@@ -30,7 +30,7 @@ use Rattle.etcs_stream.specs.Engines.{Ends, Stops, StopsAtEnd}
 use Rattle.etcs_text.proofs.ItemKinds.{Language}
 use Rattle.etcs_bits.proofs.ByteBits.{bits-append}
 use Rattle.etcs_stream.proofs.Streams.{Advances-none}
-use Rattle.etcs_stream.proofs.Tellings.{closes_items}
+use Rattle.etcs_stream.proofs.OutputLemmas.{closes_items}
 use Rattle.etcs_stream.proofs.Standing.{ItemsHalt, stand_first, IsEarly, stand_more, stand_halts, halt_stops, halt_ends, stand_ended, stand_truncated}
 use Rattle.etcs_runs.proofs.LineTexts.{lines_text-append, lines_few, one_line}
 use Rattle.etcs_stream.proofs.Cutting.{Says, AreGood-append, lines_bytes-append, first_lf, cut_text, says_behind}
@@ -55,9 +55,9 @@ early_items kind text bytes es (bad_json l) early (inr s) h = absurd early
 early_items kind text bytes es endless early (inr (line, place, bad)) h = inr (bytes, line, place, bad, h)
 
 -- the items of good lines halted, whatever is after them
-hex_halts : (job : Job) (lines : List (List ℕ)) (given told behind : List ℕ) (fault : RunFault) → job.from ≡ Hex → AreGood lines → given ≡ lines_text lines ++ behind → ItemsHalt job (lines_bytes lines) told fault → IsOfEngine fault × Stops job given told fault
-hex_halts job lines given told behind fault form good is h =
-    halt_stops job given (lines_bytes lines) told fault h
+hex_halts : (job : Job) (lines : List (List ℕ)) (given output behind : List ℕ) (fault : RunFault) → job.from ≡ Hex → AreGood lines → given ≡ lines_text lines ++ behind → ItemsHalt job (lines_bytes lines) output fault → IsOfEngine fault × Stops job given output fault
+hex_halts job lines given output behind fault form good is h =
+    halt_stops job given (lines_bytes lines) output fault h
     (says_first job given (lines_bytes lines) form (inl (lines, behind, is, good, refl)))
     (λ more es end early k. (
     let (bytes, says) = cut_text (behind ++ more) in
@@ -103,16 +103,16 @@ bad_is lines begun rest input given line place good is n e (bad, behind, l, how)
     }
 
 -- an item is whole there, or begun
-open_end : (job : Job) (seen b : List Bool) (count : Told) (bytes told : List ℕ) (h : ItemsStand job seen count bytes told) → Viable (Language job.kind) seen → seen ≡ b → BitItems job.kind (bits bytes) h.items ended ⊎ ((k : ℕ) × BitItems job.kind (bits bytes) h.items (truncated k))
-open_end job seen [] count bytes told h v e = inl (stand_ended job seen count bytes told h e)
-open_end job seen (x ∷ b) count bytes told h v e =
+open_end : (job : Job) (seen b : List Bool) (count : Reported) (bytes output : List ℕ) (h : ItemsStand job seen count bytes output) → Viable (Language job.kind) seen → seen ≡ b → BitItems job.kind (bits bytes) h.items ended ⊎ ((k : ℕ) × BitItems job.kind (bits bytes) h.items (truncated k))
+open_end job seen [] count bytes output h v e = inl (stand_ended job seen count bytes output h e)
+open_end job seen (x ∷ b) count bytes output h v e =
     let some : 0 < length seen = omega (arith, ap length e) in
-    inr (length seen, stand_truncated job seen count bytes told h some v)
+    inr (length seen, stand_truncated job seen count bytes output h some v)
 
-module _ (job : Job) (r : ReaderValue) (n : Told) (begun : List ℕ) (line : ℕ) (given told t : List ℕ) (h : HexStands job r n begun line given (told ++ t)) where
+module _ (job : Job) (r : ReaderValue) (n : Reported) (begun : List ℕ) (line : ℕ) (given output t : List ℕ) (h : HexStands job r n begun line given (output ++ t)) where
   -- ---- The faults of a piece.
 
-  hex_bad : (rest : List ℕ) (place : ℕ) (fault : RunFault) → fault ≡ BadHex (line + 1) place → ((more : List ℕ) → IsBadLine (begun ++ (rest ++ more)) place) → IsOfEngine fault × Stops job (given ++ rest) (told ++ t) fault
+  hex_bad : (rest : List ℕ) (place : ℕ) (fault : RunFault) → fault ≡ BadHex (line + 1) place → ((more : List ℕ) → IsBadLine (begun ++ (rest ++ more)) place) → IsOfEngine fault × Stops job (given ++ rest) (output ++ t) fault
   hex_bad rest place fault e bad = (
     subst IsOfEngine (sym e) tt,
     inr (
@@ -126,13 +126,13 @@ module _ (job : Job) (r : ReaderValue) (n : Told) (begun : List ℕ) (line : ℕ
             line + 1,
             place,
             bad_is h.lines begun (rest ++ more) ((given ++ rest) ++ more) given line place h.lines_good h.given_is h.line_is (append_assoc given rest more) (bad more),
-            (refl, refl, open_end job (seen_bits r.progress) (seen_bits r.progress) n (lines_bytes h.lines) (told ++ t) h.items h.waits.viable refl),
+            (refl, refl, open_end job (seen_bits r.progress) (seen_bits r.progress) n (lines_bytes h.lines) (output ++ t) h.items h.waits.viable refl),
           )),
     ),
   )
 
   -- a line is bad that has its LF
-  pub hex_bad_line : (part behind : List ℕ) (place : ℕ) (fault : RunFault) → IsLine part → bad_place (strip_cr (begun ++ part)) ≡ Some place → fault ≡ BadHex (line + 1) place → IsOfEngine fault × Stops job (given ++ (part ++ 10 ∷ behind)) (told ++ t) fault
+  pub hex_bad_line : (part behind : List ℕ) (place : ℕ) (fault : RunFault) → IsLine part → bad_place (strip_cr (begun ++ part)) ≡ Some place → fault ≡ BadHex (line + 1) place → IsOfEngine fault × Stops job (given ++ (part ++ 10 ∷ behind)) (output ++ t) fault
   hex_bad_line part behind place fault l bad e =
       hex_bad (part ++ 10 ∷ behind) place fault e
       (λ more. (
@@ -155,23 +155,23 @@ module _ (job : Job) (r : ReaderValue) (n : Told) (begun : List ℕ) (line : ℕ
             ((begun ++ part) ++ last, behind, All-append (λ c. c ≡ 10 → ⊥) (begun ++ part) last front m, inl (text, long_bad_stripped ((begun ++ part) ++ last) (omega (arith, len, length-append (begun ++ part) last))))
       ]
 
-  pub hex_long_open : (part : List ℕ) (fault : RunFault) → IsLine part → 4097 < length begun + length part → fault ≡ BadHex (line + 1) 4096 → IsOfEngine fault × Stops job (given ++ part) (told ++ t) fault
+  pub hex_long_open : (part : List ℕ) (fault : RunFault) → IsLine part → 4097 < length begun + length part → fault ≡ BadHex (line + 1) 4096 → IsOfEngine fault × Stops job (given ++ part) (output ++ t) fault
   hex_long_open part fault l long e = hex_bad part 4096 fault e (λ more. long_line part more l long)
 
   -- the items of a line halted
-  pub hex_line_halts : (part whole behind t' : List ℕ) (fault : RunFault) → whole ≡ begun ++ part → bad_place (strip_cr whole) ≡ None → Halts job.kind job.command (seen_bits r.progress) n (line_bytes (strip_cr whole)) t t' fault → IsOfEngine fault × Stops job (given ++ (part ++ 10 ∷ behind)) (told ++ t') fault
+  pub hex_line_halts : (part whole behind t' : List ℕ) (fault : RunFault) → whole ≡ begun ++ part → bad_place (strip_cr whole) ≡ None → Halts job.kind job.command (seen_bits r.progress) n (line_bytes (strip_cr whole)) t t' fault → IsOfEngine fault × Stops job (given ++ (part ++ 10 ∷ behind)) (output ++ t') fault
   hex_line_halts part whole behind t' fault w good halts =
-      hex_halts job (h.lines ++ (whole ∷ [])) (given ++ (part ++ 10 ∷ behind)) (told ++ t') behind fault h.form
+      hex_halts job (h.lines ++ (whole ∷ [])) (given ++ (part ++ 10 ∷ behind)) (output ++ t') behind fault h.form
       (AreGood-append h.lines (whole ∷ []) h.lines_good (good, tt))
       (line_text h.lines begun part whole given behind h.given_is w)
-      (subst (λ z. ItemsHalt job z (told ++ t') fault) (line_says h.lines whole) (stand_halts job (seen_bits r.progress) n (lines_bytes h.lines) told t h.items (line_bytes (strip_cr whole)) t' fault halts))
+      (subst (λ z. ItemsHalt job z (output ++ t') fault) (line_says h.lines whole) (stand_halts job (seen_bits r.progress) n (lines_bytes h.lines) output t h.items (line_bytes (strip_cr whole)) t' fault halts))
 
   -- ---- The end of the text.
 
   last_text : bad_place begun ≡ None → IsHexText given (lines_bytes h.lines ++ line_bytes begun)
   last_text good = record { lines = h.lines; last = begun; text_is = h.given_is; lines_good = h.lines_good; last_good = good; bytes_are = refl }
 
-  pub hex_last_bad : (place : ℕ) (fault : RunFault) → bad_place begun ≡ Some place → fault ≡ BadHex (line + 1) place → IsOfEngine fault × StopsAtEnd job given (told ++ t) fault
+  pub hex_last_bad : (place : ℕ) (fault : RunFault) → bad_place begun ≡ Some place → fault ≡ BadHex (line + 1) place → IsOfEngine fault × StopsAtEnd job given (output ++ t) fault
   hex_last_bad place fault bad e = (
     subst IsOfEngine (sym e) tt,
     inr (
@@ -185,60 +185,60 @@ module _ (job : Job) (r : ReaderValue) (n : Told) (begun : List ℕ) (line : ℕ
             line + 1,
             place,
             bad_is h.lines begun [] given given line place h.lines_good h.given_is h.line_is (sym (append-nil given)) (begun, [], h.is_line, inr (append-nil begun, bad)),
-            (refl, refl, open_end job (seen_bits r.progress) (seen_bits r.progress) n (lines_bytes h.lines) (told ++ t) h.items h.waits.viable refl),
+            (refl, refl, open_end job (seen_bits r.progress) (seen_bits r.progress) n (lines_bytes h.lines) (output ++ t) h.items h.waits.viable refl),
           )),
     ),
   )
 
-  pub hex_last_halts : (t' : List ℕ) (fault : RunFault) → bad_place begun ≡ None → Halts job.kind job.command (seen_bits r.progress) n (line_bytes begun) t t' fault → IsOfEngine fault × StopsAtEnd job given (told ++ t') fault
+  pub hex_last_halts : (t' : List ℕ) (fault : RunFault) → bad_place begun ≡ None → Halts job.kind job.command (seen_bits r.progress) n (line_bytes begun) t t' fault → IsOfEngine fault × StopsAtEnd job given (output ++ t') fault
   hex_last_halts t' fault good halts =
       let text = last_text good in
-      halt_ends job given (lines_bytes h.lines ++ line_bytes begun) (told ++ t') fault
-      (stand_halts job (seen_bits r.progress) n (lines_bytes h.lines) told t h.items (line_bytes begun) t' fault halts)
+      halt_ends job given (lines_bytes h.lines ++ line_bytes begun) (output ++ t') fault
+      (stand_halts job (seen_bits r.progress) n (lines_bytes h.lines) output t h.items (line_bytes begun) t' fault halts)
       (says_first job given (lines_bytes h.lines ++ line_bytes begun) h.form (inr text))
       (λ es end early k. items_of job given es end h.form (inl (lines_bytes h.lines ++ line_bytes begun, text, k)))
 
   -- ---- What the code answers.
 
   -- a line is bad, or its items halted
-  pub hex_line_stops : (part whole behind t' : List ℕ) (fault : RunFault) → IsLine part → whole ≡ begun ++ part → ((place : ℕ) × (bad_place (strip_cr whole) ≡ Some place) × (fault ≡ BadHex (line + 1) place) × (t' ≡ t)) ⊎ ((bad_place (strip_cr whole) ≡ None) × Halts job.kind job.command (seen_bits r.progress) n (line_bytes (strip_cr whole)) t t' fault) → IsOfEngine fault × Stops job (given ++ (part ++ 10 ∷ behind)) (told ++ t') fault
+  pub hex_line_stops : (part whole behind t' : List ℕ) (fault : RunFault) → IsLine part → whole ≡ begun ++ part → ((place : ℕ) × (bad_place (strip_cr whole) ≡ Some place) × (fault ≡ BadHex (line + 1) place) × (t' ≡ t)) ⊎ ((bad_place (strip_cr whole) ≡ None) × Halts job.kind job.command (seen_bits r.progress) n (line_bytes (strip_cr whole)) t t' fault) → IsOfEngine fault × Stops job (given ++ (part ++ 10 ∷ behind)) (output ++ t') fault
   hex_line_stops part whole behind t' fault l w (inl (place, bad, e, same)) =
       let bad' : bad_place (strip_cr (begun ++ part)) ≡ Some place = subst (λ z. bad_place (strip_cr z) ≡ Some place) w bad in
-      subst (λ z. IsOfEngine fault × Stops job (given ++ (part ++ 10 ∷ behind)) (told ++ z) fault) (sym same) (hex_bad_line part behind place fault l bad' e)
+      subst (λ z. IsOfEngine fault × Stops job (given ++ (part ++ 10 ∷ behind)) (output ++ z) fault) (sym same) (hex_bad_line part behind place fault l bad' e)
   hex_line_stops part whole behind t' fault l w (inr (good, halts)) = hex_line_halts part whole behind t' fault w good halts
 
   -- the last line is
-  pub hex_last_stops : (t' : List ℕ) (fault : RunFault) → ((place : ℕ) × (bad_place begun ≡ Some place) × (fault ≡ BadHex (line + 1) place) × (t' ≡ t)) ⊎ ((bad_place begun ≡ None) × Halts job.kind job.command (seen_bits r.progress) n (line_bytes begun) t t' fault) → IsOfEngine fault × StopsAtEnd job given (told ++ t') fault
+  pub hex_last_stops : (t' : List ℕ) (fault : RunFault) → ((place : ℕ) × (bad_place begun ≡ Some place) × (fault ≡ BadHex (line + 1) place) × (t' ≡ t)) ⊎ ((bad_place begun ≡ None) × Halts job.kind job.command (seen_bits r.progress) n (line_bytes begun) t t' fault) → IsOfEngine fault × StopsAtEnd job given (output ++ t') fault
   hex_last_stops t' fault (inl (place, bad, e, same)) =
-      subst (λ z. IsOfEngine fault × StopsAtEnd job given (told ++ z) fault) (sym same) (hex_last_bad place fault bad e)
+      subst (λ z. IsOfEngine fault × StopsAtEnd job given (output ++ z) fault) (sym same) (hex_last_bad place fault bad e)
   hex_last_stops t' fault (inr (good, halts)) = hex_last_halts t' fault good halts
 
-  module _ (r' : ReaderValue) (n' : Told) (t' : List ℕ) (good : bad_place begun ≡ None) (waits : Awaits job.kind r') (few : n'.count ≤ 1000000) (room : HasRoom n.count (seen_bits r.progress) → HasRoom n'.count (seen_bits r'.progress)) (more : Advances job.kind job.command (seen_bits r.progress) (seen_bits r'.progress) n n' (line_bytes begun) t t') where
-    last_items : ItemsStand job (seen_bits r'.progress) n' (lines_bytes h.lines ++ line_bytes begun) (told ++ t')
-    last_items = stand_more job (seen_bits r.progress) n (lines_bytes h.lines) told t h.items (line_bytes begun) t' (seen_bits r'.progress) n' more few (room h.items.room) waits.unfinished
+  module _ (r' : ReaderValue) (n' : Reported) (t' : List ℕ) (good : bad_place begun ≡ None) (waits : Awaits job.kind r') (few : n'.count ≤ 1000000) (room : HasRoom n.count (seen_bits r.progress) → HasRoom n'.count (seen_bits r'.progress)) (more : Advances job.kind job.command (seen_bits r.progress) (seen_bits r'.progress) n n' (line_bytes begun) t t') where
+    last_items : ItemsStand job (seen_bits r'.progress) n' (lines_bytes h.lines ++ line_bytes begun) (output ++ t')
+    last_items = stand_more job (seen_bits r.progress) n (lines_bytes h.lines) output t h.items (line_bytes begun) t' (seen_bits r'.progress) n' more few (room h.items.room) waits.unfinished
 
-    hex_ends : (last t'' : List ℕ) (tally : Tally) → seen_bits r'.progress ≡ [] → Closes job.command n' last tally → t'' ≡ t' ++ last → Ends job given (told ++ t'') tally
+    hex_ends : (last t'' : List ℕ) (tally : Tally) → seen_bits r'.progress ≡ [] → Closes job.command n' last tally → t'' ≡ t' ++ last → Ends job given (output ++ t'') tally
     hex_ends last t'' tally e closes is = record {
       items = last_items.items;
-      items_of = items_of job given last_items.items ended h.form (inl (lines_bytes h.lines ++ line_bytes begun, last_text good, stand_ended job (seen_bits r'.progress) n' (lines_bytes h.lines ++ line_bytes begun) (told ++ t') last_items e));
-      lines = told ++ t';
+      items_of = items_of job given last_items.items ended h.form (inl (lines_bytes h.lines ++ line_bytes begun, last_text good, stand_ended job (seen_bits r'.progress) n' (lines_bytes h.lines ++ line_bytes begun) (output ++ t') last_items e));
+      lines = output ++ t';
       last = last;
       after = n';
       text = last_items.text;
       closes = closes;
-      told_is = ap (λ (z : List ℕ). told ++ z) is ∙ sym (append_assoc told t' last);
+      output_is = ap (λ (z : List ℕ). output ++ z) is ∙ sym (append_assoc output t' last);
       items_are = closes_items job.command n' last tally closes ∙ last_items.count_is;
     }
 
-    hex_closes_starved : (fault : RunFault) → fault ≡ Memory → IsOfEngine fault × StopsAtEnd job given (told ++ t') fault
+    hex_closes_starved : (fault : RunFault) → fault ≡ Memory → IsOfEngine fault × StopsAtEnd job given (output ++ t') fault
     hex_closes_starved fault e =
         let says = says_first job given (lines_bytes h.lines ++ line_bytes begun) h.form (inr (last_text good)) in
-        let first = stand_first job (seen_bits r'.progress) n' given (lines_bytes h.lines ++ line_bytes begun) (told ++ t') last_items says in (
+        let first = stand_first job (seen_bits r'.progress) n' given (lines_bytes h.lines ++ line_bytes begun) (output ++ t') last_items says in (
           subst IsOfEngine (sym e) tt,
           inl (e, (last_items.items, first, (n', last_items.text))),
         )
 
-    hex_truncated : (fault : RunFault) → fault ≡ Truncated (n'.count + 1) (length (seen_bits r'.progress)) → 0 < length (seen_bits r'.progress) → IsOfEngine fault × StopsAtEnd job given (told ++ t') fault
+    hex_truncated : (fault : RunFault) → fault ≡ Truncated (n'.count + 1) (length (seen_bits r'.progress)) → 0 < length (seen_bits r'.progress) → IsOfEngine fault × StopsAtEnd job given (output ++ t') fault
     hex_truncated fault e some =
         let seen = seen_bits r'.progress in (
           subst IsOfEngine (sym e) tt,
@@ -247,26 +247,26 @@ module _ (job : Job) (r : ReaderValue) (n : Told) (begun : List ℕ) (line : ℕ
             truncated (length seen),
             e ∙ ap (λ k. Truncated (k + 1) (length seen)) last_items.count_is,
             (n', last_items.text),
-            items_of job given last_items.items (truncated (length seen)) h.form (inl (lines_bytes h.lines ++ line_bytes begun, last_text good, stand_truncated job seen n' (lines_bytes h.lines ++ line_bytes begun) (told ++ t') last_items some waits.viable)),
+            items_of job given last_items.items (truncated (length seen)) h.form (inl (lines_bytes h.lines ++ line_bytes begun, last_text good, stand_truncated job seen n' (lines_bytes h.lines ++ line_bytes begun) (output ++ t') last_items some waits.viable)),
           ),
         )
 
     -- an item isn't whole, or memory was refused for the last lines
-    hex_not_closed : (t'' : List ℕ) (fault : RunFault) → t'' ≡ t' → ((fault ≡ Truncated (n'.count + 1) (length (seen_bits r'.progress))) × (0 < length (seen_bits r'.progress))) ⊎ (fault ≡ Memory) → IsOfEngine fault × StopsAtEnd job given (told ++ t'') fault
-    hex_not_closed t'' fault same (inl h') = subst (λ z. IsOfEngine fault × StopsAtEnd job given (told ++ z) fault) (sym same) (hex_truncated fault h'.0 h'.1)
-    hex_not_closed t'' fault same (inr e) = subst (λ z. IsOfEngine fault × StopsAtEnd job given (told ++ z) fault) (sym same) (hex_closes_starved fault e)
+    hex_not_closed : (t'' : List ℕ) (fault : RunFault) → t'' ≡ t' → ((fault ≡ Truncated (n'.count + 1) (length (seen_bits r'.progress))) × (0 < length (seen_bits r'.progress))) ⊎ (fault ≡ Memory) → IsOfEngine fault × StopsAtEnd job given (output ++ t'') fault
+    hex_not_closed t'' fault same (inl h') = subst (λ z. IsOfEngine fault × StopsAtEnd job given (output ++ z) fault) (sym same) (hex_truncated fault h'.0 h'.1)
+    hex_not_closed t'' fault same (inr e) = subst (λ z. IsOfEngine fault × StopsAtEnd job given (output ++ z) fault) (sym same) (hex_closes_starved fault e)
 
     -- what the end of the input answers
-    pub hex_finish_ends : (t'' : List ℕ) (answer : Result Tally RunFault) → OnOk answer (seen_bits r'.progress ≡ []) → IfOk answer (λ tally. (last : List ℕ) × Closes job.command n' last tally × (t'' ≡ t' ++ last)) → IfOk answer (λ tally. Ends job given (told ++ t'') tally)
+    pub hex_finish_ends : (t'' : List ℕ) (answer : Result Tally RunFault) → OnOk answer (seen_bits r'.progress ≡ []) → IfOk answer (λ tally. (last : List ℕ) × Closes job.command n' last tally × (t'' ≡ t' ++ last)) → IfOk answer (λ tally. Ends job given (output ++ t'') tally)
     hex_finish_ends t'' (Ok tally) e (last, closes, is) = hex_ends last t'' tally e closes is
     hex_finish_ends t'' (Err f) e h' = tt
 
-    pub hex_finish_stops : (t'' : List ℕ) (answer : Result Tally RunFault) → IfErr answer (λ e. (t'' ≡ t') × (((e ≡ Truncated (n'.count + 1) (length (seen_bits r'.progress))) × (0 < length (seen_bits r'.progress))) ⊎ (e ≡ Memory))) → IfErr answer (λ e. IsOfEngine e × StopsAtEnd job given (told ++ t'') e)
+    pub hex_finish_stops : (t'' : List ℕ) (answer : Result Tally RunFault) → IfErr answer (λ e. (t'' ≡ t') × (((e ≡ Truncated (n'.count + 1) (length (seen_bits r'.progress))) × (0 < length (seen_bits r'.progress))) ⊎ (e ≡ Memory))) → IfErr answer (λ e. IsOfEngine e × StopsAtEnd job given (output ++ t'') e)
     hex_finish_stops t'' (Ok tally) h' = tt
     hex_finish_stops t'' (Err f) (same, why) = hex_not_closed t'' f same why
 
 -- an empty line says nothing
-pub Advances-empty : (kind : Kind) (c : Command) (seen : List Bool) (items : Told) (text line : List ℕ) → eqb (length line) 0 ≡ true → Advances kind c seen seen items items (line_bytes line) text text
+pub Advances-empty : (kind : Kind) (c : Command) (seen : List Bool) (items : Reported) (text line : List ℕ) → eqb (length line) 0 ≡ true → Advances kind c seen seen items items (line_bytes line) text text
 unfolding decode_pairs
 Advances-empty kind c seen items text [] h = Advances-none kind c seen items text
 Advances-empty kind c seen items text (x ∷ xs) h = absurd (omega (arith, eqb-true (length (x ∷ xs)) 0 h))

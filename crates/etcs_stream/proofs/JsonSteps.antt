@@ -17,13 +17,13 @@ use Rattle.etcs_runs.specs.Faults.{IsOfEngine}
 use Rattle.etcs_runs.specs.Lines.{IsLine, strip_cr, lines_text}
 use Rattle.etcs_stream.specs.Lines.{most_characters}
 use Rattle.etcs_stream.specs.JsonItems.{IsItemLine, IsRefusedLine, AreItemLines, JsonFront, BeginsWith, EndedJson, FirstJson, FurtherLine}
-use Rattle.etcs_stream.specs.Told.{Told}
-use Rattle.etcs_stream.specs.Tellers.{TellsItems, Closes, nothing_told}
+use Rattle.etcs_stream.specs.Reported.{Reported}
+use Rattle.etcs_stream.specs.Printers.{OutputsItems, Closes, nothing_reported}
 use Rattle.etcs_stream.specs.Stands.{JsonTook}
 use Rattle.etcs_stream.specs.Taking.{TakesJson, empty_line, item_line, HaltsJson}
 use Rattle.etcs_stream.specs.Inputs.{End, ended, refused, bad_json, endless, ItemsOf, FirstItems}
 use Rattle.etcs_stream.specs.Engines.{EndsBy, Ends, Prints, Stops, StopsAtEnd}
-use Rattle.etcs_stream.proofs.Tellings.{tells_append, tells_count, tells_one, one_count, closes_items}
+use Rattle.etcs_stream.proofs.OutputLemmas.{outputs_append, outputs_count, outputs_one, one_count, closes_items}
 use Rattle.etcs_stream.specs.laws.StandLaws.{stripped}
 use Rattle.etcs_stream.proofs.Cutting.{first_lf}
 
@@ -36,29 +36,29 @@ AreItemLines-append kind (l ∷ ls) ms es fs (inr (e, behind, is, item, more)) g
     inr (e, behind ++ fs, ap (λ (z : List EntryValue). z ++ fs) is, item, AreItemLines-append kind ls ms behind fs more g)
 
 -- the items of a line were reported
-pub record LineTold (job : Job) (line : List ℕ) (before after : Told) (t t' : List ℕ) : Type 0 where
+pub record LineOutput (job : Job) (line : List ℕ) (before after : Reported) (t t' : List ℕ) : Type 0 where
   pub items : List EntryValue
   pub added : List ℕ
   pub are_items : AreItemLines job.kind (line ∷ []) items
   pub few : before.count ≤ 1000000 → after.count ≤ 1000000
-  pub text : TellsItems job.command before items added after
+  pub text : OutputsItems job.command before items added after
   pub text_is : t' ≡ t ++ added
 
-pub line_told : (job : Job) (line : List ℕ) (before after : Told) (t t' : List ℕ) → TakesJson job line before after t t' → LineTold job line before after t t'
-line_told job line before after t t' (empty_line none same is) = record {
+pub line_output : (job : Job) (line : List ℕ) (before after : Reported) (t t' : List ℕ) → TakesJson job line before after t t' → LineOutput job line before after t t'
+line_output job line before after t t' (empty_line none same is) = record {
   items = [];
   added = [];
   are_items = inl (none, refl);
-  few = λ few. omega (arith, few, ap (λ (k : Told). k.count) same);
+  few = λ few. omega (arith, few, ap (λ (k : Reported). k.count) same);
   text = (refl, same);
   text_is = is ∙ sym (append-nil t);
 }
-line_told job line before after t t' (item_line e added item room tells is) = record {
+line_output job line before after t t' (item_line e added item room outputs is) = record {
   items = e ∷ [];
   added = added;
   are_items = inr (e, [], refl, item, refl);
-  few = λ few. omega (arith, room, one_count job.command e before added after tells);
-  text = tells_one job.command before after e added tells;
+  few = λ few. omega (arith, room, one_count job.command e before added after outputs);
+  text = outputs_one job.command before after e added outputs;
   text_is = is;
 }
 
@@ -80,7 +80,7 @@ long_line part more l long = elim (first_lf more) [
       )
 ]
 
-module _ (job : Job) (n : Told) (lines : List (List ℕ)) (told : List ℕ) (h : JsonTook job n lines told) where
+module _ (job : Job) (n : Reported) (lines : List (List ℕ)) (output : List ℕ) (h : JsonTook job n lines output) where
   json_front : (input rest : List ℕ) → input ≡ lines_text lines ++ rest → JsonFront job.kind input h.items lines rest
   json_front input rest is = record { text_is = is; are_lines = h.are_lines; are_items = h.are_items; few = omega (arith, h.few, h.count_is) }
 
@@ -90,7 +90,7 @@ module _ (job : Job) (n : Told) (lines : List (List ℕ)) (told : List ℕ) (h :
   first_items : (input : List ℕ) (es : List EntryValue) → FirstJson job.kind input es → FirstItems job.from job.kind input es
   first_items input es k = subst (λ (f : Form). FirstItems f job.kind input es) (sym h.form) k
 
-  json_prints : (rest : List ℕ) → Prints job (lines_text lines ++ rest) told
+  json_prints : (rest : List ℕ) → Prints job (lines_text lines ++ rest) output
   json_prints rest =
       let given = lines_text lines ++ rest in
       (h.items, first_items given h.items (inl (lines, rest, json_front given rest refl)), (n, h.text))
@@ -127,7 +127,7 @@ module _ (job : Job) (n : Told) (lines : List (List ℕ)) (told : List ℕ) (h :
   halted line number Endless at (full, some) = (tt, inr (endless, refl, λ input g. too_many input line g some full))
   halted line number Memory at why = (tt, inl refl)
 
-  stops_by : (line rest : List ℕ) (fault : RunFault) → ((more : List ℕ) → GoesOn lines line ((lines_text lines ++ rest) ++ more)) → Halted line fault → Stops job (lines_text lines ++ rest) told fault
+  stops_by : (line rest : List ℕ) (fault : RunFault) → ((more : List ℕ) → GoesOn lines line ((lines_text lines ++ rest) ++ more)) → Halted line fault → Stops job (lines_text lines ++ rest) output fault
   stops_by line rest fault goes (inl e) = inl (e, json_prints rest)
   stops_by line rest fault goes (inr (end, by, ends)) =
       inr (h.items, end, by, (n, h.text), λ more. ends ((lines_text lines ++ rest) ++ more) (goes more))
@@ -140,18 +140,18 @@ module _ (job : Job) (n : Told) (lines : List (List ℕ)) (told : List ℕ) (h :
     begins = inl (raw, behind ++ more, l, refl, e);
   }
 
-  json_line_halts : (raw line behind : List ℕ) (number : ℕ) (fault : RunFault) → IsLine raw → line ≡ strip_cr raw → number ≡ length lines + 1 → HaltsJson job line number n fault → IsOfEngine fault × Stops job (lines_text lines ++ (raw ++ 10 ∷ behind)) told fault
+  json_line_halts : (raw line behind : List ℕ) (number : ℕ) (fault : RunFault) → IsLine raw → line ≡ strip_cr raw → number ≡ length lines + 1 → HaltsJson job line number n fault → IsOfEngine fault × Stops job (lines_text lines ++ (raw ++ 10 ∷ behind)) output fault
   json_line_halts raw line behind number fault l e at why =
       let k = halted line number fault at why in
       (k.0, stops_by line (raw ++ 10 ∷ behind) fault (λ more. with_lf raw line behind more l e) k.1)
 
   -- it is the last
-  ends_by : (line : List ℕ) (fault : RunFault) → IsLine line → Halted line fault → StopsAtEnd job (lines_text lines ++ line) told fault
+  ends_by : (line : List ℕ) (fault : RunFault) → IsLine line → Halted line fault → StopsAtEnd job (lines_text lines ++ line) output fault
   ends_by line fault l (inl e) = inl (e, json_prints line)
   ends_by line fault l (inr (end, by, ends)) =
       inr (h.items, end, by, (n, h.text), ends (lines_text lines ++ line) (record { rest = line; text_is = refl; begins = inr (l, refl) }))
 
-  json_last_halts : (line : List ℕ) (number : ℕ) (fault : RunFault) → IsLine line → number ≡ length lines + 1 → HaltsJson job line number n fault → IsOfEngine fault × StopsAtEnd job (lines_text lines ++ line) told fault
+  json_last_halts : (line : List ℕ) (number : ℕ) (fault : RunFault) → IsLine line → number ≡ length lines + 1 → HaltsJson job line number n fault → IsOfEngine fault × StopsAtEnd job (lines_text lines ++ line) output fault
   json_last_halts line number fault l at why =
       let k = halted line number fault at why in
       (k.0, ends_by line fault l k.1)
@@ -164,7 +164,7 @@ module _ (job : Job) (n : Told) (lines : List (List ℕ)) (told : List ℕ) (h :
       let (line, begins, longer) = long_line part more l (omega (arith, long, ap most_characters h.form)) in
       (line, record { rest = part ++ more; text_is = append_assoc (lines_text lines) part more; begins = begins }, longer)
 
-  pub json_long_bad : (part : List ℕ) (number : ℕ) → IsLine part → most_characters job.from + 1 < length part → number ≡ length lines + 1 → n.count < 1000000 → Stops job (lines_text lines ++ part) told (BadJson number)
+  pub json_long_bad : (part : List ℕ) (number : ℕ) → IsLine part → most_characters job.from + 1 < length part → number ≡ length lines + 1 → n.count < 1000000 → Stops job (lines_text lines ++ part) output (BadJson number)
   json_long_bad part number l long at few =
       inr (
         h.items,
@@ -175,7 +175,7 @@ module _ (job : Job) (n : Told) (lines : List (List ℕ)) (told : List ℕ) (h :
             bad ((lines_text lines ++ part) ++ more) line number goes (omega (arith, longer)) at few (λ e item. absurd (omega (arith, longer, item.1))) (λ i x why. absurd (omega (arith, longer, why.1))),
       )
 
-  pub json_long_full : (part : List ℕ) → IsLine part → most_characters job.from + 1 < length part → n.count ≡ 1000000 → Stops job (lines_text lines ++ part) told Endless
+  pub json_long_full : (part : List ℕ) → IsLine part → most_characters job.from + 1 < length part → n.count ≡ 1000000 → Stops job (lines_text lines ++ part) output Endless
   json_long_full part l long full =
       inr (
         h.items,
@@ -186,20 +186,20 @@ module _ (job : Job) (n : Told) (lines : List (List ℕ)) (told : List ℕ) (h :
             too_many ((lines_text lines ++ part) ++ more) line goes (omega (arith, longer)) full,
       )
 
-module _ (job : Job) (n : Told) (lines : List (List ℕ)) (told t : List ℕ) (h : JsonTook job n lines (told ++ t)) where
+module _ (job : Job) (n : Reported) (lines : List (List ℕ)) (output t : List ℕ) (h : JsonTook job n lines (output ++ t)) where
   -- ---- A line that is taken.
 
-  module _ (line : List ℕ) (n' : Told) (t' : List ℕ) (m : LineTold job line n n' t t') where
-    all_text : TellsItems job.command nothing_told (h.items ++ m.items) (told ++ t') n'
+  module _ (line : List ℕ) (n' : Reported) (t' : List ℕ) (m : LineOutput job line n n' t t') where
+    all_text : OutputsItems job.command nothing_reported (h.items ++ m.items) (output ++ t') n'
     all_text =
-        let is : (told ++ t) ++ m.added ≡ told ++ t' = append_assoc told t m.added ∙ ap (λ (z : List ℕ). told ++ z) (sym m.text_is) in
-        subst (λ (z : List ℕ). TellsItems job.command nothing_told (h.items ++ m.items) z n') is
-        (tells_append job.command nothing_told n n' h.items m.items (told ++ t) m.added h.text m.text)
+        let is : (output ++ t) ++ m.added ≡ output ++ t' = append_assoc output t m.added ∙ ap (λ (z : List ℕ). output ++ z) (sym m.text_is) in
+        subst (λ (z : List ℕ). OutputsItems job.command nothing_reported (h.items ++ m.items) z n') is
+        (outputs_append job.command nothing_reported n n' h.items m.items (output ++ t) m.added h.text m.text)
 
     all_count : n'.count ≡ length (h.items ++ m.items)
-    all_count = omega (arith, tells_count job.command n m.items m.added n' m.text, h.count_is, length-append h.items m.items)
+    all_count = omega (arith, outputs_count job.command n m.items m.added n' m.text, h.count_is, length-append h.items m.items)
 
-    took_more : (raw : List ℕ) → IsLine raw → line ≡ strip_cr raw → JsonTook job n' (lines ++ (raw ∷ [])) (told ++ t')
+    took_more : (raw : List ℕ) → IsLine raw → line ≡ strip_cr raw → JsonTook job n' (lines ++ (raw ∷ [])) (output ++ t')
     took_more raw l e =
         let more : AreItemLines job.kind (strip_cr raw ∷ []) m.items = subst (λ (z : List ℕ). AreItemLines job.kind (z ∷ []) m.items) e m.are_items in
         let both = AreItemLines-append job.kind (map strip_cr lines) (strip_cr raw ∷ []) h.items m.items h.are_items more in
@@ -219,65 +219,65 @@ module _ (job : Job) (n : Told) (lines : List (List ℕ)) (told t : List ℕ) (h
       last = line;
       front = h.items;
       behind = m.items;
-      lines_are = json_front job n lines (told ++ t) h (lines_text lines ++ line) line refl;
+      lines_are = json_front job n lines (output ++ t) h (lines_text lines ++ line) line refl;
       is_line = l;
       last_is = m.are_items;
       items_are = refl;
       few = omega (arith, all_count, m.few h.few);
     }
 
-    all_ends : (last t'' : List ℕ) (tally : Tally) → IsLine line → Closes job.command n' last tally → t'' ≡ t' ++ last → Ends job (lines_text lines ++ line) (told ++ t'') tally
+    all_ends : (last t'' : List ℕ) (tally : Tally) → IsLine line → Closes job.command n' last tally → t'' ≡ t' ++ last → Ends job (lines_text lines ++ line) (output ++ t'') tally
     all_ends last t'' tally l closes is = record {
       items = h.items ++ m.items;
-      items_of = items_of job n lines (told ++ t) h (lines_text lines ++ line) (h.items ++ m.items) ended (ended_json l);
-      lines = told ++ t';
+      items_of = items_of job n lines (output ++ t) h (lines_text lines ++ line) (h.items ++ m.items) ended (ended_json l);
+      lines = output ++ t';
       last = last;
       after = n';
       text = all_text;
       closes = closes;
-      told_is = ap (λ (z : List ℕ). told ++ z) is ∙ sym (append_assoc told t' last);
+      output_is = ap (λ (z : List ℕ). output ++ z) is ∙ sym (append_assoc output t' last);
       items_are = closes_items job.command n' last tally closes ∙ all_count;
     }
 
-    all_prints : IsLine line → Prints job (lines_text lines ++ line) (told ++ t')
+    all_prints : IsLine line → Prints job (lines_text lines ++ line) (output ++ t')
     all_prints l =
         let given = lines_text lines ++ line in
         let es = h.items ++ m.items in
-        (es, first_items job n lines (told ++ t) h given es (inr (ended_json l)), (n', all_text))
+        (es, first_items job n lines (output ++ t) h given es (inr (ended_json l)), (n', all_text))
 
   -- ---- What the code answers.
 
-  pub json_line_took : (raw line : List ℕ) (n' : Told) (t' : List ℕ) (answer : Result Unit RunFault) → IsLine raw → line ≡ strip_cr raw → OnOk answer (TakesJson job line n n' t t') → OnOk answer (JsonTook job n' (lines ++ (raw ∷ [])) (told ++ t'))
-  json_line_took raw line n' t' (Ok u) l e takes = took_more line n' t' (line_told job line n n' t t' takes) raw l e
+  pub json_line_took : (raw line : List ℕ) (n' : Reported) (t' : List ℕ) (answer : Result Unit RunFault) → IsLine raw → line ≡ strip_cr raw → OnOk answer (TakesJson job line n n' t t') → OnOk answer (JsonTook job n' (lines ++ (raw ∷ [])) (output ++ t'))
+  json_line_took raw line n' t' (Ok u) l e takes = took_more line n' t' (line_output job line n n' t t' takes) raw l e
   json_line_took raw line n' t' (Err f) l e takes = tt
 
-  pub json_line_stops : (raw line behind : List ℕ) (number : ℕ) (t' : List ℕ) (answer : Result Unit RunFault) → IsLine raw → line ≡ strip_cr raw → number ≡ length lines + 1 → IfErr answer (λ f. HaltsJson job line number n f × (t' ≡ t)) → IfErr answer (λ f. IsOfEngine f × Stops job (lines_text lines ++ (raw ++ 10 ∷ behind)) (told ++ t') f)
+  pub json_line_stops : (raw line behind : List ℕ) (number : ℕ) (t' : List ℕ) (answer : Result Unit RunFault) → IsLine raw → line ≡ strip_cr raw → number ≡ length lines + 1 → IfErr answer (λ f. HaltsJson job line number n f × (t' ≡ t)) → IfErr answer (λ f. IsOfEngine f × Stops job (lines_text lines ++ (raw ++ 10 ∷ behind)) (output ++ t') f)
   json_line_stops raw line behind number t' (Ok u) l e at why = tt
   json_line_stops raw line behind number t' (Err f) l e at (why, same) =
-      subst (λ (z : List ℕ). IsOfEngine f × Stops job (lines_text lines ++ (raw ++ 10 ∷ behind)) (told ++ z) f) (sym same)
-      (json_line_halts job n lines (told ++ t) h raw line behind number f l e at why)
+      subst (λ (z : List ℕ). IsOfEngine f × Stops job (lines_text lines ++ (raw ++ 10 ∷ behind)) (output ++ z) f) (sym same)
+      (json_line_halts job n lines (output ++ t) h raw line behind number f l e at why)
 
-  pub json_last_stops : (line : List ℕ) (number : ℕ) (t' : List ℕ) (fault : RunFault) → IsLine line → number ≡ length lines + 1 → HaltsJson job line number n fault × (t' ≡ t) → IsOfEngine fault × StopsAtEnd job (lines_text lines ++ line) (told ++ t') fault
+  pub json_last_stops : (line : List ℕ) (number : ℕ) (t' : List ℕ) (fault : RunFault) → IsLine line → number ≡ length lines + 1 → HaltsJson job line number n fault × (t' ≡ t) → IsOfEngine fault × StopsAtEnd job (lines_text lines ++ line) (output ++ t') fault
   json_last_stops line number t' fault l at (why, same) =
-      subst (λ (z : List ℕ). IsOfEngine fault × StopsAtEnd job (lines_text lines ++ line) (told ++ z) fault) (sym same)
-      (json_last_halts job n lines (told ++ t) h line number fault l at why)
+      subst (λ (z : List ℕ). IsOfEngine fault × StopsAtEnd job (lines_text lines ++ line) (output ++ z) fault) (sym same)
+      (json_last_halts job n lines (output ++ t) h line number fault l at why)
 
   -- the last line was taken, and the last text was written
-  json_ends : (line : List ℕ) (n' : Told) (t' last t'' : List ℕ) (tally : Tally) → IsLine line → TakesJson job line n n' t t' → Closes job.command n' last tally → t'' ≡ t' ++ last → Ends job (lines_text lines ++ line) (told ++ t'') tally
-  json_ends line n' t' last t'' tally l takes closes is = all_ends line n' t' (line_told job line n n' t t' takes) last t'' tally l closes is
+  json_ends : (line : List ℕ) (n' : Reported) (t' last t'' : List ℕ) (tally : Tally) → IsLine line → TakesJson job line n n' t t' → Closes job.command n' last tally → t'' ≡ t' ++ last → Ends job (lines_text lines ++ line) (output ++ t'') tally
+  json_ends line n' t' last t'' tally l takes closes is = all_ends line n' t' (line_output job line n n' t t' takes) last t'' tally l closes is
 
   -- or memory was refused for it
-  json_not_closed : (line : List ℕ) (n' : Told) (t' t'' : List ℕ) → IsLine line → TakesJson job line n n' t t' → t'' ≡ t' → IsOfEngine Memory × StopsAtEnd job (lines_text lines ++ line) (told ++ t'') Memory
+  json_not_closed : (line : List ℕ) (n' : Reported) (t' t'' : List ℕ) → IsLine line → TakesJson job line n n' t t' → t'' ≡ t' → IsOfEngine Memory × StopsAtEnd job (lines_text lines ++ line) (output ++ t'') Memory
   json_not_closed line n' t' t'' l takes same =
-      let prints = all_prints line n' t' (line_told job line n n' t t' takes) l in
-      (tt, inl (refl, subst (λ (z : List ℕ). Prints job (lines_text lines ++ line) (told ++ z)) (sym same) prints))
+      let prints = all_prints line n' t' (line_output job line n n' t t' takes) l in
+      (tt, inl (refl, subst (λ (z : List ℕ). Prints job (lines_text lines ++ line) (output ++ z)) (sym same) prints))
 
   -- what the end of the input answers
-  pub json_end_ends : (line : List ℕ) (n' : Told) (t' t'' : List ℕ) (answer : Result Tally RunFault) → IsLine line → TakesJson job line n n' t t' → IfOk answer (λ tally. (last : List ℕ) × Closes job.command n' last tally × (t'' ≡ t' ++ last)) → IfOk answer (λ tally. Ends job (lines_text lines ++ line) (told ++ t'') tally)
+  pub json_end_ends : (line : List ℕ) (n' : Reported) (t' t'' : List ℕ) (answer : Result Tally RunFault) → IsLine line → TakesJson job line n n' t t' → IfOk answer (λ tally. (last : List ℕ) × Closes job.command n' last tally × (t'' ≡ t' ++ last)) → IfOk answer (λ tally. Ends job (lines_text lines ++ line) (output ++ t'') tally)
   json_end_ends line n' t' t'' (Ok tally) l takes (last, closes, is) = json_ends line n' t' last t'' tally l takes closes is
   json_end_ends line n' t' t'' (Err f) l takes h' = tt
 
-  pub json_end_stops : (line : List ℕ) (n' : Told) (t' t'' : List ℕ) (answer : Result Tally RunFault) → IsLine line → TakesJson job line n n' t t' → IfErr answer (λ e. (t'' ≡ t') × (e ≡ Memory)) → IfErr answer (λ e. IsOfEngine e × StopsAtEnd job (lines_text lines ++ line) (told ++ t'') e)
+  pub json_end_stops : (line : List ℕ) (n' : Reported) (t' t'' : List ℕ) (answer : Result Tally RunFault) → IsLine line → TakesJson job line n n' t t' → IfErr answer (λ e. (t'' ≡ t') × (e ≡ Memory)) → IfErr answer (λ e. IsOfEngine e × StopsAtEnd job (lines_text lines ++ line) (output ++ t'') e)
   json_end_stops line n' t' t'' (Ok tally) l takes h' = tt
   json_end_stops line n' t' t'' (Err f) l takes (same, is) =
-      subst (λ (e : RunFault). IsOfEngine e × StopsAtEnd job (lines_text lines ++ line) (told ++ t'') e) (sym is) (json_not_closed line n' t' t'' l takes same)
+      subst (λ (e : RunFault). IsOfEngine e × StopsAtEnd job (lines_text lines ++ line) (output ++ t'') e) (sym is) (json_not_closed line n' t' t'' l takes same)

@@ -1,9 +1,9 @@
 pub mod GoodLines
-pub mod Tellings
+pub mod OutputLemmas
 pub mod Saying
 pub mod Answering
 pub mod GroupLengths
-pub mod TellLengths
+pub mod OutputLengths
 pub mod OneGroups
 pub mod OneTexts
 pub mod ReadingBack

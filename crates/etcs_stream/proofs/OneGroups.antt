@@ -20,7 +20,7 @@ use Rattle.etcs_group.proofs.Clashing.{order}
 use Rattle.etcs_group.proofs.Joining.{joins_not}
 use Rattle.etcs_group.proofs.Places.{held_place, place_held}
 use Rattle.etcs_packet_text.specs.Packets.{packets_text}
-use Rattle.etcs_stream.specs.Told.{Told}
+use Rattle.etcs_stream.specs.Reported.{Reported}
 use Rattle.etcs_group.specs.GroupLines.{positions_text}
 use Rattle.etcs_group.proofs.OneGroups.{at_position, one_missing, same_slots}
 use Rattle.etcs_stream.specs.Groups.{GroupItem, Answers, answer_line, clashes_with, group_front, GroupLines, LastLines}
@@ -82,16 +82,16 @@ one_answer held t (Err c) (Ok New) h k = absurd (joins_not held t c h.0 k.0)
 one_answer held t (Err c) (Ok Repeat) h k = absurd (joins_not held t c h.0 k.0)
 one_answer held t (Err c) (Err d) h k = let same = one_clash held t c d h k in rw same refl
 
-abbrev told : ℕ → ℕ → List (Option TelegramContent) → Told
-told n c held = record { count = n; clashes = c; held = held }
+abbrev reported : ℕ → ℕ → List (Option TelegramContent) → Reported
+reported n c held = record { count = n; clashes = c; held = held }
 
-told_same : (s u : Told) → s.count ≡ u.count → s.clashes ≡ u.clashes → s.held ≡ u.held → s ≡ u
-told_same s u n c h =
-    ap (λ (x : ℕ). told x s.clashes s.held) n
-    ∙ ap (λ (x : ℕ). told u.count x s.held) c
-    ∙ ap (λ (x : List (Option TelegramContent)). told u.count u.clashes x) h
+reported_same : (s u : Reported) → s.count ≡ u.count → s.clashes ≡ u.clashes → s.held ≡ u.held → s ≡ u
+reported_same s u n c h =
+    ap (λ (x : ℕ). reported x s.clashes s.held) n
+    ∙ ap (λ (x : ℕ). reported u.count x s.held) c
+    ∙ ap (λ (x : List (Option TelegramContent)). reported u.count u.clashes x) h
 
-pub one_group_item : (t : TelegramValue) (s : Told) (text : List ℕ) (s' : Told) (text' : List ℕ) (s'' : Told) → GroupItem t s text s' → GroupItem t s text' s'' → (text ≡ text') × (s' ≡ s'')
+pub one_group_item : (t : TelegramValue) (s : Reported) (text : List ℕ) (s' : Reported) (text' : List ℕ) (s'' : Reported) → GroupItem t s text s' → GroupItem t s text' s'' → (text ≡ text') × (s' ≡ s'')
 one_group_item t s text s' text' s'' h k =
     let same : h.telegram ≡ k.telegram = one_parts h.telegram k.telegram h.made.made k.made.made (sym h.value_is ∙ k.value_is) in
     let answers : Answers s.held h.telegram k.answer = subst (λ (u : TelegramContent). Answers s.held u k.answer) (sym same) k.answers in
@@ -99,7 +99,7 @@ one_group_item t s text s' text' s'' h k =
     let after : HeldAfter s.held h.telegram s''.held = subst (λ (u : TelegramContent). HeldAfter s.held u s''.held) (sym same) k.held_is in
     let held : s'.held ≡ s''.held = same_slots s'.held s''.held h.placed k.placed (λ u x. (after u).1 ((h.held_is u).0 x)) (λ u x. (h.held_is u).1 ((after u).0 x)) in (
       h.text_is ∙ ap (λ (a : Result Added Clash). answer_line (s.count + 1) a) answer ∙ sym k.text_is,
-      told_same s' s'' (h.count_is ∙ sym k.count_is) (h.clashes_are ∙ ap (λ (a : Result Added Clash). clashes_with s.clashes a) answer ∙ sym k.clashes_are) held,
+      reported_same s' s'' (h.count_is ∙ sym k.count_is) (h.clashes_are ∙ ap (λ (a : Result Added Clash). clashes_with s.clashes a) answer ∙ sym k.clashes_are) held,
     )
 
 -- ---- The last lines are one.

@@ -14,8 +14,8 @@ use Rattle.etcs_stream.specs.declared.job.Command.{Command}
 use Rattle.etcs_stream.specs.declared.job.Command.TheVariants.{Show, Check, Convert, Group}
 use Rattle.etcs_runs.specs.declared.form.Form.TheVariants.{Hex, Bin, Json}
 use Rattle.etcs_stream.specs.OneRuns.{OneText}
-use Rattle.etcs_stream.specs.Told.{Told}
-use Rattle.etcs_stream.specs.Tellers.{TellsItem, TellsItems, nothing_told}
+use Rattle.etcs_stream.specs.Reported.{Reported}
+use Rattle.etcs_stream.specs.Printers.{OutputsItem, OutputsItems, nothing_reported}
 use Rattle.etcs_stream.proofs.OneGroups.{one_group_item}
 
 -- L_MESSAGE is of the bits
@@ -42,22 +42,22 @@ one_encoding e bytes bytes' h k =
     bits_same bytes bytes' (all_small bytes h.small) (all_small bytes' k.small) (h.bits_are ∙ ap spelled (one_spelling e h.reading k.reading h.reads k.reads) ∙ sym k.bits_are)
 
 -- one item is reported in one way
-one_tell : (c : Command) (e : EntryValue) (s : Told) (text : List ℕ) (s' : Told) (text' : List ℕ) (s'' : Told) → TellsItem c e s text s' → TellsItem c e s text' s'' → (text ≡ text') × (s' ≡ s'')
-one_tell Show e s text s' text' s'' h k = (h.0 ∙ sym k.0, h.1 ∙ sym k.1)
-one_tell Check e s text s' text' s'' h k = (h.0 ∙ sym k.0, h.1 ∙ sym k.1)
-one_tell (Convert Hex) e s text s' text' s'' ((b, x, h), hs) ((d, y, k), ks) =
+one_output : (c : Command) (e : EntryValue) (s : Reported) (text : List ℕ) (s' : Reported) (text' : List ℕ) (s'' : Reported) → OutputsItem c e s text s' → OutputsItem c e s text' s'' → (text ≡ text') × (s' ≡ s'')
+one_output Show e s text s' text' s'' h k = (h.0 ∙ sym k.0, h.1 ∙ sym k.1)
+one_output Check e s text s' text' s'' h k = (h.0 ∙ sym k.0, h.1 ∙ sym k.1)
+one_output (Convert Hex) e s text s' text' s'' ((b, x, h), hs) ((d, y, k), ks) =
     (h ∙ ap (λ (z : List ℕ). encode_upper z ++ 10 ∷ []) (one_encoding e b d x y) ∙ sym k, hs ∙ sym ks)
-one_tell (Convert Bin) e s text s' text' s'' h k = (one_encoding e text text' h.0 k.0, h.1 ∙ sym k.1)
-one_tell (Convert Json) e s text s' text' s'' h k = (h.0 ∙ sym k.0, h.1 ∙ sym k.1)
-one_tell Group (of_telegram t) s text s' text' s'' h k = one_group_item t s text s' text' s'' h k
-one_tell Group (of_message way m) s text s' text' s'' h k = absurd h
+one_output (Convert Bin) e s text s' text' s'' h k = (one_encoding e text text' h.0 k.0, h.1 ∙ sym k.1)
+one_output (Convert Json) e s text s' text' s'' h k = (h.0 ∙ sym k.0, h.1 ∙ sym k.1)
+one_output Group (of_telegram t) s text s' text' s'' h k = one_group_item t s text s' text' s'' h k
+one_output Group (of_message way m) s text s' text' s'' h k = absurd h
 
-pub one_tells : (c : Command) (s : Told) (es : List EntryValue) (text : List ℕ) (s' : Told) (text' : List ℕ) (s'' : Told) → TellsItems c s es text s' → TellsItems c s es text' s'' → (text ≡ text') × (s' ≡ s'')
-one_tells c s [] text s' text' s'' h k = (h.0 ∙ sym k.0, h.1 ∙ sym k.1)
-one_tells c s (e ∷ es) text s' text' s'' (m, a, b, is, x, y) (m', a', b', is', x', y') =
-    let one = one_tell c e s a m a' m' x x' in
-    let more = one_tells c m es b s' b' s'' y (subst (λ (z : Told). TellsItems c z es b' s'') (sym one.1) y') in
+pub one_outputs : (c : Command) (s : Reported) (es : List EntryValue) (text : List ℕ) (s' : Reported) (text' : List ℕ) (s'' : Reported) → OutputsItems c s es text s' → OutputsItems c s es text' s'' → (text ≡ text') × (s' ≡ s'')
+one_outputs c s [] text s' text' s'' h k = (h.0 ∙ sym k.0, h.1 ∙ sym k.1)
+one_outputs c s (e ∷ es) text s' text' s'' (m, a, b, is, x, y) (m', a', b', is', x', y') =
+    let one = one_output c e s a m a' m' x x' in
+    let more = one_outputs c m es b s' b' s'' y (subst (λ (z : Reported). OutputsItems c z es b' s'') (sym one.1) y') in
     (is ∙ ap (λ (z : List ℕ). z ++ b) one.0 ∙ ap (λ (z : List ℕ). a' ++ z) more.0 ∙ sym is', more.1)
 
 pub one_text : OneText
-one_text c es text text' (s, h) (s', k) = (one_tells c nothing_told es text s text' s' h k).0
+one_text c es text text' (s, h) (s', k) = (one_outputs c nothing_reported es text s text' s' h k).0

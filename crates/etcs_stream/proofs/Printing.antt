@@ -10,9 +10,9 @@ use Rattle.etcs_runs.specs.Faults.{IsOfEngine}
 use Rattle.etcs_runs.specs.Lines.{strip_cr}
 use Rattle.etcs_stream.specs.Inputs.{ItemsOf, FirstItems}
 use Rattle.etcs_stream.specs.JsonItems.{AreItemLines, FirstJson}
-use Rattle.etcs_stream.specs.Engines.{Tells, Stops}
-use Rattle.etcs_stream.specs.laws.Printing.{tells_longer}
-use Rattle.etcs_stream.proofs.TellLengths.{AreRead, are_read}
+use Rattle.etcs_stream.specs.Engines.{Outputs, Stops}
+use Rattle.etcs_stream.specs.laws.Printing.{outputs_longer}
+use Rattle.etcs_stream.proofs.OutputLengths.{AreRead, are_read}
 
 AreRead-append : (kind : Kind) (es fs : List EntryValue) → AreRead kind es → AreRead kind fs → AreRead kind (es ++ fs)
 AreRead-append kind [] fs h k = k
@@ -35,12 +35,12 @@ first_read Json kind given es h = first_json kind given es h
 
 -- ---- A text that continues.
 
-stops_longer : (job : Job) (given more told : List ℕ) (fault : RunFault) → Tells job given told → Stops job given told fault → Stops job (given ++ more) told fault
-stops_longer job given more told fault tells (inl h) = inl (h.0, tells_longer job given more told tells)
-stops_longer job given more told fault tells (inr h) =
+stops_longer : (job : Job) (given more output : List ℕ) (fault : RunFault) → Outputs job given output → Stops job given output fault → Stops job (given ++ more) output fault
+stops_longer job given more output fault outputs (inl h) = inl (h.0, outputs_longer job given more output outputs)
+stops_longer job given more output fault outputs (inr h) =
     inr (h.0, h.1, h.2, h.3, λ z. subst (λ (t : List ℕ). ItemsOf job.from job.kind t h.0 h.1) (sym (append_assoc given more z)) (h.4 (more ++ z)))
 
 -- a line that is refused is so however it continues
-pub line_longer : (job : Job) (front part more told : List ℕ) (fault : RunFault) → Tells job (front ++ part) told → IsOfEngine fault × Stops job (front ++ part) told fault → IsOfEngine fault × Stops job (front ++ (part ++ more)) told fault
-line_longer job front part more told fault tells (of, stops) =
-    (of, subst (λ (z : List ℕ). Stops job z told fault) (append_assoc front part more) (stops_longer job (front ++ part) more told fault tells stops))
+pub line_longer : (job : Job) (front part more output : List ℕ) (fault : RunFault) → Outputs job (front ++ part) output → IsOfEngine fault × Stops job (front ++ part) output fault → IsOfEngine fault × Stops job (front ++ (part ++ more)) output fault
+line_longer job front part more output fault outputs (of, stops) =
+    (of, subst (λ (z : List ℕ). Stops job z output fault) (append_assoc front part more) (stops_longer job (front ++ part) more output fault outputs stops))

@@ -33,8 +33,8 @@ use Rattle.etcs_runs.specs.Lines.{IsLine, lines_text, strip_cr}
 use Rattle.etcs_stream.specs.Lines.{AreGood, IsHexText, bad_place, line_bytes, lines_bytes}
 use Rattle.etcs_stream.specs.ReadBacks.{ReadBack}
 use Rattle.etcs_stream.specs.Streams.{AreSpelled}
-use Rattle.etcs_stream.specs.Tellers.{TellsItems, nothing_told}
-use Rattle.etcs_stream.specs.Told.{Told}
+use Rattle.etcs_stream.specs.Printers.{OutputsItems, nothing_reported}
+use Rattle.etcs_stream.specs.Reported.{Reported}
 use Rattle.etcs_stream.proofs.OneLines.{both_true}
 use Rattle.etcs_stream.proofs.OneTexts.{all_small}
 
@@ -56,7 +56,7 @@ without_cr line h = whole line (ends_with_byte 13 line) refl h
 -- ---- Bytes.
 
 -- the bits of encodings one after another are the items
-bytes_spelled : (kind : Kind) (s : Told) (es : List EntryValue) (spelt : List Bool) (text : List ℕ) (s' : Told) → AreSpelled kind es spelt → TellsItems (Convert Bin) s es text s' → AreSpelled kind es (bits text)
+bytes_spelled : (kind : Kind) (s : Reported) (es : List EntryValue) (spelt : List Bool) (text : List ℕ) (s' : Reported) → AreSpelled kind es spelt → OutputsItems (Convert Bin) s es text s' → AreSpelled kind es (bits text)
 unfolding bits
 bytes_spelled kind s [] spelt text s' are is = ap bits is.0
 bytes_spelled kind s (e ∷ es) spelt text s' (r, behind, reads, b, more) (mid, first, rest, is, (x, n), others) = (
@@ -109,7 +109,7 @@ record GoodLines (kind : Kind) (es : List EntryValue) (text : List ℕ) : Type 0
   good : AreGood lines
   are_spelled : AreSpelled kind es (bits (lines_bytes lines))
 
-good_lines : (kind : Kind) (s : Told) (es : List EntryValue) (spelt : List Bool) (text : List ℕ) (s' : Told) → AreSpelled kind es spelt → TellsItems (Convert Hex) s es text s' → GoodLines kind es text
+good_lines : (kind : Kind) (s : Reported) (es : List EntryValue) (spelt : List Bool) (text : List ℕ) (s' : Reported) → AreSpelled kind es spelt → OutputsItems (Convert Hex) s es text s' → GoodLines kind es text
 unfolding bits
 good_lines kind s [] spelt text s' are is = record { lines = []; text_is = is.0; good = tt; are_spelled = refl }
 good_lines kind s (e ∷ es) spelt text s' (r, behind, reads, b, more) (mid, first, rest, is, ((bytes, x, line), n), others) =
@@ -166,7 +166,7 @@ record ItemLines (kind : Kind) (es : List EntryValue) (text : List ℕ) : Type 0
   are_lines : All IsLine lines
   are_items : AreItemLines kind (map strip_cr lines) es
 
-item_lines : (kind : Kind) (s : Told) (es : List EntryValue) (spelt : List Bool) (text : List ℕ) (s' : Told) → AreSpelled kind es spelt → TellsItems (Convert Json) s es text s' → ItemLines kind es text
+item_lines : (kind : Kind) (s : Reported) (es : List EntryValue) (spelt : List Bool) (text : List ℕ) (s' : Reported) → AreSpelled kind es spelt → OutputsItems (Convert Json) s es text s' → ItemLines kind es text
 item_lines kind s [] spelt text s' are is = record { lines = []; text_is = is.0; are_lines = All-nil IsLine; are_items = refl }
 item_lines kind s (e ∷ es) spelt text s' (r, behind, reads, b, more) (mid, first, rest, is, (own, n), others) =
     let h = item_lines kind mid es behind rest s' more others in
@@ -194,10 +194,10 @@ ended_lines kind es text h few = record {
 -- ---- Each form.
 
 pub read_back : ReadBack
-read_back Bin kind es spelt text are few (s, told) =
-    all_bits kind (bits text) es (bytes_spelled kind nothing_told es spelt text s are told) few
-read_back Hex kind es spelt text are few (s, told) =
-    let h = good_lines kind nothing_told es spelt text s are told in
+read_back Bin kind es spelt text are few (s, outputs) =
+    all_bits kind (bits text) es (bytes_spelled kind nothing_reported es spelt text s are outputs) few
+read_back Hex kind es spelt text are few (s, outputs) =
+    let h = good_lines kind nothing_reported es spelt text s are outputs in
     inl (lines_bytes h.lines, hex_text h.lines text h.text_is h.good, all_bits kind (bits (lines_bytes h.lines)) es h.are_spelled few)
-read_back Json kind es spelt text are few (s, told) =
-    ended_lines kind es text (item_lines kind nothing_told es spelt text s are told) few
+read_back Json kind es spelt text are few (s, outputs) =
+    ended_lines kind es text (item_lines kind nothing_reported es spelt text s are outputs) few

@@ -10,8 +10,8 @@ use Rattle.etcs_vars.specs.Walking.{Refuses}
 use Rattle.etcs_vars.proofs.Outcomes.{none_refused, refuses_longer}
 use Rattle.etcs_text.specs.declared.entry.Kind.{Kind}
 use Rattle.etcs_text.specs.Entries.{EntryValue, EntryReads}
-use Rattle.etcs_stream.specs.Told.{Told}
-use Rattle.etcs_stream.specs.Tellers.{TellsItems, ItemsText, nothing_told}
+use Rattle.etcs_stream.specs.Reported.{Reported}
+use Rattle.etcs_stream.specs.Printers.{OutputsItems, ItemsText, nothing_reported}
 use Rattle.etcs_stream.specs.declared.job.Job.{Job}
 use Rattle.etcs_runs.specs.declared.fault.RunFault.{RunFault}
 use Rattle.etcs_runs.specs.declared.fault.RunFault.TheVariants.{Refused, Truncated, BadHex, BadJson, Read, Write, Endless, Memory}
@@ -26,19 +26,19 @@ use Rattle.etcs_text.proofs.ItemKinds.{Language, kind_regular}
 use Rattle.etcs_bits.proofs.ByteBits.{bits-append}
 use Rattle.etcs_stream.specs.laws.Printing.{first_bytes}
 use Rattle.etcs_stream.proofs.Streams.{AreSpelled-append}
-use Rattle.etcs_stream.proofs.Tellings.{tells_append, tells_count}
+use Rattle.etcs_stream.proofs.OutputLemmas.{outputs_append, outputs_count}
 
 -- ---- Some bytes more.
 
 -- of these bytes the items were reported, and then no more was taken
-pub record ItemsHalt (job : Job) (bytes told : List ℕ) (fault : RunFault) : Type 0 where
+pub record ItemsHalt (job : Job) (bytes output : List ℕ) (fault : RunFault) : Type 0 where
   pub items : List EntryValue
   pub spelt : List Bool
   pub rest : List Bool
   pub are_spelled : AreSpelled job.kind items spelt
   pub bits_are : bits bytes ≡ spelt ++ rest
   pub few : length items ≤ 1000000
-  pub text : ItemsText job.command items told
+  pub text : ItemsText job.command items output
   pub why : HaltsBy job.kind (length items) rest fault
 
 more_bits : (bytes piece : List ℕ) (p seen q rest : List Bool) → bits bytes ≡ p ++ seen → seen ++ bits piece ≡ q ++ rest → bits (bytes ++ piece) ≡ (p ++ q) ++ rest
@@ -50,58 +50,58 @@ more_bits bytes piece p seen q rest h g =
     ∙ sym (append_assoc p q rest)
 
 -- the text of the items that were reported, and of those after them
-all_text : (job : Job) (s s' : Told) (ds es : List EntryValue) (told t added t' : List ℕ) → TellsItems job.command nothing_told ds (told ++ t) s → TellsItems job.command s es added s' → t' ≡ t ++ added → TellsItems job.command nothing_told (ds ++ es) (told ++ t') s'
-all_text job s s' ds es told t added t' h g is =
-    subst (λ z. TellsItems job.command nothing_told (ds ++ es) z s') (append_assoc told t added ∙ ap (λ (z : List ℕ). told ++ z) (sym is))
-    (tells_append job.command nothing_told s s' ds es (told ++ t) added h g)
+all_text : (job : Job) (s s' : Reported) (ds es : List EntryValue) (output t added t' : List ℕ) → OutputsItems job.command nothing_reported ds (output ++ t) s → OutputsItems job.command s es added s' → t' ≡ t ++ added → OutputsItems job.command nothing_reported (ds ++ es) (output ++ t') s'
+all_text job s s' ds es output t added t' h g is =
+    subst (λ z. OutputsItems job.command nothing_reported (ds ++ es) z s') (append_assoc output t added ∙ ap (λ (z : List ℕ). output ++ z) (sym is))
+    (outputs_append job.command nothing_reported s s' ds es (output ++ t) added h g)
 
-module _ (job : Job) (seen : List Bool) (s : Told) (bytes told t : List ℕ) (h : ItemsStand job seen s bytes (told ++ t)) (piece t' : List ℕ) where
-  pub stand_more : (seen' : List Bool) (s' : Told) → Advances job.kind job.command seen seen' s s' piece t t' → s'.count ≤ 1000000 → HasRoom s'.count seen' → NoneYet (Language job.kind) seen' → ItemsStand job seen' s' (bytes ++ piece) (told ++ t')
+module _ (job : Job) (seen : List Bool) (s : Reported) (bytes output t : List ℕ) (h : ItemsStand job seen s bytes (output ++ t)) (piece t' : List ℕ) where
+  pub stand_more : (seen' : List Bool) (s' : Reported) → Advances job.kind job.command seen seen' s s' piece t t' → s'.count ≤ 1000000 → HasRoom s'.count seen' → NoneYet (Language job.kind) seen' → ItemsStand job seen' s' (bytes ++ piece) (output ++ t')
   stand_more seen' s' g few room none = record {
-    items = h.items ++ g.told;
+    items = h.items ++ g.reported;
     spelt = h.spelt ++ g.spelt;
-    are_spelled = AreSpelled-append job.kind h.items g.told h.spelt g.spelt h.are_spelled g.are_spelled;
+    are_spelled = AreSpelled-append job.kind h.items g.reported h.spelt g.spelt h.are_spelled g.are_spelled;
     bits_are = more_bits bytes piece h.spelt seen g.spelt seen' h.bits_are g.bits_are;
-    count_is = omega (arith, h.count_is, tells_count job.command s g.told g.added s' g.added_is, length-append h.items g.told);
+    count_is = omega (arith, h.count_is, outputs_count job.command s g.reported g.added s' g.added_is, length-append h.items g.reported);
     few = few;
     room = room;
     none_more = none;
-    text = all_text job s s' h.items g.told told t g.added t' h.text g.added_is g.text_is;
+    text = all_text job s s' h.items g.reported output t g.added t' h.text g.added_is g.text_is;
   }
 
-  pub stand_halts : (fault : RunFault) → Halts job.kind job.command seen s piece t t' fault → ItemsHalt job (bytes ++ piece) (told ++ t') fault
+  pub stand_halts : (fault : RunFault) → Halts job.kind job.command seen s piece t t' fault → ItemsHalt job (bytes ++ piece) (output ++ t') fault
   stand_halts fault g =
-      let all : s.count + length g.told ≡ length (h.items ++ g.told) = omega (arith, h.count_is, length-append h.items g.told) in
+      let all : s.count + length g.reported ≡ length (h.items ++ g.reported) = omega (arith, h.count_is, length-append h.items g.reported) in
       record {
-        items = h.items ++ g.told;
+        items = h.items ++ g.reported;
         spelt = h.spelt ++ g.spelt;
         rest = g.rest;
-        are_spelled = AreSpelled-append job.kind h.items g.told h.spelt g.spelt h.are_spelled g.are_spelled;
+        are_spelled = AreSpelled-append job.kind h.items g.reported h.spelt g.spelt h.are_spelled g.are_spelled;
         bits_are = more_bits bytes piece h.spelt seen g.spelt g.rest h.bits_are g.bits_are;
         few = omega (arith, all, g.few);
-        text = (g.after, all_text job s g.after h.items g.told told t g.added t' h.text g.added_is g.text_is);
+        text = (g.after, all_text job s g.after h.items g.reported output t g.added t' h.text g.added_is g.text_is);
         why = subst (λ n. HaltsBy job.kind n g.rest fault) all g.why;
       }
 
 -- nothing has come
-pub stand_nothing : (job : Job) (seen : List Bool) (s : Told) → seen ≡ [] → s ≡ nothing_told → NoneYet (Language job.kind) seen → ItemsStand job seen s [] []
+pub stand_nothing : (job : Job) (seen : List Bool) (s : Reported) → seen ≡ [] → s ≡ nothing_reported → NoneYet (Language job.kind) seen → ItemsStand job seen s [] []
 unfolding bits
 stand_nothing job seen s e n none = record {
   items = [];
   spelt = [];
   are_spelled = refl;
   bits_are = sym e;
-  count_is = ap (λ (k : Told). k.count) n;
-  few = omega (arith, ap (λ (k : Told). k.count) n);
-  room = λ h. omega (arith, ap (λ (k : Told). k.count) n);
+  count_is = ap (λ (k : Reported). k.count) n;
+  few = omega (arith, ap (λ (k : Reported). k.count) n);
+  room = λ h. omega (arith, ap (λ (k : Reported). k.count) n);
   none_more = none;
   text = (refl, n);
 }
 
 -- an input that says bytes isn't JSON
 -- the items that were reported are the first of an input that says the bytes first
-pub stand_first : (job : Job) (seen : List Bool) (s : Told) (given bytes told : List ℕ) (h : ItemsStand job seen s bytes told) → SaysFirst job.from given bytes → FirstItems job.from job.kind given h.items
-stand_first job seen s given bytes told h says = first_bytes job.from job.kind given h.items (record { bytes = bytes; says = says; spelt = h.spelt; rest = seen; are_spelled = h.are_spelled; bits_are = h.bits_are; few = omega (arith, h.few, h.count_is) })
+pub stand_first : (job : Job) (seen : List Bool) (s : Reported) (given bytes output : List ℕ) (h : ItemsStand job seen s bytes output) → SaysFirst job.from given bytes → FirstItems job.from job.kind given h.items
+stand_first job seen s given bytes output h says = first_bytes job.from job.kind given h.items (record { bytes = bytes; says = says; spelt = h.spelt; rest = seen; are_spelled = h.are_spelled; bits_are = h.bits_are; few = omega (arith, h.few, h.count_is) })
 
 -- ---- The items end in each longer input.
 
@@ -126,12 +126,12 @@ refused_longer kind rest more i x h =
     let r = refuses_longer (Language kind) rest more i x h in
     ((none_refused (Language kind) (kind_regular kind) (rest ++ more) i x r, r.within, r.blocked), r.owned)
 
-module _ (job : Job) (bytes told : List ℕ) where
-  longer : (fault : RunFault) (h : ItemsHalt job bytes told fault) (more : List Bool) → bits bytes ++ more ≡ h.spelt ++ (h.rest ++ more)
+module _ (job : Job) (bytes output : List ℕ) where
+  longer : (fault : RunFault) (h : ItemsHalt job bytes output fault) (more : List Bool) → bits bytes ++ more ≡ h.spelt ++ (h.rest ++ more)
   longer fault h more = ap (λ (z : List Bool). z ++ more) h.bits_are ∙ append_assoc h.spelt h.rest more
 
   -- memory was refused, or the items end early
-  pub ends_early : (fault : RunFault) (h : ItemsHalt job bytes told fault) → IsOfEngine fault × ((fault ≡ Memory) ⊎ EndsEarly job bytes h.items fault)
+  pub ends_early : (fault : RunFault) (h : ItemsHalt job bytes output fault) → IsOfEngine fault × ((fault ≡ Memory) ⊎ EndsEarly job bytes h.items fault)
   ends_early (Refused item i x) h = (
     tt,
     inr (record {
@@ -171,26 +171,26 @@ module _ (job : Job) (bytes told : List ℕ) where
   )
   ends_early Memory h = (tt, inl refl)
 
-  pub halt_first : (fault : RunFault) (given : List ℕ) (h : ItemsHalt job bytes told fault) → SaysFirst job.from given bytes → FirstItems job.from job.kind given h.items
+  pub halt_first : (fault : RunFault) (given : List ℕ) (h : ItemsHalt job bytes output fault) → SaysFirst job.from given bytes → FirstItems job.from job.kind given h.items
   halt_first fault given h says = first_bytes job.from job.kind given h.items (record { bytes = bytes; says = says; spelt = h.spelt; rest = h.rest; are_spelled = h.are_spelled; bits_are = h.bits_are; few = h.few })
 
 -- from the items of the bytes to those of the input that says them
-pub halt_stops : (job : Job) (given bytes told : List ℕ) (fault : RunFault) → ItemsHalt job bytes told fault → SaysFirst job.from given bytes → ((more : List ℕ) (es : List EntryValue) (end : End) → IsEarly end → ((b : List Bool) → BitItems job.kind (bits bytes ++ b) es end) → ItemsOf job.from job.kind (given ++ more) es end) → IsOfEngine fault × Stops job given told fault
-halt_stops job given bytes told fault h says on =
-    let both = ends_early job bytes told fault h in (
+pub halt_stops : (job : Job) (given bytes output : List ℕ) (fault : RunFault) → ItemsHalt job bytes output fault → SaysFirst job.from given bytes → ((more : List ℕ) (es : List EntryValue) (end : End) → IsEarly end → ((b : List Bool) → BitItems job.kind (bits bytes ++ b) es end) → ItemsOf job.from job.kind (given ++ more) es end) → IsOfEngine fault × Stops job given output fault
+halt_stops job given bytes output fault h says on =
+    let both = ends_early job bytes output fault h in (
       both.0,
       elim both.1 [
-        | inl m ↦ inl (m, (h.items, halt_first job bytes told fault given h says, h.text))
+        | inl m ↦ inl (m, (h.items, halt_first job bytes output fault given h says, h.text))
         | inr e ↦ inr (h.items, e.end, e.by, h.text, λ more. on more h.items e.end e.early e.are)
       ],
     )
 
-pub halt_ends : (job : Job) (given bytes told : List ℕ) (fault : RunFault) → ItemsHalt job bytes told fault → SaysFirst job.from given bytes → ((es : List EntryValue) (end : End) → IsEarly end → BitItems job.kind (bits bytes) es end → ItemsOf job.from job.kind given es end) → IsOfEngine fault × StopsAtEnd job given told fault
-halt_ends job given bytes told fault h says on =
-    let both = ends_early job bytes told fault h in (
+pub halt_ends : (job : Job) (given bytes output : List ℕ) (fault : RunFault) → ItemsHalt job bytes output fault → SaysFirst job.from given bytes → ((es : List EntryValue) (end : End) → IsEarly end → BitItems job.kind (bits bytes) es end → ItemsOf job.from job.kind given es end) → IsOfEngine fault × StopsAtEnd job given output fault
+halt_ends job given bytes output fault h says on =
+    let both = ends_early job bytes output fault h in (
       both.0,
       elim both.1 [
-        | inl m ↦ inl (m, (h.items, halt_first job bytes told fault given h says, h.text))
+        | inl m ↦ inl (m, (h.items, halt_first job bytes output fault given h says, h.text))
         | inr e ↦
             let here : BitItems job.kind (bits bytes) h.items e.end = subst (λ z. BitItems job.kind z h.items e.end) (append-nil (bits bytes)) (e.are []) in
             inr (h.items, e.end, e.by, h.text, on h.items e.end e.early here)
@@ -200,7 +200,7 @@ halt_ends job given bytes told fault h says on =
 -- ---- The input ends here.
 
 -- it ends with its items, or inside one
-module _ (job : Job) (seen : List Bool) (s : Told) (bytes told : List ℕ) (h : ItemsStand job seen s bytes told) where
+module _ (job : Job) (seen : List Bool) (s : Reported) (bytes output : List ℕ) (h : ItemsStand job seen s bytes output) where
   pub stand_ended : seen ≡ [] → BitItems job.kind (bits bytes) h.items ended
   stand_ended e = record { spelt = h.spelt; rest = seen; are_spelled = h.are_spelled; bits_are = h.bits_are; few = omega (arith, h.few, h.count_is); ends = e }
 

@@ -15,15 +15,15 @@ use Rattle.etcs_vars.specs.Walking.{Refuses}
 use Rattle.etcs_text.specs.declared.entry.Kind.{Kind}
 use Rattle.etcs_stream.specs.declared.job.Command.{Command}
 use Rattle.etcs_text.specs.Entries.{EntryValue, EntryReads}
-use Rattle.etcs_stream.specs.Told.{Told}
-use Rattle.etcs_stream.specs.Tellers.{TellsItem}
+use Rattle.etcs_stream.specs.Reported.{Reported}
+use Rattle.etcs_stream.specs.Printers.{OutputsItem}
 use Rattle.etcs_runs.specs.declared.fault.RunFault.{RunFault}
 use Rattle.etcs_text.specs.Readers.{ReaderValue, Progress, Feeds, seen_bits, reading}
 use Rattle.etcs_stream.specs.Readers.{Awaits}
 use Rattle.etcs_stream.specs.Streams.{AreSpelled}
 use Rattle.etcs_stream.specs.Taking.{Advances, Halts, HaltsBy}
 use Rattle.etcs_text.proofs.ItemKinds.{Language, item_bits, some_item}
-use Rattle.etcs_stream.proofs.Tellings.{tells_append, tells_count, tells_one}
+use Rattle.etcs_stream.proofs.OutputLemmas.{outputs_append, outputs_count, outputs_one}
 
 -- the bits of the first k bytes
 take-bits : (k : ℕ) (bytes : List ℕ) → k ≤ length bytes → take (8 * k) (bits bytes) ≡ bits (take k bytes)
@@ -55,9 +55,9 @@ Awaits-fresh kind r h =
 
 -- ---- one piece after another
 
-pub Advances-none : (kind : Kind) (c : Command) (seen : List Bool) (s : Told) (text : List ℕ) → Advances kind c seen seen s s [] text text
+pub Advances-none : (kind : Kind) (c : Command) (seen : List Bool) (s : Reported) (text : List ℕ) → Advances kind c seen seen s s [] text text
 unfolding bits
-Advances-none kind c seen s text = record { told = []; spelt = []; added = []; are_spelled = refl; bits_are = append-nil seen; added_is = (refl, refl); text_is = sym (append-nil text) }
+Advances-none kind c seen s text = record { reported = []; spelt = []; added = []; are_spelled = refl; bits_are = append-nil seen; added_is = (refl, refl); text_is = sym (append-nil text) }
 
 behind_bits : (a b c p q : List Bool) (xs ys : List ℕ) → a ++ bits xs ≡ p ++ b → b ++ bits ys ≡ q ++ c → a ++ bits (xs ++ ys) ≡ (p ++ q) ++ c
 behind_bits a b c p q xs ys h g =
@@ -71,39 +71,39 @@ behind_bits a b c p q xs ys h g =
 behind_text : (s t u x y : List ℕ) → t ≡ s ++ x → u ≡ t ++ y → u ≡ s ++ (x ++ y)
 behind_text s t u x y h g = g ∙ ap (λ (z : List ℕ). z ++ y) h ∙ append_assoc s x y
 
-module _ (kind : Kind) (command : Command) (a b : List Bool) (i j : Told) (xs ys s t u : List ℕ) (h : Advances kind command a b i j xs s t) where
-  pub Advances-then : (c : List Bool) (k : Told) → Advances kind command b c j k ys t u → Advances kind command a c i k (xs ++ ys) s u
+module _ (kind : Kind) (command : Command) (a b : List Bool) (i j : Reported) (xs ys s t u : List ℕ) (h : Advances kind command a b i j xs s t) where
+  pub Advances-then : (c : List Bool) (k : Reported) → Advances kind command b c j k ys t u → Advances kind command a c i k (xs ++ ys) s u
   Advances-then c k g = record {
-    told = h.told ++ g.told;
+    reported = h.reported ++ g.reported;
     spelt = h.spelt ++ g.spelt;
     added = h.added ++ g.added;
-    are_spelled = AreSpelled-append kind h.told g.told h.spelt g.spelt h.are_spelled g.are_spelled;
+    are_spelled = AreSpelled-append kind h.reported g.reported h.spelt g.spelt h.are_spelled g.are_spelled;
     bits_are = behind_bits a b c h.spelt g.spelt xs ys h.bits_are g.bits_are;
-    added_is = tells_append command i j k h.told g.told h.added g.added h.added_is g.added_is;
+    added_is = outputs_append command i j k h.reported g.reported h.added g.added h.added_is g.added_is;
     text_is = behind_text s t u h.added g.added h.text_is g.text_is;
   }
 
   pub Halts-then : (fault : RunFault) → Halts kind command b j ys t u fault → Halts kind command a i (xs ++ ys) s u fault
   Halts-then fault g =
-      let all : j.count + length g.told ≡ i.count + length (h.told ++ g.told) = omega (arith, tells_count command i h.told h.added j h.added_is, length-append h.told g.told) in
+      let all : j.count + length g.reported ≡ i.count + length (h.reported ++ g.reported) = omega (arith, outputs_count command i h.reported h.added j h.added_is, length-append h.reported g.reported) in
       record {
-        told = h.told ++ g.told;
+        reported = h.reported ++ g.reported;
         spelt = h.spelt ++ g.spelt;
         rest = g.rest;
         added = h.added ++ g.added;
-        are_spelled = AreSpelled-append kind h.told g.told h.spelt g.spelt h.are_spelled g.are_spelled;
+        are_spelled = AreSpelled-append kind h.reported g.reported h.spelt g.spelt h.are_spelled g.are_spelled;
         bits_are = behind_bits a b g.rest h.spelt g.spelt xs ys h.bits_are g.bits_are;
         few = omega (arith, all, g.few);
         after = g.after;
-        added_is = tells_append command i j g.after h.told g.told h.added g.added h.added_is g.added_is;
+        added_is = outputs_append command i j g.after h.reported g.reported h.added g.added h.added_is g.added_is;
         text_is = behind_text s t u h.added g.added h.text_is g.text_is;
         why = subst (λ n. HaltsBy kind n g.rest fault) all g.why;
       }
 
 -- it halts before any item is whole
-pub Halts-here : (kind : Kind) (c : Command) (seen : List Bool) (s : Told) (bytes text text' : List ℕ) (fault : RunFault) → s.count ≤ 1000000 → text' ≡ text → HaltsBy kind s.count (seen ++ bits bytes) fault → Halts kind c seen s bytes text text' fault
+pub Halts-here : (kind : Kind) (c : Command) (seen : List Bool) (s : Reported) (bytes text text' : List ℕ) (fault : RunFault) → s.count ≤ 1000000 → text' ≡ text → HaltsBy kind s.count (seen ++ bits bytes) fault → Halts kind c seen s bytes text text' fault
 Halts-here kind c seen s bytes text text' fault few same why = record {
-  told = [];
+  reported = [];
   spelt = [];
   rest = seen ++ bits bytes;
   added = [];
@@ -142,10 +142,10 @@ more_awaits kind seen new r e f =
       viable = subst (λ z. Viable (Language kind) z) (sym all) f.1.1;
     }
 
-pub more_advances : (kind : Kind) (c : Command) (seen : List Bool) (bytes : List ℕ) (s : Progress) (told : Told) (text : List ℕ) → Feeds (EntryReads kind) seen (bits bytes) (Ok More) s → Advances kind c seen (seen_bits s) told told (take (length bytes) bytes) text text
-more_advances kind c seen bytes s told text f =
+pub more_advances : (kind : Kind) (c : Command) (seen : List Bool) (bytes : List ℕ) (s : Progress) (reported : Reported) (text : List ℕ) → Feeds (EntryReads kind) seen (bits bytes) (Ok More) s → Advances kind c seen (seen_bits s) reported reported (take (length bytes) bytes) text text
+more_advances kind c seen bytes s reported text f =
     record {
-      told = [];
+      reported = [];
       spelt = [];
       added = [];
       are_spelled = refl;
@@ -171,15 +171,15 @@ done_bits kind seen bytes k s f =
     ∙ sym (take-append-add seen (bits bytes) (8 * k))
     ∙ sym f.3.3
 
-pub done_advances : (kind : Kind) (c : Command) (seen seen' : List Bool) (bytes : List ℕ) (k : ℕ) (s : Progress) (i j : Told) (t u : List ℕ) (f : Feeds (EntryReads kind) seen (bits bytes) (Ok (Done k)) s) → seen' ≡ [] → (added : List ℕ) × TellsItem c f.0 i added j × (u ≡ t ++ added) → Advances kind c seen seen' i j (take k bytes) t u
+pub done_advances : (kind : Kind) (c : Command) (seen seen' : List Bool) (bytes : List ℕ) (k : ℕ) (s : Progress) (i j : Reported) (t u : List ℕ) (f : Feeds (EntryReads kind) seen (bits bytes) (Ok (Done k)) s) → seen' ≡ [] → (added : List ℕ) × OutputsItem c f.0 i added j × (u ≡ t ++ added) → Advances kind c seen seen' i j (take k bytes) t u
 done_advances kind c seen seen' bytes k s i j t u f none text =
     record {
-      told = f.0 ∷ [];
+      reported = f.0 ∷ [];
       spelt = spelled f.3.1;
       added = text.0;
       are_spelled = (f.3.1, [], f.3.2, sym (append-nil (spelled f.3.1)), refl);
       bits_are = done_bits kind seen bytes k s f ∙ sym (append-nil (spelled f.3.1)) ∙ ap (λ (z : List Bool). spelled f.3.1 ++ z) (sym none);
-      added_is = tells_one c i j f.0 text.0 text.1;
+      added_is = outputs_one c i j f.0 text.0 text.1;
       text_is = text.2;
     }
 

@@ -1,8 +1,8 @@
 -- What a run writes of its input, by its job.
 use Rattle.std.specs.Prelude.{◌≡◌, ℕ, ◌+◌, List, ◌++◌, length, ◌⊎◌}
 use Rattle.etcs_text.specs.Entries.{EntryValue}
-use Rattle.etcs_stream.specs.Told.{Told}
-use Rattle.etcs_stream.specs.Tellers.{TellsItems, ItemsText, Closes, nothing_told}
+use Rattle.etcs_stream.specs.Reported.{Reported}
+use Rattle.etcs_stream.specs.Printers.{OutputsItems, ItemsText, Closes, nothing_reported}
 use Rattle.etcs_stream.specs.declared.job.Job.{Job}
 use Rattle.etcs_stream.specs.declared.job.Tally.{Tally}
 use Rattle.etcs_runs.specs.declared.fault.RunFault.{RunFault}
@@ -21,46 +21,46 @@ EndsBy n (bad_json line) f = f ≡ BadJson line
 EndsBy n endless f = f ≡ Endless
 
 -- the text of the items that are whole in what is there of the input
-abbrev pub Tells : Job → List ℕ → List ℕ → Type 0
-Tells job given told = (es : List EntryValue) × WholeItems job.from job.kind given es × ItemsText job.command es told
+abbrev pub Outputs : Job → List ℕ → List ℕ → Type 0
+Outputs job given output = (es : List EntryValue) × WholeItems job.from job.kind given es × ItemsText job.command es output
 
 -- these bytes are a whole input of nothing but items, with this text and this tally
-pub record Ends (job : Job) (given told : List ℕ) (tally : Tally) : Type 0 where
+pub record Ends (job : Job) (given output : List ℕ) (tally : Tally) : Type 0 where
   pub items : List EntryValue
   pub items_of : ItemsOf job.from job.kind given items ended
   pub lines : List ℕ
   pub last : List ℕ
-  pub after : Told
-  pub text : TellsItems job.command nothing_told items lines after
+  pub after : Reported
+  pub text : OutputsItems job.command nothing_reported items lines after
   pub closes : Closes job.command after last tally
-  pub told_is : told ≡ lines ++ last
+  pub output_is : output ≡ lines ++ last
   pub items_are : tally.items ≡ length items
 
 -- and for some tally
 abbrev pub EndsWhole : Job → List ℕ → List ℕ → Type 0
-EndsWhole job given told = (tally : Tally) × Ends job given told tally
+EndsWhole job given output = (tally : Tally) × Ends job given output tally
 
 -- the text of the first items of an input that begins so
 abbrev pub Prints : Job → List ℕ → List ℕ → Type 0
-Prints job given told = (es : List EntryValue) × FirstItems job.from job.kind given es × ItemsText job.command es told
+Prints job given output = (es : List EntryValue) × FirstItems job.from job.kind given es × ItemsText job.command es output
 
 -- memory was refused after such items
 abbrev pub Starves : Job → List ℕ → List ℕ → RunFault → Type 0
-Starves job given told f = (f ≡ Memory) × Prints job given told
+Starves job given output f = (f ≡ Memory) × Prints job given output
 
 -- each input that begins with these bytes ends by the fault, after the items of this text; or memory was refused
 abbrev pub Stops : Job → List ℕ → List ℕ → RunFault → Type 0
-Stops job given told f = Starves job given told f ⊎ ((es : List EntryValue) × (end : End) × EndsBy (length es) end f × ItemsText job.command es told × ((more : List ℕ) → ItemsOf job.from job.kind (given ++ more) es end))
+Stops job given output f = Starves job given output f ⊎ ((es : List EntryValue) × (end : End) × EndsBy (length es) end f × ItemsText job.command es output × ((more : List ℕ) → ItemsOf job.from job.kind (given ++ more) es end))
 
 -- the input of these bytes does
 abbrev pub StopsAtEnd : Job → List ℕ → List ℕ → RunFault → Type 0
-StopsAtEnd job given told f = Starves job given told f ⊎ ((es : List EntryValue) × (end : End) × EndsBy (length es) end f × ItemsText job.command es told × ItemsOf job.from job.kind given es end)
+StopsAtEnd job given output f = Starves job given output f ⊎ ((es : List EntryValue) × (end : End) × EndsBy (length es) end f × ItemsText job.command es output × ItemsOf job.from job.kind given es end)
 
 -- what a run of the job promises
 abbrev pub promises : Job → Promises Tally
-promises job = record { Tells = Tells job; Ends = Ends job; Stops = Stops job; StopsAtEnd = StopsAtEnd job; Prints = Prints job }
+promises job = record { Outputs = Outputs job; Ends = Ends job; Stops = Stops job; StopsAtEnd = StopsAtEnd job; Prints = Prints job }
 
 -- memory was refused at the last piece that was read: all items that were whole before it are reported, and after them
 -- perhaps the next ones
 abbrev pub StarvesIn : Job → List ℕ → List ℕ → Type 0
-StarvesIn job given told = runs.StarvesIn (promises job) given told
+StarvesIn job given output = runs.StarvesIn (promises job) given output

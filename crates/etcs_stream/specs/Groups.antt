@@ -14,7 +14,7 @@ use Rattle.etcs_group.specs.Clashes.{IsFirstClash}
 use Rattle.etcs_group.specs.Messages.{IsWhole, IsGroupMessage}
 use Rattle.etcs_group.specs.GroupLines.{AreMissing, positions_text, trues}
 use Rattle.etcs_packet_text.specs.Packets.{packets_text}
-use Rattle.etcs_stream.specs.Told.{Told}
+use Rattle.etcs_stream.specs.Reported.{Reported}
 
 abbrev pub clash_name : Clash → List ℕ
 clash_name BadPosition = codes "BadPosition"
@@ -44,7 +44,7 @@ abbrev pub answer_line : ℕ → Result Added Clash → List ℕ
 answer_line item answer = codes "item " ++ decimal item ++ codes " " ++ answer_words answer ++ codes "\n"
 
 -- what is written of a telegram, and what is held then: it too where it fits those held
-pub record GroupItem (v : TelegramValue) (s : Told) (text : List ℕ) (s' : Told) : Type 0 where
+pub record GroupItem (v : TelegramValue) (s : Reported) (text : List ℕ) (s' : Reported) : Type 0 where
   pub telegram : TelegramContent
   pub made : IsTelegram telegram
   pub value_is : v ≡ telegram_value telegram

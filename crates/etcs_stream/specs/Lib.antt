@@ -1,9 +1,9 @@
 pub mod Lines
 pub mod Readers
 pub mod Streams
-pub mod Told
+pub mod Reported
 pub mod Groups
-pub mod Tellers
+pub mod Printers
 pub mod JsonItems
 pub mod Taking
 pub mod Inputs

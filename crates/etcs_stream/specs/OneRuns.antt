@@ -7,7 +7,7 @@ use Rattle.etcs_stream.specs.declared.job.Command.{Command}
 use Rattle.etcs_runs.specs.declared.form.Form.{Form}
 use Rattle.etcs_text.specs.Entries.{EntryValue}
 use Rattle.etcs_stream.specs.Groups.{LastLines}
-use Rattle.etcs_stream.specs.Tellers.{ItemsText}
+use Rattle.etcs_stream.specs.Printers.{ItemsText}
 use Rattle.etcs_stream.specs.Inputs.{End, ItemsOf, WholeItems, FirstItems}
 
 -- an input has one list of items, and ends in one way

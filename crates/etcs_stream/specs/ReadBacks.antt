@@ -6,7 +6,7 @@ use Rattle.etcs_stream.specs.declared.job.Command.TheVariants.{Convert}
 use Rattle.etcs_runs.specs.declared.form.Form.{Form}
 use Rattle.etcs_stream.specs.Inputs.{ItemsOf, ended}
 use Rattle.etcs_stream.specs.Streams.{AreSpelled}
-use Rattle.etcs_stream.specs.Tellers.{ItemsText}
+use Rattle.etcs_stream.specs.Printers.{ItemsText}
 
 -- the text that a conversion writes of at most a million items of a kind is, in that form, these items and no more
 abbrev pub ReadBack : Type 0

@@ -14,4 +14,4 @@ pub record Awaits (kind : Kind) (r : ReaderValue) : Type 0 where
 
 -- an item was begun only where a run may have one more
 abbrev pub HasRoom : ℕ → List Bool → Type 0
-HasRoom told seen = 0 < length seen → told < 1000000
+HasRoom output seen = 0 < length seen → output < 1000000

@@ -4,8 +4,8 @@ use Rattle.etcs_bits.specs.Bits.{bits}
 use Rattle.etcs_vars.specs.Reading.{NoneYet, readings_of}
 use Rattle.etcs_runs.specs.declared.form.Form.TheVariants.{Hex, Bin, Json}
 use Rattle.etcs_text.specs.Entries.{EntryValue, EntryReads}
-use Rattle.etcs_stream.specs.Told.{Told}
-use Rattle.etcs_stream.specs.Tellers.{TellsItems, nothing_told}
+use Rattle.etcs_stream.specs.Reported.{Reported}
+use Rattle.etcs_stream.specs.Printers.{OutputsItems, nothing_reported}
 use Rattle.etcs_stream.specs.declared.job.Job.{Job}
 use Rattle.etcs_runs.specs.Lines.{IsLine, strip_cr, lines_text}
 use Rattle.etcs_stream.specs.Lines.{lines_bytes, AreGood}
@@ -15,7 +15,7 @@ use Rattle.etcs_stream.specs.Readers.{Awaits, HasRoom}
 use Rattle.etcs_stream.specs.Streams.{AreSpelled}
 
 -- of these bytes items were reported, and these bits of the next were seen
-pub record ItemsStand (job : Job) (seen : List Bool) (after : Told) (bytes told : List ℕ) : Type 0 where
+pub record ItemsStand (job : Job) (seen : List Bool) (after : Reported) (bytes output : List ℕ) : Type 0 where
   pub items : List EntryValue
   pub spelt : List Bool
   pub are_spelled : AreSpelled job.kind items spelt
@@ -24,14 +24,14 @@ pub record ItemsStand (job : Job) (seen : List Bool) (after : Told) (bytes told 
   pub few : after.count ≤ 1000000
   pub room : HasRoom after.count seen
   pub none_more : NoneYet (readings_of (EntryReads job.kind)) seen
-  pub text : TellsItems job.command nothing_told items told after
+  pub text : OutputsItems job.command nothing_reported items output after
 
 -- the bytes are the items
-abbrev pub BinStands : Job → ReaderValue → Told → List ℕ → List ℕ → Type 0
-BinStands job reader after given told = (job.from ≡ Bin) × Awaits job.kind reader × ItemsStand job (seen_bits reader.progress) after given told
+abbrev pub BinStands : Job → ReaderValue → Reported → List ℕ → List ℕ → Type 0
+BinStands job reader after given output = (job.from ≡ Bin) × Awaits job.kind reader × ItemsStand job (seen_bits reader.progress) after given output
 
 -- they are lines of hexadecimal, of which these characters of the last are kept
-pub record HexStands (job : Job) (reader : ReaderValue) (after : Told) (begun : List ℕ) (line : ℕ) (given told : List ℕ) : Type 0 where
+pub record HexStands (job : Job) (reader : ReaderValue) (after : Reported) (begun : List ℕ) (line : ℕ) (given output : List ℕ) : Type 0 where
   pub form : job.from ≡ Hex
   pub waits : Awaits job.kind reader
   pub lines : List (List ℕ)
@@ -39,23 +39,23 @@ pub record HexStands (job : Job) (reader : ReaderValue) (after : Told) (begun : 
   pub lines_good : AreGood lines
   pub is_line : IsLine begun
   pub line_is : line ≡ length lines
-  pub items : ItemsStand job (seen_bits reader.progress) after (lines_bytes lines) told
+  pub items : ItemsStand job (seen_bits reader.progress) after (lines_bytes lines) output
 
 -- ---- Lines.
 
 -- lines of hexadecimal were taken
-pub record HexTook (job : Job) (reader : ReaderValue) (after : Told) (lines : List (List ℕ)) (told : List ℕ) : Type 0 where
+pub record HexTook (job : Job) (reader : ReaderValue) (after : Reported) (lines : List (List ℕ)) (output : List ℕ) : Type 0 where
   pub form : job.from ≡ Hex
   pub waits : Awaits job.kind reader
   pub lines_good : AreGood lines
-  pub items : ItemsStand job (seen_bits reader.progress) after (lines_bytes lines) told
+  pub items : ItemsStand job (seen_bits reader.progress) after (lines_bytes lines) output
 
 -- lines of JSON were
-pub record JsonTook (job : Job) (after : Told) (lines : List (List ℕ)) (told : List ℕ) : Type 0 where
+pub record JsonTook (job : Job) (after : Reported) (lines : List (List ℕ)) (output : List ℕ) : Type 0 where
   pub form : job.from ≡ Json
   pub are_lines : All IsLine lines
   pub items : List EntryValue
   pub are_items : AreItemLines job.kind (map strip_cr lines) items
   pub count_is : after.count ≡ length items
   pub few : after.count ≤ 1000000
-  pub text : TellsItems job.command nothing_told items told after
+  pub text : OutputsItems job.command nothing_reported items output after

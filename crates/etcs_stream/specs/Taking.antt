@@ -7,8 +7,8 @@ use Rattle.etcs_vars.specs.declared.var.Var.{Var}
 use Rattle.etcs_text.specs.declared.entry.Kind.{Kind}
 use Rattle.etcs_stream.specs.declared.job.Command.{Command}
 use Rattle.etcs_text.specs.Entries.{EntryValue, EntryReads}
-use Rattle.etcs_stream.specs.Told.{Told}
-use Rattle.etcs_stream.specs.Tellers.{TellsItem, TellsItems}
+use Rattle.etcs_stream.specs.Reported.{Reported}
+use Rattle.etcs_stream.specs.Printers.{OutputsItem, OutputsItems}
 use Rattle.etcs_stream.specs.declared.job.Job.{Job}
 use Rattle.etcs_stream.specs.JsonItems.{IsItemLine, IsRefusedLine}
 use Rattle.etcs_runs.specs.declared.fault.RunFault.{RunFault}
@@ -18,17 +18,17 @@ use Rattle.etcs_stream.specs.Readers.{Awaits, HasRoom}
 use Rattle.etcs_stream.specs.Streams.{AreSpelled}
 
 -- with these bytes after the bits seen before, some items became whole and were reported, and bits are left
-pub record Advances (kind : Kind) (command : Command) (seen seen' : List Bool) (before after : Told) (bytes text text' : List ℕ) : Type 0 where
-  pub told : List EntryValue
+pub record Advances (kind : Kind) (command : Command) (seen seen' : List Bool) (before after : Reported) (bytes text text' : List ℕ) : Type 0 where
+  pub reported : List EntryValue
   pub spelt : List Bool
   pub added : List ℕ
-  pub are_spelled : AreSpelled kind told spelt
+  pub are_spelled : AreSpelled kind reported spelt
   pub bits_are : seen ++ bits bytes ≡ spelt ++ seen'
-  pub added_is : TellsItems command before told added after
+  pub added_is : OutputsItems command before reported added after
   pub text_is : text' ≡ text ++ added
 
 -- the first n of the bytes were taken, up to the end of an item or all of them
-pub record TakesFront (job : Job) (reader reader' : ReaderValue) (before after : Told) (bytes text text' : List ℕ) (n : ℕ) : Type 0 where
+pub record TakesFront (job : Job) (reader reader' : ReaderValue) (before after : Reported) (bytes text text' : List ℕ) (n : ℕ) : Type 0 where
   pub some : 0 < n
   pub within : n ≤ length bytes
   pub waits : Awaits job.kind reader'
@@ -48,37 +48,37 @@ HaltsBy kind n rest Endless = (n ≡ 1000000) × (0 < length rest)
 HaltsBy kind n rest Memory = Unit {0}
 
 -- with these bytes after the bits seen before, some items became whole and were reported, and then no more was taken
-pub record Halts (kind : Kind) (command : Command) (seen : List Bool) (before : Told) (bytes text text' : List ℕ) (fault : RunFault) : Type 0 where
-  pub told : List EntryValue
+pub record Halts (kind : Kind) (command : Command) (seen : List Bool) (before : Reported) (bytes text text' : List ℕ) (fault : RunFault) : Type 0 where
+  pub reported : List EntryValue
   pub spelt : List Bool
   pub rest : List Bool
   pub added : List ℕ
-  pub are_spelled : AreSpelled kind told spelt
+  pub are_spelled : AreSpelled kind reported spelt
   pub bits_are : seen ++ bits bytes ≡ spelt ++ rest
-  pub after : Told
-  pub few : before.count + length told ≤ 1000000
-  pub added_is : TellsItems command before told added after
+  pub after : Reported
+  pub few : before.count + length reported ≤ 1000000
+  pub added_is : OutputsItems command before reported added after
   pub text_is : text' ≡ text ++ added
-  pub why : HaltsBy kind (before.count + length told) rest fault
+  pub why : HaltsBy kind (before.count + length reported) rest fault
 
 -- of some items this text was written, and at most one more was counted
-pub record Says (command : Command) (before now : Told) (text text' : List ℕ) : Type 0 where
-  pub told : List EntryValue
+pub record Says (command : Command) (before now : Reported) (text text' : List ℕ) : Type 0 where
+  pub reported : List EntryValue
   pub added : List ℕ
-  pub after : Told
-  pub added_is : TellsItems command before told added after
+  pub after : Reported
+  pub added_is : OutputsItems command before reported added after
   pub text_is : text' ≡ text ++ added
   pub counted : now.count ≤ after.count + 1
 
 -- ---- Lines of JSON.
 
 -- the item of a line was reported; an empty line is none
-pub data TakesJson (job : Job) (line : List ℕ) (before after : Told) (text text' : List ℕ) : Type 0 where
+pub data TakesJson (job : Job) (line : List ℕ) (before after : Reported) (text text' : List ℕ) : Type 0 where
   empty_line : line ≡ [] → after ≡ before → text' ≡ text → TakesJson job line before after text text'
-  item_line : (e : EntryValue) (added : List ℕ) → IsItemLine job.kind line e → before.count < 1000000 → TellsItem job.command e before added after → text' ≡ text ++ added → TakesJson job line before after text text'
+  item_line : (e : EntryValue) (added : List ℕ) → IsItemLine job.kind line e → before.count < 1000000 → OutputsItem job.command e before added after → text' ≡ text ++ added → TakesJson job line before after text text'
 
 -- why it wasn't
-abbrev pub HaltsJson : Job → List ℕ → ℕ → Told → RunFault → Type 0
+abbrev pub HaltsJson : Job → List ℕ → ℕ → Reported → RunFault → Type 0
 HaltsJson job line number before (Refused item i x) = (item ≡ before.count + 1) × (before.count < 1000000) × IsRefusedLine job.kind line i x
 HaltsJson job line number before (Truncated item k) = ⊥
 HaltsJson job line number before (BadHex l place) = ⊥

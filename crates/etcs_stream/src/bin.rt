@@ -6,8 +6,8 @@ ghost use Rattle.etcs_stream.specs.Stands.{BinStands};
 ghost use Rattle.etcs_stream.specs.Taking.{Says};
 ghost use Rattle.etcs_stream.specs.Engines.{promises};
 ghost use Rattle.etcs_stream.specs.laws.Printing.{sound};
-ghost use Rattle.etcs_stream.specs.laws.StandLaws.{bin_tells};
-ghost use Rattle.etcs_stream.specs.Tellers.{IsGroupable, nothing_told};
+ghost use Rattle.etcs_stream.specs.laws.StandLaws.{bin_outputs};
+ghost use Rattle.etcs_stream.specs.Printers.{IsGroupable, nothing_reported};
 
 use crate::byte_items::ByteItems;
 use crate::job::{Job, Tally};
@@ -27,7 +27,7 @@ impl Bin {
         requires form { job.from ≡ form.Bin }
         requires groupable { IsGroupable job }
         ensures job { result.items.job ≡ job }
-        ensures stands { BinStands job result.items.reader result.items.teller [] [] }
+        ensures stands { BinStands job result.items.reader result.items.printer [] [] }
     {
         Bin {
             items: ByteItems::new(alloc, job),
@@ -44,9 +44,9 @@ impl Engine for Bin {
 
     ghost promises = { promises };
 
-    ghost stands = { λ s given told. BinStands s.items.job s.items.reader s.items.teller given told };
+    ghost stands = { λ s given output. BinStands s.items.job s.items.reader s.items.printer given output };
 
-    ghost said = { λ s told. Says s.items.job.command nothing_told s.items.teller [] told };
+    ghost said = { λ s output. Says s.items.job.command nothing_reported s.items.printer [] output };
 
     fn wanted(&self) -> usize {
         self.items.wanted()
@@ -62,5 +62,5 @@ impl Engine for Bin {
 
     ghost sound = { λ s. sound s.items.job };
 
-    ghost stands_tells = { λ s given told h. bin_tells s.items.job s.items.reader s.items.teller given told h };
+    ghost stands_outputs = { λ s given output h. bin_outputs s.items.job s.items.reader s.items.printer given output h };
 }

@@ -6,10 +6,10 @@ ghost use Rattle.etcs_runs.specs.declared.fault.RunFault.{RunFault};
 ghost use Rattle.etcs_text.specs.Readers.{seen_bits, reading, finished};
 ghost use Rattle.etcs_stream.specs.Readers.{Awaits, HasRoom};
 ghost use Rattle.etcs_stream.specs.Taking.{Advances, Halts, Says, TakesFront};
-ghost use Rattle.etcs_stream.specs.Tellers.{Closes, IsGroupable, TellsItem, nothing_told};
+ghost use Rattle.etcs_stream.specs.Printers.{Closes, IsGroupable, OutputsItem, nothing_reported};
 
 use crate::job::{Command, Job, Tally};
-use crate::teller::Teller;
+use crate::printer::Printer;
 use etcs_packet_text::inner::Page;
 use etcs_runs::RunFault;
 use etcs_runs::inner::MOST_READ;
@@ -27,7 +27,7 @@ pub(crate) struct ByteItems {
     alloc: Global,
     pub(crate) job: Job,
     pub(crate) reader: EntryReader,
-    pub(crate) teller: Teller,
+    pub(crate) printer: Printer,
     ghost groupable: { IsGroupable job },
 }
 
@@ -38,13 +38,13 @@ impl ByteItems {
         ensures job { result.job ≡ job }
         ensures waits { Awaits job.kind result.reader }
         ensures seen { seen_bits result.reader.progress ≡ [] }
-        ensures told { result.teller ≡ nothing_told }
+        ensures reported { result.printer ≡ nothing_reported }
     {
         ByteItems {
             alloc,
             job,
             reader: EntryReader::new(alloc, job.kind),
-            teller: Teller::new(),
+            printer: Printer::new(),
         }
     }
 
@@ -67,18 +67,18 @@ impl ByteItems {
     ///
     /// # Errors
     ///
-    /// `Refused` with the number of the item, `Endless` where there is a byte after the last item that a run may have,
-    /// `Memory`. The text of the items in front was appended.
+    /// `Refused` with the number of the item, bit and variable; `Endless` if there is a byte after the last item that a run
+    /// may have; `Memory`. The text of the items before was appended, but after `Memory` perhaps not of all.
     pub(crate) fn take_bytes(&mut self, bytes: &[u8], text: &mut Vec<u8>) -> Result<(), RunFault>
         requires waits { Awaits self.old.job.kind self.old.reader }
-        requires told { self.old.teller.count ≤ 1000000 }
+        requires reported { self.old.printer.count ≤ 1000000 }
         ensures job { self.new.job ≡ self.old.job }
         ensures waits { OnOk result (Awaits self.old.job.kind self.new.reader) }
-        ensures told { OnOk result (self.new.teller.count ≤ 1000000) }
-        ensures room { HasRoom self.old.teller.count (seen_bits self.old.reader.progress) → OnOk result (HasRoom self.new.teller.count (seen_bits self.new.reader.progress)) }
-        ensures ok { OnOk result (Advances self.old.job.kind self.old.job.command (seen_bits self.old.reader.progress) (seen_bits self.new.reader.progress) self.old.teller self.new.teller bytes.now text.old.items text.new.items) }
-        ensures err { IfErr result (λ e. Halts self.old.job.kind self.old.job.command (seen_bits self.old.reader.progress) self.old.teller bytes.now text.old.items text.new.items e) }
-        ensures said { OnErr result (Says self.old.job.command self.old.teller self.new.teller text.old.items text.new.items) }
+        ensures reported { OnOk result (self.new.printer.count ≤ 1000000) }
+        ensures room { HasRoom self.old.printer.count (seen_bits self.old.reader.progress) → OnOk result (HasRoom self.new.printer.count (seen_bits self.new.reader.progress)) }
+        ensures ok { OnOk result (Advances self.old.job.kind self.old.job.command (seen_bits self.old.reader.progress) (seen_bits self.new.reader.progress) self.old.printer self.new.printer bytes.now text.old.items text.new.items) }
+        ensures err { IfErr result (λ e. Halts self.old.job.kind self.old.job.command (seen_bits self.old.reader.progress) self.old.printer bytes.now text.old.items text.new.items e) }
+        ensures said { OnErr result (Says self.old.job.command self.old.printer self.new.printer text.old.items text.new.items) }
     {
         let mut page = Page::open(text);
         let taken = self.take_items(bytes, &mut page);
@@ -89,14 +89,14 @@ impl ByteItems {
     /// Takes bytes, and appends the text of each item that becomes whole to the page, as of [`ByteItems::take_bytes`].
     fn take_items(&mut self, bytes: &[u8], page: &mut Page) -> Result<(), RunFault>
         requires waits { Awaits self.old.job.kind self.old.reader }
-        requires told { self.old.teller.count ≤ 1000000 }
+        requires reported { self.old.printer.count ≤ 1000000 }
         ensures job { self.new.job ≡ self.old.job }
         ensures waits { OnOk result (Awaits self.old.job.kind self.new.reader) }
-        ensures told { OnOk result (self.new.teller.count ≤ 1000000) }
-        ensures room { HasRoom self.old.teller.count (seen_bits self.old.reader.progress) → OnOk result (HasRoom self.new.teller.count (seen_bits self.new.reader.progress)) }
-        ensures ok { OnOk result (Advances self.old.job.kind self.old.job.command (seen_bits self.old.reader.progress) (seen_bits self.new.reader.progress) self.old.teller self.new.teller bytes.now page.old page.new) }
-        ensures err { IfErr result (λ e. Halts self.old.job.kind self.old.job.command (seen_bits self.old.reader.progress) self.old.teller bytes.now page.old page.new e) }
-        ensures said { OnErr result (Says self.old.job.command self.old.teller self.new.teller page.old page.new) }
+        ensures reported { OnOk result (self.new.printer.count ≤ 1000000) }
+        ensures room { HasRoom self.old.printer.count (seen_bits self.old.reader.progress) → OnOk result (HasRoom self.new.printer.count (seen_bits self.new.reader.progress)) }
+        ensures ok { OnOk result (Advances self.old.job.kind self.old.job.command (seen_bits self.old.reader.progress) (seen_bits self.new.reader.progress) self.old.printer self.new.printer bytes.now page.old page.new) }
+        ensures err { IfErr result (λ e. Halts self.old.job.kind self.old.job.command (seen_bits self.old.reader.progress) self.old.printer bytes.now page.old page.new e) }
+        ensures said { OnErr result (Says self.old.job.command self.old.printer self.new.printer page.old page.new) }
     {
         let mut rest = bytes;
         while !rest.is_empty() {
@@ -106,26 +106,26 @@ impl ByteItems {
         Ok(())
     }
 
-    /// The input ends here: appends what the command writes then.
+    /// Ends the input: appends what the command writes then.
     ///
     /// # Errors
     ///
-    /// `Truncated` inside an item, with the number of its bits; `Memory`. Nothing was appended.
+    /// `Truncated` if an item isn't whole, with the number of its bits; `Memory`. Nothing was appended.
     pub(crate) fn finish(&self, text: &mut Vec<u8>) -> Result<Tally, RunFault>
         requires waits { Awaits self.now.job.kind self.now.reader }
-        requires told { self.now.teller.count ≤ 1000000 }
+        requires reported { self.now.printer.count ≤ 1000000 }
         ensures whole { OnOk result (seen_bits self.now.reader.progress ≡ []) }
-        ensures ok { IfOk result (λ tally. (last : List ℕ) × Closes self.now.job.command self.now.teller last tally × (text.new.items ≡ text.old.items ++ last)) }
-        ensures err { IfErr result (λ e. (text.new.items ≡ text.old.items) × (((e ≡ RunFault.Truncated (self.now.teller.count + 1) (length (seen_bits self.now.reader.progress))) × (0 < length (seen_bits self.now.reader.progress))) ⊎ (e ≡ RunFault.Memory))) }
+        ensures ok { IfOk result (λ tally. (last : List ℕ) × Closes self.now.job.command self.now.printer last tally × (text.new.items ≡ text.old.items ++ last)) }
+        ensures err { IfErr result (λ e. (text.new.items ≡ text.old.items) × (((e ≡ RunFault.Truncated (self.now.printer.count + 1) (length (seen_bits self.now.reader.progress))) × (0 < length (seen_bits self.now.reader.progress))) ⊎ (e ≡ RunFault.Memory))) }
     {
         let bits = self.reader.bits_seen();
         if bits > 0 {
             return Err(RunFault::Truncated {
-                item: self.teller.count() + 1,
+                item: self.printer.count() + 1,
                 bits: bits as u64,
             });
         }
-        match self.teller.close(self.job.command, text) {
+        match self.printer.close(self.job.command, text) {
             Ok(tally) => Ok(tally),
             Err(AllocError) => Err(RunFault::Memory),
         }
@@ -136,22 +136,22 @@ impl ByteItems {
     fn take_front(&mut self, bytes: &[u8], page: &mut Page) -> Result<usize, RunFault>
         requires some { 0 < length bytes.now }
         requires waits { Awaits self.old.job.kind self.old.reader }
-        requires told { self.old.teller.count ≤ 1000000 }
+        requires reported { self.old.printer.count ≤ 1000000 }
         ensures job { self.new.job ≡ self.old.job }
-        ensures ok { IfOk result (λ n. TakesFront self.old.job self.old.reader self.new.reader self.old.teller self.new.teller bytes.now page.old page.new n) }
-        ensures err { IfErr result (λ e. Halts self.old.job.kind self.old.job.command (seen_bits self.old.reader.progress) self.old.teller bytes.now page.old page.new e × Says self.old.job.command self.old.teller self.new.teller page.old page.new) }
+        ensures ok { IfOk result (λ n. TakesFront self.old.job self.old.reader self.new.reader self.old.printer self.new.printer bytes.now page.old page.new n) }
+        ensures err { IfErr result (λ e. Halts self.old.job.kind self.old.job.command (seen_bits self.old.reader.progress) self.old.printer bytes.now page.old page.new e × Says self.old.job.command self.old.printer self.new.printer page.old page.new) }
     {
-        if self.teller.count() == MOST_ITEMS {
+        if self.printer.count() == MOST_ITEMS {
             return Err(RunFault::Endless);
         }
         match self.reader.feed(bytes) {
             Ok(Fed::More) => Ok(bytes.len()),
             Ok(Fed::Done { taken }) => {
-                self.tell(page)?;
+                self.print(page)?;
                 Ok(taken)
             }
             Err(ReadFault::Refused { bit, var }) => Err(RunFault::Refused {
-                item: self.teller.count() + 1,
+                item: self.printer.count() + 1,
                 bit,
                 var,
             }),
@@ -161,14 +161,14 @@ impl ByteItems {
     }
 
     /// Appends the text of the whole item, and begins the next.
-    fn tell(&mut self, page: &mut Page) -> Result<(), RunFault>
+    fn print(&mut self, page: &mut Page) -> Result<(), RunFault>
         requires kind { self.old.reader.kind ≡ self.old.job.kind }
         requires whole { (e : EntryValue) × (self.old.reader.progress ≡ finished e) × (entry_kind e ≡ self.old.job.kind) }
-        requires told { self.old.teller.count < 1000000 }
+        requires reported { self.old.printer.count < 1000000 }
         ensures job { self.new.job ≡ self.old.job }
         ensures next { OnOk result (self.new.reader ≡ record { kind = self.old.job.kind; progress = reading [] }) }
-        ensures told { self.new.teller.count ≡ self.old.teller.count + 1 }
-        ensures ok { (e : EntryValue) → self.old.reader.progress ≡ finished e → OnOk result ((added : List ℕ) × TellsItem self.old.job.command e self.old.teller added self.new.teller × (page.new ≡ page.old ++ added)) }
+        ensures reported { self.new.printer.count ≡ self.old.printer.count + 1 }
+        ensures ok { (e : EntryValue) → self.old.reader.progress ≡ finished e → OnOk result ((added : List ℕ) × OutputsItem self.old.job.command e self.old.printer added self.new.printer × (page.new ≡ page.old ++ added)) }
         ensures err { IfErr result (λ e. (e ≡ RunFault.Memory) × (page.new ≡ page.old)) }
     {
         let entry = match self.reader.next() {
@@ -177,14 +177,14 @@ impl ByteItems {
         };
         let command = self.job.command;
         if command == Command::Group {
-            return match self.teller.tell_grouped(entry, page) {
+            return match self.printer.print_grouped(entry, page) {
                 Ok(()) => Ok(()),
                 Err(AllocError) => Err(RunFault::Memory),
             };
         }
-        let told = self.teller.tell_alone(command, &entry, page);
+        let printed = self.printer.print_alone(command, &entry, page);
         self.reader.reuse(entry);
-        match told {
+        match printed {
             Ok(()) => Ok(()),
             Err(AllocError) => Err(RunFault::Memory),
         }

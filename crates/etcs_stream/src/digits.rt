@@ -19,8 +19,8 @@ fn first_bad(line: &[u8]) -> usize
         .count()
 }
 
-/// Writes the bytes that a line says to the front of `buffer`, and says how many they are, or answers
-/// the place at which the line isn't hexadecimal.
+/// Writes the bytes of a line of hexadecimal digits to the front of `buffer` and returns how many they are; or returns the
+/// place, from 0, at which the line is bad.
 pub(crate) fn decode_line(line: &[u8], buffer: &mut [u8]) -> Result<usize, usize>
     requires { length buffer.old ≡ 2048 }
     ensures good { OnOk result (bad_place line.now ≡ None) }

@@ -8,10 +8,10 @@ ghost use Rattle.etcs_stream.specs.Lines.{bad_place, line_bytes, most_characters
 ghost use Rattle.etcs_text.specs.Readers.{seen_bits};
 ghost use Rattle.etcs_stream.specs.Readers.{Awaits, HasRoom};
 ghost use Rattle.etcs_stream.specs.laws.Printing.{sound};
-ghost use Rattle.etcs_stream.specs.laws.StandLaws.{hex_long, hex_said, hex_tells};
+ghost use Rattle.etcs_stream.specs.laws.StandLaws.{hex_long, hex_outputs, hex_said};
 ghost use Rattle.etcs_stream.specs.Stands.{HexTook};
 ghost use Rattle.etcs_stream.specs.Taking.{Advances, Halts, Says};
-ghost use Rattle.etcs_stream.specs.Tellers.{IsGroupable, nothing_told};
+ghost use Rattle.etcs_stream.specs.Printers.{IsGroupable, nothing_reported};
 
 use crate::byte_items::ByteItems;
 use crate::digits::{MOST_CHARACTERS, decode_line};
@@ -33,7 +33,7 @@ impl HexLines {
         requires form { job.from ≡ form.Hex }
         requires groupable { IsGroupable job }
         ensures job { result.items.job ≡ job }
-        ensures took { HexTook job result.items.reader result.items.teller [] [] }
+        ensures took { HexTook job result.items.reader result.items.printer [] [] }
     {
         HexLines {
             items: ByteItems::new(alloc, job),
@@ -43,15 +43,15 @@ impl HexLines {
     /// Gives the bytes of a line to the items. The line is checked before any of it is used.
     fn handle(&mut self, line: &[u8], number: u64, text: &mut Vec<u8>) -> Result<(), RunFault>
         requires waits { Awaits self.old.items.job.kind self.old.items.reader }
-        requires told { self.old.items.teller.count ≤ 1000000 }
+        requires reported { self.old.items.printer.count ≤ 1000000 }
         ensures job { self.new.items.job ≡ self.old.items.job }
         ensures good { OnOk result (bad_place line.now ≡ None) }
         ensures waits { OnOk result (Awaits self.old.items.job.kind self.new.items.reader) }
-        ensures told { OnOk result (self.new.items.teller.count ≤ 1000000) }
-        ensures room { HasRoom self.old.items.teller.count (seen_bits self.old.items.reader.progress) → OnOk result (HasRoom self.new.items.teller.count (seen_bits self.new.items.reader.progress)) }
-        ensures ok { OnOk result (Advances self.old.items.job.kind self.old.items.job.command (seen_bits self.old.items.reader.progress) (seen_bits self.new.items.reader.progress) self.old.items.teller self.new.items.teller (line_bytes line.now) text.old.items text.new.items) }
-        ensures err { IfErr result (λ e. ((place : ℕ) × (bad_place line.now ≡ Some place) × (e ≡ RunFault.BadHex number place) × (text.new.items ≡ text.old.items)) ⊎ ((bad_place line.now ≡ None) × Halts self.old.items.job.kind self.old.items.job.command (seen_bits self.old.items.reader.progress) self.old.items.teller (line_bytes line.now) text.old.items text.new.items e)) }
-        ensures said { OnErr result (Says self.old.items.job.command self.old.items.teller self.new.items.teller text.old.items text.new.items) }
+        ensures reported { OnOk result (self.new.items.printer.count ≤ 1000000) }
+        ensures room { HasRoom self.old.items.printer.count (seen_bits self.old.items.reader.progress) → OnOk result (HasRoom self.new.items.printer.count (seen_bits self.new.items.reader.progress)) }
+        ensures ok { OnOk result (Advances self.old.items.job.kind self.old.items.job.command (seen_bits self.old.items.reader.progress) (seen_bits self.new.items.reader.progress) self.old.items.printer self.new.items.printer (line_bytes line.now) text.old.items text.new.items) }
+        ensures err { IfErr result (λ e. ((place : ℕ) × (bad_place line.now ≡ Some place) × (e ≡ RunFault.BadHex number place) × (text.new.items ≡ text.old.items)) ⊎ ((bad_place line.now ≡ None) × Halts self.old.items.job.kind self.old.items.job.command (seen_bits self.old.items.reader.progress) self.old.items.printer (line_bytes line.now) text.old.items text.new.items e)) }
+        ensures said { OnErr result (Says self.old.items.job.command self.old.items.printer self.new.items.printer text.old.items text.new.items) }
     {
         if line.is_empty() {
             return Ok(());
@@ -78,9 +78,9 @@ impl LineHandler for HexLines {
 
     ghost most = { λ job. most_characters job.from };
 
-    ghost took = { λ s lines told. HexTook s.items.job s.items.reader s.items.teller lines told };
+    ghost took = { λ s lines output. HexTook s.items.job s.items.reader s.items.printer lines output };
 
-    ghost said = { λ s told. Says s.items.job.command nothing_told s.items.teller [] told };
+    ghost said = { λ s output. Says s.items.job.command nothing_reported s.items.printer [] output };
 
     fn most(&self) -> usize {
         MOST_CHARACTERS
@@ -118,9 +118,9 @@ impl LineHandler for HexLines {
 
     ghost sound = { λ s. sound s.items.job };
 
-    ghost took_tells = { λ s lines begun told h l. hex_tells s.items.job s.items.reader s.items.teller lines begun told h l };
+    ghost took_outputs = { λ s lines begun output h l. hex_outputs s.items.job s.items.reader s.items.printer lines begun output h l };
 
-    ghost long_tells = { λ s lines part told h l long. hex_long s.items.job s.items.reader s.items.teller lines part told h l long };
+    ghost long_outputs = { λ s lines part output h l long. hex_long s.items.job s.items.reader s.items.printer lines part output h l long };
 
-    ghost took_said = { λ s lines told h. hex_said s.items.job s.items.reader s.items.teller lines told h };
+    ghost took_said = { λ s lines output h. hex_said s.items.job s.items.reader s.items.printer lines output h };
 }

@@ -2,7 +2,7 @@
 
 ghost use Rattle.std.specs.Prelude.{◌↔◌, IsTrue};
 ghost use Rattle.etcs_text.specs.Kinds.{IsOfTelegrams};
-ghost use Rattle.etcs_stream.specs.Tellers.{IsGroupable};
+ghost use Rattle.etcs_stream.specs.Printers.{IsGroupable};
 
 use etcs_runs::Form;
 use etcs_text::Kind;
@@ -12,16 +12,16 @@ use etcs_text::Kind;
 pub enum Command {
     /// Each item is written as lines of text.
     Show,
-    /// Each item is written as a line that says that it was accepted.
+    /// Each item is written as a line that reports it as accepted.
     Check,
     /// Each item is written in this form.
     Convert(Form),
-    /// The items are the telegrams of a balise group, in any order: of each a line says what it is to those before it,
-    /// and at the end the message of the group is written, or which positions are missing.
+    /// The items are the telegrams of a balise group, in any order: a line for each says whether it is new, a repeat or a
+    /// clash; at the end the message of the group is written, or which positions are missing.
     Group,
 }
 
-/// One run.
+/// What a run is asked to do.
 #[derive(Clone, Copy, Debug, PartialEq, Eq)]
 pub struct Job {
     /// What the input holds.
@@ -33,7 +33,7 @@ pub struct Job {
 }
 
 impl Job {
-    /// Whether it can be done: messages aren't grouped.
+    /// Whether the job can be done: only telegrams are grouped.
     pub fn is_groupable(&self) -> bool
         ensures { IsTrue result ↔ IsGroupable self.now }
     {
@@ -48,13 +48,13 @@ fn is_of_telegrams(kind: Kind) -> bool
     matches!(kind, Kind::Long | Kind::Short)
 }
 
-/// What a whole run met.
+/// What a run found in its input.
 #[derive(Clone, Copy, Debug, PartialEq, Eq)]
 pub struct Tally {
     /// How many items were reported.
     pub items: u64,
-    /// How many telegrams of a group clash with those before them: 0 where nothing is grouped.
+    /// How many telegrams clash with those before them; 0 unless the command is `Group`.
     pub clashes: u64,
-    /// Whether the group is whole: true where nothing is grouped.
+    /// Whether the group is complete; true unless the command is `Group`.
     pub complete: bool,
 }

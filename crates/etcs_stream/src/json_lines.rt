@@ -8,14 +8,14 @@ ghost use Rattle.etcs_stream.specs.Engines.{promises};
 ghost use Rattle.etcs_stream.specs.JsonItems.{IsItemLine};
 ghost use Rattle.etcs_stream.specs.Lines.{most_characters};
 ghost use Rattle.etcs_stream.specs.laws.Printing.{sound};
-ghost use Rattle.etcs_stream.specs.laws.StandLaws.{json_long, json_said, json_tells};
+ghost use Rattle.etcs_stream.specs.laws.StandLaws.{json_long, json_outputs, json_said};
 ghost use Rattle.etcs_stream.specs.Stands.{JsonTook};
 ghost use Rattle.etcs_stream.specs.Taking.{TakesJson, HaltsJson, Says};
-ghost use Rattle.etcs_stream.specs.Tellers.{Closes, IsGroupable, nothing_told};
+ghost use Rattle.etcs_stream.specs.Printers.{Closes, IsGroupable, nothing_reported};
 
 use crate::byte_items::MOST_ITEMS;
 use crate::job::{Job, Tally};
-use crate::teller::Teller;
+use crate::printer::Printer;
 use etcs_json::{JsonFault, from_line};
 use etcs_packet_text::inner::Page;
 use etcs_runs::inner::LineHandler;
@@ -28,7 +28,7 @@ use std::alloc::{AllocError, Global};
 pub(crate) struct JsonLines {
     alloc: Global,
     job: Job,
-    teller: Teller,
+    printer: Printer,
     ghost form: { job.from ≡ form.Json },
     ghost groupable: { IsGroupable job },
 }
@@ -39,12 +39,12 @@ impl JsonLines {
         requires form { job.from ≡ form.Json }
         requires groupable { IsGroupable job }
         ensures job { result.job ≡ job }
-        ensures took { JsonTook job result.teller [] [] }
+        ensures took { JsonTook job result.printer [] [] }
     {
         JsonLines {
             alloc,
             job,
-            teller: Teller::new(),
+            printer: Printer::new(),
         }
     }
 
@@ -56,9 +56,9 @@ impl JsonLines {
     /// packets were typed and no item has its bits; `Memory`.
     fn entry_in(&self, line: &[u8], number: u64) -> Result<Entry, RunFault>
         requires some { 0 < length line.now }
-        requires few { self.now.teller.count < 1000000 }
+        requires few { self.now.printer.count < 1000000 }
         ensures ok { IfOk result (λ e. IsItemLine self.now.job.kind line.now (entry_value e)) }
-        ensures err { IfErr result (λ e. HaltsJson self.now.job line.now number self.now.teller e) }
+        ensures err { IfErr result (λ e. HaltsJson self.now.job line.now number self.now.printer e) }
     {
         if line.len() > MOST_LINE {
             return Err(RunFault::BadJson { line: number });
@@ -67,7 +67,7 @@ impl JsonLines {
             Ok(entry) => Ok(entry),
             Err(JsonFault::Shape) => Err(RunFault::BadJson { line: number }),
             Err(JsonFault::Refused { bit, var }) => Err(RunFault::Refused {
-                item: self.teller.count() + 1,
+                item: self.printer.count() + 1,
                 bit,
                 var,
             }),
@@ -81,23 +81,23 @@ impl JsonLines {
     ///
     /// `Endless` where a run may have no more items, else as of `entry_in`. Nothing was appended.
     fn handle(&mut self, line: &[u8], number: u64, text: &mut Vec<u8>) -> Result<(), RunFault>
-        requires told { self.old.teller.count ≤ 1000000 }
+        requires reported { self.old.printer.count ≤ 1000000 }
         ensures job { self.new.job ≡ self.old.job }
-        ensures ok { OnOk result (TakesJson self.old.job line.now self.old.teller self.new.teller text.old.items text.new.items) }
-        ensures err { IfErr result (λ e. HaltsJson self.old.job line.now number self.old.teller e × (text.new.items ≡ text.old.items)) }
-        ensures said { OnErr result (Says self.old.job.command self.old.teller self.new.teller text.old.items text.new.items) }
+        ensures ok { OnOk result (TakesJson self.old.job line.now self.old.printer self.new.printer text.old.items text.new.items) }
+        ensures err { IfErr result (λ e. HaltsJson self.old.job line.now number self.old.printer e × (text.new.items ≡ text.old.items)) }
+        ensures said { OnErr result (Says self.old.job.command self.old.printer self.new.printer text.old.items text.new.items) }
     {
         if line.is_empty() {
             return Ok(());
         }
-        if self.teller.count() == MOST_ITEMS {
+        if self.printer.count() == MOST_ITEMS {
             return Err(RunFault::Endless);
         }
         let entry = self.entry_in(line, number)?;
         let mut page = Page::open(text);
-        let told = self.teller.tell(self.job.command, entry, &mut page);
+        let printed = self.printer.print(self.job.command, entry, &mut page);
         *text = page.into_text();
-        match told {
+        match printed {
             Ok(()) => Ok(()),
             Err(AllocError) => Err(RunFault::Memory),
         }
@@ -105,10 +105,10 @@ impl JsonLines {
 
     /// The input ends here: appends what the command writes then, or nothing.
     fn end(&self, text: &mut Vec<u8>) -> Result<Tally, RunFault>
-        ensures ok { IfOk result (λ tally. (last : List ℕ) × Closes self.now.job.command self.now.teller last tally × (text.new.items ≡ text.old.items ++ last)) }
+        ensures ok { IfOk result (λ tally. (last : List ℕ) × Closes self.now.job.command self.now.printer last tally × (text.new.items ≡ text.old.items ++ last)) }
         ensures err { IfErr result (λ e. (text.new.items ≡ text.old.items) × (e ≡ RunFault.Memory)) }
     {
-        match self.teller.close(self.job.command, text) {
+        match self.printer.close(self.job.command, text) {
             Ok(tally) => Ok(tally),
             Err(AllocError) => Err(RunFault::Memory),
         }
@@ -126,9 +126,9 @@ impl LineHandler for JsonLines {
 
     ghost most = { λ job. most_characters job.from };
 
-    ghost took = { λ s lines told. JsonTook s.job s.teller lines told };
+    ghost took = { λ s lines output. JsonTook s.job s.printer lines output };
 
-    ghost said = { λ s told. Says s.job.command nothing_told s.teller [] told };
+    ghost said = { λ s output. Says s.job.command nothing_reported s.printer [] output };
 
     fn most(&self) -> usize {
         MOST_LINE
@@ -144,7 +144,7 @@ impl LineHandler for JsonLines {
     }
 
     fn refuse_long(&mut self, number: u64, _text: &mut Vec<u8>) -> Result<(), RunFault> {
-        if self.teller.count() == MOST_ITEMS {
+        if self.printer.count() == MOST_ITEMS {
             Err(RunFault::Endless)
         } else {
             Err(RunFault::BadJson { line: number })
@@ -167,9 +167,9 @@ impl LineHandler for JsonLines {
 
     ghost sound = { λ s. sound s.job };
 
-    ghost took_tells = { λ s lines begun told h l. json_tells s.job s.teller lines begun told h l };
+    ghost took_outputs = { λ s lines begun output h l. json_outputs s.job s.printer lines begun output h l };
 
-    ghost long_tells = { λ s lines part told h l long. json_long s.job s.teller lines part told h l long };
+    ghost long_outputs = { λ s lines part output h l long. json_long s.job s.printer lines part output h l long };
 
-    ghost took_said = { λ s lines told h. json_said s.job s.teller lines told h };
+    ghost took_said = { λ s lines output h. json_said s.job s.printer lines output h };
 }

@@ -3,9 +3,9 @@
 ghost use Rattle.etcs_stream.specs.OneRuns.{OneEnd, OneFront, OneLast, OneText, OneWhole};
 ghost use Rattle.etcs_stream.specs.ReadBacks.{ReadBack};
 
-/// What `run` says of an input is said of one run. The input has one list of items and ends in one way, and a part of
-/// it has one list of whole items; first items of it are the front of that list; items have one text; and the last lines
-/// of a group are one text.
+/// The clauses of `run` leave only one result for an input. An input has one list of items and ends in one way; a part of
+/// it has one list of whole items; any first items of it are the front of that list; items have one text; and so have the
+/// last lines of a group.
 pub fn one_run()
     ensures end { OneEnd }
     ensures whole { OneWhole }
@@ -14,9 +14,9 @@ pub fn one_run()
     ensures last { OneLast }
 {}
 
-/// What a conversion writes is read again. The text that it writes of at most 1,000,000 items of one kind, each of which
-/// has a spelling, has in that form these items, in order, and then it ends. So what is written of one item is that item
-/// alone.
+/// What a conversion writes is read back as the same items. The text that it writes for at most 1,000,000 items of one
+/// kind, each of which has a spelling, consists in that form of exactly these items, in order. So the text of one item is
+/// read as that item alone.
 pub fn read_back()
     ensures { ReadBack }
 {}

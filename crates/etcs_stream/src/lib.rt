@@ -1,5 +1,5 @@
-//! A run: it reads items from a source, as lines of hexadecimal, bytes or lines of JSON, and writes what a command says of
-//! them to a sink. It takes any reader and writer.
+//! A run: it reads items from a source, as lines of hexadecimal digits, as bytes or as lines of JSON, and writes what a
+//! command asks for to a sink. It takes any reader and writer.
 //!
 //! ```rust
 //! let job = Job { kind: Kind::Long, from: Form::Hex, command: Command::Convert(Form::Json) };
@@ -21,8 +21,8 @@ mod hex_lines;
 mod job;
 mod json_lines;
 pub mod laws;
+mod printer;
 mod runs;
-mod teller;
 
 pub use etcs_json::{JsonFault, Value, from_value, to_value};
 pub use etcs_runs::{Failed, Form, Input, Output, RunFault, Sink, Source, write_fault};

@@ -5,8 +5,8 @@ ghost use Rattle.std.specs.Io.KnownBytes.{Consumes, IsAtEnd};
 ghost use Rattle.etcs_runs.specs.Ends.{FailedBy, FlushedOnlyWhere};
 ghost use Rattle.etcs_runs.specs.declared.fault.RunFault.{RunFault};
 ghost use Rattle.etcs_runs.specs.Faults.{IsOfEngine};
-ghost use Rattle.etcs_stream.specs.Engines.{Tells, Ends, EndsWhole, Stops, StopsAtEnd, StarvesIn, Prints, promises};
-ghost use Rattle.etcs_stream.specs.Tellers.{IsGroupable};
+ghost use Rattle.etcs_stream.specs.Engines.{Outputs, Ends, EndsWhole, Stops, StopsAtEnd, StarvesIn, Prints, promises};
+ghost use Rattle.etcs_stream.specs.Printers.{IsGroupable};
 ghost use Rattle.etcs_runs.specs.Pipes.{Piped, PipedFirst};
 ghost use Rattle.etcs_runs.specs.Runs.{Ran};
 
@@ -21,17 +21,19 @@ use std::alloc::Global;
 /// How many reads a run has at most.
 const MOST_READS: u64 = 16_000_000;
 
-/// Does the job, which groups no messages: reads the items of the input, and writes of each what the command says, once it
-/// is whole; for a group, last lines at the end. Items of bytes and of hexadecimal are one after another, and a line's
-/// end doesn't end an item; of JSON each line is one. Empty lines are passed over.
+/// Does the job, which must group no messages: reads the items of the input and writes what the command writes of each,
+/// once it is whole; for a group it also writes last lines at the end. In bytes and in hexadecimal the items follow one
+/// another, and the end of a line doesn't end an item; in JSON each line is one item. Empty lines are skipped.
 ///
 /// # Errors
 ///
-/// - [`RunFault::Refused`] and [`RunFault::Truncated`] of an item, [`RunFault::BadHex`] and [`RunFault::BadJson`] of a line;
-/// - [`RunFault::Read`] and [`RunFault::Write`] of a call that failed, the latter with how many bytes of the text the sink
+/// - [`RunFault::Refused`] if no item continues with a bit, [`RunFault::Truncated`] if the input ends inside an item;
+/// - [`RunFault::BadHex`] if a line isn't pairs of hexadecimal digits or has more than 4,096 characters,
+///   [`RunFault::BadJson`] if no item of the kind has the JSON of a line;
+/// - [`RunFault::Read`] if a read failed, [`RunFault::Write`] if a write failed, with how many bytes of the text the sink
 ///   took;
-/// - [`RunFault::Endless`] of more than 16,000,000 reads or 1,000,000 items;
-/// - [`RunFault::Memory`] of a refused allocation.
+/// - [`RunFault::Endless`] for an input of more than 16,000,000 reads or 1,000,000 items;
+/// - [`RunFault::Memory`] if memory was refused.
 ///
 /// The text of the items that were whole before a fault is written first, unless memory or the sink fails.
 pub fn run<S: Source, W: Sink>(
@@ -44,13 +46,13 @@ pub fn run<S: Source, W: Sink>(
     requires reads { S.reads source.old < 2 ^ 63 }
     requires read_failures { S.failures source.old < 2 ^ 63 }
     requires write_failures { W.failures sink.old < 2 ^ 63 }
-    ensures ok { IfOk result (λ tally. Piped (λ given told. Ends job given told tally) (S.remaining source.old) (S.remaining source.new) (W.contents sink.old) (W.contents sink.new)) }
+    ensures ok { IfOk result (λ tally. Piped (λ given output. Ends job given output tally) (S.remaining source.old) (S.remaining source.new) (W.contents sink.old) (W.contents sink.new)) }
     ensures at_end { OnOk result (IsAtEnd (S.remaining source.new) × (S.failures source.new ≡ S.failures source.old) × (W.failures sink.new ≡ W.failures sink.old)) }
-    ensures engine { IfErr result (λ e. IsOfEngine e → Piped (λ given told. Stops job given told e ⊎ ((IsAtEnd (S.remaining source.new) × StopsAtEnd job given told e) ⊎ ((e ≡ RunFault.Endless) × (S.reads source.new ≡ S.reads source.old + 16000000) × (16000000 ≤ length given) × Tells job given told))) (S.remaining source.old) (S.remaining source.new) (W.contents sink.old) (W.contents sink.new)) }
-    ensures read { result ≡ Err RunFault.Read → Piped (Tells job) (S.remaining source.old) (S.remaining source.new) (W.contents sink.old) (W.contents sink.new) }
-    ensures write { (n : ℕ) → result ≡ Err (RunFault.Write n) → PipedFirst n (λ given told. Prints job given told ⊎ (IsAtEnd (S.remaining source.new) × EndsWhole job given told)) (S.remaining source.old) (S.remaining source.new) (W.contents sink.old) (W.contents sink.new) }
+    ensures engine { IfErr result (λ e. IsOfEngine e → Piped (λ given output. Stops job given output e ⊎ ((IsAtEnd (S.remaining source.new) × StopsAtEnd job given output e) ⊎ ((e ≡ RunFault.Endless) × (S.reads source.new ≡ S.reads source.old + 16000000) × (16000000 ≤ length given) × Outputs job given output))) (S.remaining source.old) (S.remaining source.new) (W.contents sink.old) (W.contents sink.new)) }
+    ensures read { result ≡ Err RunFault.Read → Piped (Outputs job) (S.remaining source.old) (S.remaining source.new) (W.contents sink.old) (W.contents sink.new) }
+    ensures write { (n : ℕ) → result ≡ Err (RunFault.Write n) → PipedFirst n (λ given output. Prints job given output ⊎ (IsAtEnd (S.remaining source.new) × EndsWhole job given output)) (S.remaining source.old) (S.remaining source.new) (W.contents sink.old) (W.contents sink.new) }
     ensures flushed { OnOk result (W.flushes sink.new ≡ (W.flushes sink.old + 1) % 2 ^ 64) }
-    ensures unflushed { IfErr result (λ e. FlushedOnlyWhere (W.flushes sink.old) (W.flushes sink.new) (Piped (λ given told. (e ≡ RunFault.Write (length told)) × IsAtEnd (S.remaining source.new) × EndsWhole job given told) (S.remaining source.old) (S.remaining source.new) (W.contents sink.old) (W.contents sink.new))) }
+    ensures unflushed { IfErr result (λ e. FlushedOnlyWhere (W.flushes sink.old) (W.flushes sink.new) (Piped (λ given output. (e ≡ RunFault.Write (length output)) × IsAtEnd (S.remaining source.new) × EndsWhole job given output) (S.remaining source.old) (S.remaining source.new) (W.contents sink.old) (W.contents sink.new))) }
     ensures reads { S.reads source.new ≤ S.reads source.old + 16000000 }
     ensures memory { IfErr result (λ e. e ≡ RunFault.Memory → Piped (StarvesIn job) (S.remaining source.old) (S.remaining source.new) (W.contents sink.old) (W.contents sink.new)) }
     ensures failures { IfErr result (λ e. FailedBy e (S.failures source.old) (S.failures source.new) (W.failures sink.old) (W.failures sink.new)) }

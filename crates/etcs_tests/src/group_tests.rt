@@ -1,5 +1,5 @@
-//! What a group answers to its caller alone: a telegram that is handed back, telegrams of both sizes, and where memory is
-//! refused; and the texts of its faults.
+//! What a group answers only to its caller: a telegram that is handed back, telegrams of both sizes, and refused memory; and
+//! the texts of its faults.
 
 use etcs_bits::{BitSlice, Bits};
 use etcs_fakes::{Checks, starve};
@@ -84,7 +84,7 @@ fn both_sizes(rt: HostRuntime) {
     assert_eq!(rt; checks.wrong(), None);
 }
 
-/// A group that isn't whole says so, whether there is memory or not; and a telegram is held without memory.
+/// A group that isn't complete reports that, whether there is memory or not; and a telegram is held without memory.
 #[test]
 fn nothing_is_wanted_of_a_part(rt: HostRuntime) -> Result<(), Fail> {
     let (checks, alloc) = (&mut Checks::new(), rt.alloc());
@@ -102,11 +102,11 @@ fn nothing_is_wanted_of_a_part(rt: HostRuntime) -> Result<(), Fail> {
     checks.check(repeated && added, "a clash");
     check_whole(checks, alloc, &assembly);
     let clash = Clash::OtherGroup.to_string(alloc)?;
-    let told = "the telegram is of another group";
-    checks.check(clash.as_str() == told, "another text of a clash");
+    let text = "the telegram is of another group";
+    checks.check(clash.as_str() == text, "another text of a clash");
     let fault = GroupFault::NotWhole.to_string(alloc)?;
-    let told = "the group isn't whole";
-    checks.check(fault.as_str() == told, "another text of a fault");
+    let text = "the group isn't whole";
+    checks.check(fault.as_str() == text, "another text of a fault");
     assert_eq!(rt; checks.wrong(), None);
     Ok(())
 }

@@ -137,7 +137,8 @@ fn seen_all(alloc: Global) -> [Option<(u8, bool)>; 4] {
     ]
 }
 
-/// A view and its packets take no memory. Kept bits and lists do, packets of a few numbers don't.
+/// A view and its packets take no memory. To make a packet of kept bits or with a list takes some, to make one of a few
+/// numbers doesn't.
 #[test]
 fn views_without_memory(rt: HostRuntime) -> Result<(), AllocError> {
     let (checks, alloc) = (&mut Checks::new(), rt.alloc());

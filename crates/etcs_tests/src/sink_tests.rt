@@ -60,7 +60,7 @@ impl VarSink for Few {
     }
 }
 
-/// Checks that a sink with so much room refuses a packet, after it took these variables of it.
+/// Checks that a sink with this much room refuses a packet, after it took these variables of it.
 fn check_full(
     checks: &mut Checks,
     alloc: Global,

@@ -5,10 +5,10 @@ use Rattle.std.proofs.lemmas.List.Elements.{All-nil}
 use Rattle.etcs_runs.specs.Lines.{IsLine, lines_text}
 use Rattle.etcs_runs.specs.Cutting.{LinesStand}
 
-pub lines_tell : (Tells : List ℕ → List ℕ → Type 0) (Took : List (List ℕ) → List ℕ → Type 0) (most : ℕ) → ((lines : List (List ℕ)) (begun told : List ℕ) → Took lines told → IsLine begun → Tells (lines_text lines ++ begun) told) → ((lines : List (List ℕ)) (part told : List ℕ) → Took (lines ++ part ∷ []) told → IsLine part → most + 1 < length part → Tells (lines_text lines ++ part) told) → (begun : List ℕ) (n line : ℕ) (given told : List ℕ) → LinesStand Took most begun n line given told → Tells given told
-lines_tell Tells Took most tells long begun n line given told h =
-    subst (λ (z : List ℕ). Tells z told) (sym h.given_is)
+pub lines_outputs : (Outputs : List ℕ → List ℕ → Type 0) (Took : List (List ℕ) → List ℕ → Type 0) (most : ℕ) → ((lines : List (List ℕ)) (begun output : List ℕ) → Took lines output → IsLine begun → Outputs (lines_text lines ++ begun) output) → ((lines : List (List ℕ)) (part output : List ℕ) → Took (lines ++ part ∷ []) output → IsLine part → most + 1 < length part → Outputs (lines_text lines ++ part) output) → (begun : List ℕ) (n line : ℕ) (given output : List ℕ) → LinesStand Took most begun n line given output → Outputs given output
+lines_outputs Outputs Took most outputs long begun n line given output h =
+    subst (λ (z : List ℕ). Outputs z output) (sym h.given_is)
     (elim h.kept [
-      | inl k ↦ tells h.lines h.part told k.2 h.is_line
-      | inr k ↦ long h.lines h.part told (subst (λ (z : List ℕ). Took (h.lines ++ z ∷ []) told) (append-nil h.part) (k.1 [] (All-nil (λ c. c ≡ 10 → ⊥)))) h.is_line k.0
+      | inl k ↦ outputs h.lines h.part output k.2 h.is_line
+      | inr k ↦ long h.lines h.part output (subst (λ (z : List ℕ). Took (h.lines ++ z ∷ []) output) (append-nil h.part) (k.1 [] (All-nil (λ c. c ≡ 10 → ⊥)))) h.is_line k.0
     ])

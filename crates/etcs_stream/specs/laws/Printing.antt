@@ -14,7 +14,7 @@ use Rattle.etcs_runs.proofs.Keeping.{longer_text}
 use Rattle.etcs_stream.specs.declared.job.Job.{Job}
 use Rattle.etcs_stream.specs.Inputs.{End, ended, refused, truncated, bad_hex, bad_json, endless, IsBad, BitItems, BadItems, ItemsOf, JsonItems, SaysSoFar, SaysFirst, WholeBytes, WholeItems, FirstBytes, FirstItems}
 use Rattle.etcs_stream.specs.JsonItems.{FirstJson, JsonFront}
-use Rattle.etcs_stream.specs.Engines.{Tells, Stops, StopsAtEnd, Prints, promises}
+use Rattle.etcs_stream.specs.Engines.{Outputs, Stops, StopsAtEnd, Prints, promises}
 
 pub first_bytes : (form : Form) (kind : Kind) (given : List ℕ) (es : List EntryValue) → FirstBytes form kind given es → FirstItems form kind given es
 first_bytes Hex kind given es h = h
@@ -70,16 +70,16 @@ whole_first Hex kind given es h = whole_bytes Hex kind given es h
 whole_first Bin kind given es h = whole_bytes Bin kind given es h
 whole_first Json kind given es h = inl (h.0, h.1, h.2)
 
-pub tells_prints : (job : Job) (given told : List ℕ) → Tells job given told → Prints job given told
-tells_prints job given told h = (h.0, whole_first job.from job.kind given h.0 h.1, h.2)
+pub outputs_prints : (job : Job) (given output : List ℕ) → Outputs job given output → Prints job given output
+outputs_prints job given output h = (h.0, whole_first job.from job.kind given h.0 h.1, h.2)
 
-pub end_prints : (job : Job) (given told : List ℕ) (f : RunFault) → StopsAtEnd job given told f → Prints job given told
-end_prints job given told f (inl h) = h.1
-end_prints job given told f (inr h) = (h.0, all_first job.from job.kind given h.0 h.1 h.4, h.3)
+pub end_prints : (job : Job) (given output : List ℕ) (f : RunFault) → StopsAtEnd job given output f → Prints job given output
+end_prints job given output f (inl h) = h.1
+end_prints job given output f (inr h) = (h.0, all_first job.from job.kind given h.0 h.1 h.4, h.3)
 
-pub stops_prints : (job : Job) (given told : List ℕ) (f : RunFault) → Stops job given told f → Prints job given told
-stops_prints job given told f (inl h) = h.1
-stops_prints job given told f (inr h) =
+pub stops_prints : (job : Job) (given output : List ℕ) (f : RunFault) → Stops job given output f → Prints job given output
+stops_prints job given output f (inl h) = h.1
+stops_prints job given output f (inr h) =
     let here : ItemsOf job.from job.kind given h.0 h.1 = subst (λ (z : List ℕ). ItemsOf job.from job.kind z h.0 h.1) (append-nil given) (h.4 []) in
     (h.0, all_first job.from job.kind given h.0 h.1 here, h.3)
 
@@ -101,8 +101,8 @@ whole_longer Bin kind given more es h =
     record { bytes = given ++ more; says = refl; spelt = h.spelt; rest = h.rest ++ bits more; are_spelled = h.are_spelled; bits_are = longer_bits given more h.bytes h.spelt h.rest h.says h.bits_are; few = h.few }
 whole_longer Json kind given more es (lines, rest, front, l) = inl (lines, rest ++ more, json_longer kind given more es lines rest front)
 
-pub tells_longer : (job : Job) (given more told : List ℕ) → Tells job given told → Prints job (given ++ more) told
-tells_longer job given more told h = (h.0, whole_longer job.from job.kind given more h.0 h.1, h.2)
+pub outputs_longer : (job : Job) (given more output : List ℕ) → Outputs job given output → Prints job (given ++ more) output
+outputs_longer job given more output h = (h.0, whole_longer job.from job.kind given more h.0 h.1, h.2)
 
 pub sound : (job : Job) → Sound (promises job)
-sound job = record { tells_print = tells_prints job; stops_print = stops_prints job; last_prints = end_prints job; starves = λ given more told h. inl (refl, tells_longer job given more told h) }
+sound job = record { outputs_print = outputs_prints job; stops_print = stops_prints job; last_prints = end_prints job; starves = λ given more output h. inl (refl, outputs_longer job given more output h) }

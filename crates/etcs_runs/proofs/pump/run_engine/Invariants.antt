@@ -6,11 +6,11 @@ use Rattle.etcs_runs.proofs.pump.run_engine.Given as goal
 abbrev pub invariant-loop : goal.invariant-loop
 invariant-loop g l = record {
   given : List ℕ;
-  told : List ℕ;
-  going : Going g.S.Source g.W.Sink l.fn.source l.source l.fn.sink l.sink l.counter given told;
+  output : List ℕ;
+  going : Going g.S.Source g.W.Sink l.fn.source l.source l.fn.sink l.sink l.counter given output;
   least : l.counter ≤ length given;
-  stands : g.E.Engine.stands l.engine given told;
+  stands : g.E.Engine.stands l.engine given output;
   job : g.E.Engine.job l.engine ≡ g.E.Engine.job l.fn.engine;
-  sent : l.sent ≡ counted (length told);
+  sent : l.sent ≡ counted (length output);
   room : length l.buffer ≡ 4096;
 }

@@ -16,13 +16,13 @@ refuse-requires c =
     record { bad = (took_few s.job s.line s.seen c.requires.took).2 }
 
 pub returns-in-Ok-clause-ok : goal.returns-in-Ok-clause-ok
-returns-in-Ok-clause-ok c lines part told h l long rest k =
+returns-in-Ok-clause-ok c lines part output h l long rest k =
     let s = c.args.self.now.answers in
     let n = c.refuse.new.self in
     let raw = part ++ rest in
-    took_more s.job n.job s.line n.line s.seen n.seen lines raw (strip_cr raw) told c.args.text.now.items c.refuse.new.text.items h (All-append (λ c. c ≡ 10 → ⊥) part rest l k) refl c.refuse.ensures.job c.refuse.ensures.line (bad, long_more s.job.kinds part rest long, c.in-Ok.ensures.ok)
+    took_more s.job n.job s.line n.line s.seen n.seen lines raw (strip_cr raw) output c.args.text.now.items c.refuse.new.text.items h (All-append (λ c. c ≡ 10 → ⊥) part rest l k) refl c.refuse.ensures.job c.refuse.ensures.line (bad, long_more s.job.kinds part rest long, c.in-Ok.ensures.ok)
 
 pub returns-in-Err-clause-err : goal.returns-in-Err-clause-err
-returns-in-Err-clause-err c lines part more told h l long m =
+returns-in-Err-clause-err c lines part more output h l long m =
     let s = c.args.self.now.answers in
-    (tt, (refl, took_front s.job s.line s.seen lines (part ++ more) told c.args.text.now.items c.refuse.new.text.items h c.in-Err.ensures.err))
+    (tt, (refl, took_front s.job s.line s.seen lines (part ++ more) output c.args.text.now.items c.refuse.new.text.items h c.in-Err.ensures.err))

@@ -8,78 +8,78 @@ use Rattle.etcs_runs.proofs.cutter.Lines.end_line.Goals.{then-count-most+in_ok-h
 
 pub overflow_add-self : goal.overflow_add-self
 overflow_add-self g c =
-    let (given, told, h, short) = c.requires.stands in
+    let (given, output, h, short) = c.requires.stands in
     omega (arith, few_lines h, short)
 
 pub handle_line-requires : goal.handle_line-requires
 handle_line-requires g c =
-    let (given, told, h, short) = c.requires.stands in
-    record { took = (h.lines, told ++ c.args.text.now.items, short_took h (omega (arith, c.if-self-eq0.true)), omega (arith, few_lines h, short)) }
+    let (given, output, h, short) = c.requires.stands in
+    record { took = (h.lines, output ++ c.args.text.now.items, short_took h (omega (arith, c.if-self-eq0.true)), omega (arith, few_lines h, short)) }
 
 pub returns-then-self-eq0-clause-ok : goal.returns-then-self-eq0-clause-ok
-returns-then-self-eq0-clause-ok g c given told h =
+returns-then-self-eq0-clause-ok g c given output h =
     let part = c.args.part.now in
     let zero = c.if-self-eq0.true in
     let none = no_part h zero in
     let is : given ++ part ≡ lines_text h.lines ++ part = more_text h part ∙ ap (λ (z : List ℕ). lines_text h.lines ++ (z ++ part)) none in
     then_ok c.handle_line.result (line_taken h.lines part given part is (short_begun h (omega (arith, zero)) ∙ none) zero (omega (arith, h.line_is)))
-    (c.handle_line.ensures.ok h.lines part told (short_took h (omega (arith, zero))) c.requires.line c.without_cr.ensures)
+    (c.handle_line.ensures.ok h.lines part output (short_took h (omega (arith, zero))) c.requires.line c.without_cr.ensures)
 
 pub returns-then-self-eq0-clause-err : goal.returns-then-self-eq0-clause-err
-returns-then-self-eq0-clause-err g c more given told h =
+returns-then-self-eq0-clause-err g c more given output h =
     let part = c.args.part.now in
     let p = g.T.LineHandler.promises (g.T.LineHandler.job c.args.self.now.handler) in
     let zero = c.if-self-eq0.true in
     let is : given ++ part ≡ lines_text h.lines ++ part = more_text h part ∙ ap (λ (z : List ℕ). lines_text h.lines ++ (z ++ part)) (no_part h zero) in
-    line_stops h.lines part given part is (λ (z : List ℕ). IfFault c.handle_line.result (p.Stops z (told ++ c.handle_line.new.text.items))) more
-    (c.handle_line.ensures.err h.lines part more told (short_took h (omega (arith, zero))) c.requires.line c.without_cr.ensures (omega (arith, h.line_is)))
+    line_stops h.lines part given part is (λ (z : List ℕ). IfFault c.handle_line.result (p.Stops z (output ++ c.handle_line.new.text.items))) more
+    (c.handle_line.ensures.err h.lines part more output (short_took h (omega (arith, zero))) c.requires.line c.without_cr.ensures (omega (arith, h.line_is)))
 
 pub returns-in_err-keep-clause-said : goal.returns-in_err-keep-clause-said
-returns-in_err-keep-clause-said g c given told h =
+returns-in_err-keep-clause-said g c given output h =
     let p = err_from_is_err_and c.from_residual.result c.from_residual.ensures.1 in
-    rw p.1 (c.in_err-keep.ensures.said given told h)
+    rw p.1 (c.in_err-keep.ensures.said given output h)
 
 pub overflow_add-self-2 : goal.overflow_add-self-2
 overflow_add-self-2 g c =
-    let (given, told, h, short) = c.requires.stands in
+    let (given, output, h, short) = c.requires.stands in
     omega (arith, c.keep.ensures.line, few_lines h, short)
 
 pub handle_line-requires-then-count-most : goal.handle_line-requires-then-count-most
 handle_line-requires-then-count-most g c =
-    let (given, told, h, short) = c.requires.stands in
-    let whole = c.in_ok-keep.ensures.ok given told h in
-    record { took = (whole.lines, told ++ c.keep.new.text.items, short_took whole (omega (arith, c.most.ensures.value, c.if-count-most.true)), omega (arith, few_lines whole, short, length-append given c.args.part.now)) }
+    let (given, output, h, short) = c.requires.stands in
+    let whole = c.in_ok-keep.ensures.ok given output h in
+    record { took = (whole.lines, output ++ c.keep.new.text.items, short_took whole (omega (arith, c.most.ensures.value, c.if-count-most.true)), omega (arith, few_lines whole, short, length-append given c.args.part.now)) }
 
 pub returns-in_err-handle_line-clause-err : goal.returns-in_err-handle_line-clause-err
-returns-in_err-handle_line-clause-err g c more given told h =
+returns-in_err-handle_line-clause-err g c more given output h =
     let p = g.T.LineHandler.promises (g.T.LineHandler.job c.keep.new.self.handler) in
-    let text = told ++ c.handle_line-then-count-most.new.text.items in
+    let text = output ++ c.handle_line-then-count-most.new.text.items in
     let e = c.in_err-handle_line.field-0.0 in
-    let whole = c.in_ok-keep.ensures.ok given told h in
+    let whole = c.in_ok-keep.ensures.ok given output h in
     let took = short_took whole (omega (arith, c.most.ensures.value, c.if-count-most.true)) in
     let cut = c.without_cr-then-count-most.ensures ∙ ap strip_cr (c.as_slice.ensures.value ∙ short_begun whole (omega (arith, c.most.ensures.value, c.if-count-most.true))) in
     let r = err_from_is_err_and c.from_residual-in_err-handle_line.result c.from_residual-in_err-handle_line.ensures.1 in
     let stops = line_stops whole.lines whole.part given c.args.part.now whole.given_is (λ (z : List ℕ). IsOfEngine e × p.Stops z text e) more
-    (c.in_err-handle_line.ensures.err whole.lines whole.part more told took whole.is_line cut (omega (arith, whole.line_is))) in
+    (c.in_err-handle_line.ensures.err whole.lines whole.part more output took whole.is_line cut (omega (arith, whole.line_is))) in
     rw (r.1, r.2) (rw c.keep.ensures.job at stops)
 
 pub returns-in_err-handle_line-clause-said : goal.returns-in_err-handle_line-clause-said
-returns-in_err-handle_line-clause-said g c given told h =
-    let whole = c.in_ok-keep.ensures.ok given told h in
+returns-in_err-handle_line-clause-said g c given output h =
+    let whole = c.in_ok-keep.ensures.ok given output h in
     let took = short_took whole (omega (arith, c.most.ensures.value, c.if-count-most.true)) in
     let r = err_from_is_err_and c.from_residual-in_err-handle_line.result c.from_residual-in_err-handle_line.ensures.1 in
-    rw r.1 (c.in_err-handle_line.ensures.said whole.lines told took)
+    rw r.1 (c.in_err-handle_line.ensures.said whole.lines output took)
 
 pub returns-clause-ok : goal.returns-clause-ok
-returns-clause-ok g c given told h =
+returns-clause-ok g c given output h =
     let part = c.args.part.now in
-    let whole = c.in_ok-keep.ensures.ok given told h in
+    let whole = c.in_ok-keep.ensures.ok given output h in
     elim c.if-count-most.branch [
       | then-count-most+in_ok-handle_line w ↦
           let took = short_took whole (omega (arith, c.most.ensures.value, w.if-count-most.true)) in
           let cut = w.without_cr-then-count-most.ensures ∙ ap strip_cr (w.as_slice.ensures.value ∙ short_begun whole (omega (arith, c.most.ensures.value, w.if-count-most.true))) in
           rw (w.self-is, w.text-is)
-          (line_taken whole.lines whole.part given part whole.given_is c.clear.ensures.items refl (omega (arith, whole.line_is)) (w.in_ok-handle_line.ensures.ok whole.lines whole.part told took whole.is_line cut))
+          (line_taken whole.lines whole.part given part whole.given_is c.clear.ensures.items refl (omega (arith, whole.line_is)) (w.in_ok-handle_line.ensures.ok whole.lines whole.part output took whole.is_line cut))
       | else-count-most w ↦
           rw (w.self-is, w.text-is)
           (line_taken whole.lines whole.part given part whole.given_is c.clear.ensures.items refl (omega (arith, whole.line_is)) (whole_took whole (omega (arith, c.most.ensures.value, w.if-count-most.false))))

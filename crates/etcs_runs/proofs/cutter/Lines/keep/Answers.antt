@@ -4,36 +4,36 @@ use Rattle.etcs_runs.proofs.Keeping.{few_lines, keep_refused, keeps, longer, mor
 use Rattle.etcs_runs.proofs.cutter.Lines.keep.Goals as goal
 
 pub returns-then-before-most-clause-ok : goal.returns-then-before-most-clause-ok
-returns-then-before-most-clause-ok g c given told h =
+returns-then-before-most-clause-ok g c given output h =
     skips h c.args.part.now c.requires.line refl (omega (arith, c.most-most.ensures.value, c.if-before-most.true))
 
 pub overflow_add-self-then-self-most : goal.overflow_add-self-then-self-most
 overflow_add-self-then-self-most g c =
-    let (given, told, h, short) = c.requires.stands in
+    let (given, output, h, short) = c.requires.stands in
     omega (arith, few_lines h, short)
 
 pub refuse_long-requires : goal.refuse_long-requires
 refuse_long-requires g c =
-    let (given, told, h, short) = c.requires.stands in
-    record { took = (h.lines, told ++ c.args.text.now.items, short_took h (omega (arith, c.most-most.ensures.value, c.if-before-most.false)), omega (arith, few_lines h, short)) }
+    let (given, output, h, short) = c.requires.stands in
+    record { took = (h.lines, output ++ c.args.text.now.items, short_took h (omega (arith, c.most-most.ensures.value, c.if-before-most.false)), omega (arith, few_lines h, short)) }
 
 pub returns-then-self-most-clause-ok : goal.returns-then-self-most-clause-ok
-returns-then-self-most-clause-ok g c given told h =
+returns-then-self-most-clause-ok g c given output h =
     let part = c.args.part.now in
     let e = c.refuse_long.ensures in
     let took = short_took h (omega (arith, c.most-most.ensures.value, c.if-before-most.false)) in
     let long = longer h part (omega (arith, c.most-most.ensures.value, c.if-self-most.true)) in
-    then_ok c.refuse_long.result (reported h part c.requires.line (ap g.T.LineHandler.most e.job) refl long) (e.ok h.lines (h.part ++ part) told took (more_line h part c.requires.line) long)
+    then_ok c.refuse_long.result (reported h part c.requires.line (ap g.T.LineHandler.most e.job) refl long) (e.ok h.lines (h.part ++ part) output took (more_line h part c.requires.line) long)
 
 pub returns-then-self-most-clause-err : goal.returns-then-self-most-clause-err
-returns-then-self-most-clause-err g c more given told h =
+returns-then-self-most-clause-err g c more given output h =
     let part = c.args.part.now in
     let p = g.T.LineHandler.promises (g.T.LineHandler.job c.args.self.now.handler) in
     let took = short_took h (omega (arith, c.most-most.ensures.value, c.if-before-most.false)) in
     let long = longer h part (omega (arith, c.most-most.ensures.value, c.if-self-most.true)) in
-    keep_refused h part (λ (z : List ℕ). IfFault c.refuse_long.result (p.Stops z (told ++ c.refuse_long.new.text.items))) more
-    (c.refuse_long.ensures.err h.lines (h.part ++ part) more told took (more_line h part c.requires.line) long (omega (arith, h.line_is)))
+    keep_refused h part (λ (z : List ℕ). IfFault c.refuse_long.result (p.Stops z (output ++ c.refuse_long.new.text.items))) more
+    (c.refuse_long.ensures.err h.lines (h.part ++ part) more output took (more_line h part c.requires.line) long (omega (arith, h.line_is)))
 
 pub returns-in-Ok-clause-ok : goal.returns-in-Ok-clause-ok
-returns-in-Ok-clause-ok g c given told h =
+returns-in-Ok-clause-ok g c given output h =
     keeps h c.args.part.now c.requires.line c.in-Ok.ensures.items refl (omega (arith, c.most-most.ensures.value, c.if-self-most.false))

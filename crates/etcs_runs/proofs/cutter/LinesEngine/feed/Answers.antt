@@ -5,7 +5,7 @@ use Rattle.std.proofs.lemmas.Result.{err_from_is_err_and}
 use Rattle.etcs_runs.specs.Faults.{IfFault, IsOfEngine}
 use Rattle.etcs_runs.specs.Cutting.{Stands}
 use Rattle.etcs_runs.proofs.LineTexts.{cut_line, cut_given}
-use Rattle.etcs_runs.proofs.Keeping.{none_told, piece_stops}
+use Rattle.etcs_runs.proofs.Keeping.{none_output, piece_stops}
 use Rattle.etcs_runs.proofs.cutter.LinesEngine.feed.Goals as goal
 
 pub loop-line-init : goal.loop-line-init
@@ -13,9 +13,9 @@ loop-line-init g c = record {
   front = [];
   job_is = refl;
   all = refl;
-  stands = λ given told h. (
-      subst (λ (z : List ℕ). Stands g.T.LineHandler c.args.self.now z (told ++ c.args.text.now.items)) (sym (append-nil given))
-      (none_told (Stands g.T.LineHandler c.args.self.now given) told c.args.text.now.items c.requires.empty h)
+  stands = λ given output h. (
+      subst (λ (z : List ℕ). Stands g.T.LineHandler c.args.self.now z (output ++ c.args.text.now.items)) (sym (append-nil given))
+      (none_output (Stands g.T.LineHandler c.args.self.now given) output c.args.text.now.items c.requires.empty h)
       );
 }
 
@@ -29,67 +29,67 @@ loop-line-preserved g c =
       front = before.front ++ (line ++ 10 ∷ []);
       job_is = ended.job ∙ before.job_is;
       all = cut_line c.args.piece.now before.front c.loop-line.rest.now line behind before.all c.in-Some.ensures.some.0;
-      stands = λ given told h. (
-          subst (λ (z : List ℕ). Stands g.T.LineHandler c.end_line.new.self z (told ++ c.end_line.new.text.items)) (append_assoc given before.front (line ++ 10 ∷ []))
-          (ended.ok (given ++ before.front) told (before.stands given told h))
+      stands = λ given output h. (
+          subst (λ (z : List ℕ). Stands g.T.LineHandler c.end_line.new.self z (output ++ c.end_line.new.text.items)) (append_assoc given before.front (line ++ 10 ∷ []))
+          (ended.ok (given ++ before.front) output (before.stands given output h))
           );
     }
 
 pub end_line-requires : goal.end_line-requires
 end_line-requires g c =
     let before = c.loop-line.invariant in
-    let (given, told, h, short) = c.requires.stands in
+    let (given, output, h, short) = c.requires.stands in
     let rest = c.loop-line.rest.now in
     let line = c.in-Some.line.now in
     record {
-      stands = (given ++ before.front, told, before.stands given told h, omega (arith, short, length-append given before.front, ap length before.all, length-append before.front rest, ap length c.in-Some.ensures.some.0, length-append line (10 ∷ c.in-Some.behind.now)));
+      stands = (given ++ before.front, output, before.stands given output h, omega (arith, short, length-append given before.front, ap length before.all, length-append before.front rest, ap length c.in-Some.ensures.some.0, length-append line (10 ∷ c.in-Some.behind.now)));
       line = c.in-Some.ensures.some.1;
     }
 
 pub keep-requires : goal.keep-requires
 keep-requires g c =
     let before = c.loop-line.invariant in
-    let (given, told, h, short) = c.requires.stands in
+    let (given, output, h, short) = c.requires.stands in
     record {
-      stands = (given ++ before.front, told, before.stands given told h, omega (arith, short, length-append given before.front, ap length before.all, length-append before.front c.loop-line.rest.now));
+      stands = (given ++ before.front, output, before.stands given output h, omega (arith, short, length-append given before.front, ap length before.all, length-append before.front c.loop-line.rest.now));
       line = c.in_default.ensures.none refl;
     }
 
 pub returns-in_err-end_line-clause-err : goal.returns-in_err-end_line-clause-err
-returns-in_err-end_line-clause-err g c given told h =
+returns-in_err-end_line-clause-err g c given output h =
     let before = c.loop-line.invariant in
     let p = g.T.LineHandler.promises (g.T.LineHandler.job c.loop-line.self.handler) in
     let piece = c.args.piece.now in
     let text = c.end_line.new.text.items in
     let e = c.in_err-end_line.field-0.0 in
     let r = err_from_is_err_and c.from_residual.result c.from_residual.ensures.1 in
-    let stops = c.in_err-end_line.ensures.err c.in-Some.behind.now (given ++ before.front) told (before.stands given told h) in
-    let all = piece_stops (λ (z : List ℕ). IsOfEngine e × p.Stops z (told ++ text) e) given piece before.front c.loop-line.rest.now c.in-Some.line.now c.in-Some.behind.now before.all c.in-Some.ensures.some.0 stops in
+    let stops = c.in_err-end_line.ensures.err c.in-Some.behind.now (given ++ before.front) output (before.stands given output h) in
+    let all = piece_stops (λ (z : List ℕ). IsOfEngine e × p.Stops z (output ++ text) e) given piece before.front c.loop-line.rest.now c.in-Some.line.now c.in-Some.behind.now before.all c.in-Some.ensures.some.0 stops in
     rw (r.1, r.2) (rw before.job_is at all)
 
 pub returns-clause-ok : goal.returns-clause-ok
-returns-clause-ok g c given told h =
+returns-clause-ok g c given output h =
     let before = c.loop-line.invariant in
-    subst (λ (z : List ℕ). OnOk c.keep.result (Stands g.T.LineHandler c.keep.new.self z (told ++ c.keep.new.text.items))) (cut_given given c.args.piece.now before.front c.loop-line.rest.now before.all)
-    (c.keep.ensures.ok (given ++ before.front) told (before.stands given told h))
+    subst (λ (z : List ℕ). OnOk c.keep.result (Stands g.T.LineHandler c.keep.new.self z (output ++ c.keep.new.text.items))) (cut_given given c.args.piece.now before.front c.loop-line.rest.now before.all)
+    (c.keep.ensures.ok (given ++ before.front) output (before.stands given output h))
 
 pub returns-clause-err : goal.returns-clause-err
-returns-clause-err g c given told h =
+returns-clause-err g c given output h =
     let before = c.loop-line.invariant in
     let p = g.T.LineHandler.promises (g.T.LineHandler.job c.loop-line.self.handler) in
     let rest = c.loop-line.rest.now in
     let all : (given ++ before.front) ++ (rest ++ []) ≡ given ++ c.args.piece.now = ap (λ (z : List ℕ). (given ++ before.front) ++ z) (append-nil rest) ∙ cut_given given c.args.piece.now before.front rest before.all in
-    let stops = subst (λ (z : List ℕ). IfFault c.keep.result (p.Stops z (told ++ c.keep.new.text.items))) all
-    (c.keep.ensures.err [] (given ++ before.front) told (before.stands given told h)) in
+    let stops = subst (λ (z : List ℕ). IfFault c.keep.result (p.Stops z (output ++ c.keep.new.text.items))) all
+    (c.keep.ensures.err [] (given ++ before.front) output (before.stands given output h)) in
     rw before.job_is at stops
 
 pub returns-in_err-end_line-clause-said : goal.returns-in_err-end_line-clause-said
-returns-in_err-end_line-clause-said g c given told h =
+returns-in_err-end_line-clause-said g c given output h =
     let before = c.loop-line.invariant in
     let r = err_from_is_err_and c.from_residual.result c.from_residual.ensures.1 in
-    rw r.1 (c.in_err-end_line.ensures.said (given ++ before.front) told (before.stands given told h))
+    rw r.1 (c.in_err-end_line.ensures.said (given ++ before.front) output (before.stands given output h))
 
 pub returns-clause-said : goal.returns-clause-said
-returns-clause-said g c given told h =
+returns-clause-said g c given output h =
     let before = c.loop-line.invariant in
-    c.keep.ensures.said (given ++ before.front) told (before.stands given told h)
+    c.keep.ensures.said (given ++ before.front) output (before.stands given output h)

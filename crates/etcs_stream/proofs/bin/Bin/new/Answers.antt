@@ -5,4 +5,4 @@ use Rattle.etcs_stream.proofs.bin.Bin.new.Goals as goal
 pub returns-clause-stands : goal.returns-clause-stands
 returns-clause-stands c =
     let e = c.new.ensures in
-    (c.requires.form, e.waits, stand_nothing c.args.job (seen_bits c.new.result.reader.progress) c.new.result.teller e.seen e.told e.waits.unfinished)
+    (c.requires.form, e.waits, stand_nothing c.args.job (seen_bits c.new.result.reader.progress) c.new.result.printer e.seen e.reported e.waits.unfinished)

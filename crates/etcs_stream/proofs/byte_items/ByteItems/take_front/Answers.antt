@@ -13,8 +13,8 @@ use Rattle.etcs_stream.proofs.Fronts.{more_front, done_front, stops_here}
 use Rattle.etcs_stream.proofs.Streams.{fed, feed_refuses}
 use Rattle.etcs_stream.proofs.byte_items.ByteItems.take_front.Goals as goal
 
-pub tell-requires-clause-whole : goal.tell-requires-clause-whole
-tell-requires-clause-whole c =
+pub print-requires-clause-whole : goal.print-requires-clause-whole
+print-requires-clause-whole c =
     let s = c.args.self.now in
     let is : ◌≡◌ {A = Result Fed ReadFault} c.feed.result (Ok (Done c.in-Ok-Done.taken)) = c.in-Ok-Done.is ∙ ap Ok c.in-Ok-Done.field-0-is in
     let f = fed s.job.kind s.reader (bits c.args.bytes.now) _ _ _ c.requires.waits is c.feed.ensures.answer in
@@ -30,24 +30,24 @@ pub returns-in-Ok-More-clause-ok : goal.returns-in-Ok-More-clause-ok
 returns-in-Ok-More-clause-ok c =
     let s = c.args.self.now in
     let is : ◌≡◌ {A = Result Fed ReadFault} c.feed.result (Ok More) = c.in-Ok-More.is ∙ ap Ok c.in-Ok-More.field-0-is in
-    let less : s.teller.count < 1000000 = omega (arith, c.requires.told, c.if-count-eq-MOST_ITEMS.false, c.count.ensures) in
-    more_front s.job s.reader s.teller c.args.bytes.now c.args.page.now c.requires.waits c.feed.new.self _ c.feed.ensures.kind c.requires.some less refl
+    let less : s.printer.count < 1000000 = omega (arith, c.requires.reported, c.if-count-eq-MOST_ITEMS.false, c.count.ensures) in
+    more_front s.job s.reader s.printer c.args.bytes.now c.args.page.now c.requires.waits c.feed.new.self _ c.feed.ensures.kind c.requires.some less refl
     (fed s.job.kind s.reader (bits c.args.bytes.now) _ _ _ c.requires.waits is c.feed.ensures.answer)
 
-pub returns-in_ok-tell-in-Ok-Done-clause-ok : goal.returns-in_ok-tell-in-Ok-Done-clause-ok
-returns-in_ok-tell-in-Ok-Done-clause-ok c =
+pub returns-in_ok-print-in-Ok-Done-clause-ok : goal.returns-in_ok-print-in-Ok-Done-clause-ok
+returns-in_ok-print-in-Ok-Done-clause-ok c =
     let s = c.args.self.now in
     let new = bits c.args.bytes.now in
     let is : ◌≡◌ {A = Result Fed ReadFault} c.feed.result (Ok (Done c.in-Ok-Done.taken)) = c.in-Ok-Done.is ∙ ap Ok c.in-Ok-Done.field-0-is in
     let f : Feeds (EntryReads s.job.kind) (seen_bits s.reader.progress) new (Ok (Done c.in-Ok-Done.taken)) c.feed.new.self.progress = fed s.job.kind s.reader new _ _ _ c.requires.waits is c.feed.ensures.answer in
-    let less : s.teller.count < 1000000 = omega (arith, c.requires.told, c.if-count-eq-MOST_ITEMS.false, c.count.ensures) in
-    let told = c.in_ok-tell-in-Ok-Done.ensures in
-    done_front s.job s.reader s.teller c.args.bytes.now c.args.page.now c.requires.waits c.feed.new.self c.tell.new.self.reader c.tell.new.self.teller c.tell.new.page c.in-Ok-Done.taken f told.next told.told less (told.ok f.0 f.1)
+    let less : s.printer.count < 1000000 = omega (arith, c.requires.reported, c.if-count-eq-MOST_ITEMS.false, c.count.ensures) in
+    let printed = c.in_ok-print-in-Ok-Done.ensures in
+    done_front s.job s.reader s.printer c.args.bytes.now c.args.page.now c.requires.waits c.feed.new.self c.print.new.self.reader c.print.new.self.printer c.print.new.page c.in-Ok-Done.taken f printed.next printed.reported less (printed.ok f.0 f.1)
 
 pub returns-then-count-eq-MOST_ITEMS-clause-err : goal.returns-then-count-eq-MOST_ITEMS-clause-err
 returns-then-count-eq-MOST_ITEMS-clause-err c =
     let s = c.args.self.now in
-    stops_here s.job s.reader s.teller c.args.bytes.now _ c.requires.waits s.teller _ fault.Endless c.requires.told refl (omega arith)
+    stops_here s.job s.reader s.printer c.args.bytes.now _ c.requires.waits s.printer _ fault.Endless c.requires.reported refl (omega arith)
     (sym c.count.ensures ∙ c.if-count-eq-MOST_ITEMS.true, omega (arith, length-append (seen_bits s.reader.progress) (bits c.args.bytes.now), length-bits c.args.bytes.now, c.requires.some))
 
 pub returns-in-Err-Refused-clause-err : goal.returns-in-Err-Refused-clause-err
@@ -56,20 +56,20 @@ returns-in-Err-Refused-clause-err c =
     let new = bits c.args.bytes.now in
     let is : ◌≡◌ {A = Result Fed ReadFault} c.feed.result (Err (Refused c.in-Err-Refused.bit c.in-Err-Refused.var)) = c.in-Err-Refused.is ∙ ap Err c.in-Err-Refused.field-0-is in
     let f = fed s.job.kind s.reader new _ _ _ c.requires.waits is c.feed.ensures.answer in
-    let less : s.teller.count < 1000000 = omega (arith, c.requires.told, c.if-count-eq-MOST_ITEMS.false, c.count.ensures) in
+    let less : s.printer.count < 1000000 = omega (arith, c.requires.reported, c.if-count-eq-MOST_ITEMS.false, c.count.ensures) in
     rw c.count-in-Err-Refused.ensures
-    (stops_here s.job s.reader s.teller c.args.bytes.now _ c.requires.waits s.teller _ (fault.Refused (s.teller.count + 1) c.in-Err-Refused.bit c.in-Err-Refused.var) c.requires.told refl (omega arith)
+    (stops_here s.job s.reader s.printer c.args.bytes.now _ c.requires.waits s.printer _ (fault.Refused (s.printer.count + 1) c.in-Err-Refused.bit c.in-Err-Refused.var) c.requires.reported refl (omega arith)
     (refl, less, feed_refuses s.job.kind (seen_bits s.reader.progress) new _ _ c.feed.new.self.progress f))
 
 pub returns-in-Err-Memory-clause-err : goal.returns-in-Err-Memory-clause-err
 returns-in-Err-Memory-clause-err c =
     let s = c.args.self.now in
-    stops_here s.job s.reader s.teller c.args.bytes.now _ c.requires.waits s.teller _ fault.Memory c.requires.told refl (omega arith) tt
+    stops_here s.job s.reader s.printer c.args.bytes.now _ c.requires.waits s.printer _ fault.Memory c.requires.reported refl (omega arith) tt
 
-pub returns-in_err-tell-in-Ok-Done-clause-err : goal.returns-in_err-tell-in-Ok-Done-clause-err
-returns-in_err-tell-in-Ok-Done-clause-err c =
+pub returns-in_err-print-in-Ok-Done-clause-err : goal.returns-in_err-print-in-Ok-Done-clause-err
+returns-in_err-print-in-Ok-Done-clause-err c =
     let s = c.args.self.now in
     let p = err_from_is_err_and c.from_residual.result c.from_residual.ensures.1 in
-    let e = c.in_err-tell-in-Ok-Done.ensures.err in
+    let e = c.in_err-print-in-Ok-Done.ensures.err in
     rw (p.1, p.2, e.0)
-    (stops_here s.job s.reader s.teller c.args.bytes.now _ c.requires.waits c.tell.new.self.teller _ fault.Memory c.requires.told e.1 (omega (arith, c.tell.ensures.told)) tt)
+    (stops_here s.job s.reader s.printer c.args.bytes.now _ c.requires.waits c.print.new.self.printer _ fault.Memory c.requires.reported e.1 (omega (arith, c.print.ensures.reported)) tt)

@@ -12,10 +12,10 @@ loop-rest-init c = record {
   front = [];
   job_is = refl;
   waits = c.requires.waits;
-  few = c.requires.told;
+  few = c.requires.reported;
   room = λ h. h;
   all = refl;
-  advances = Advances-none c.args.self.now.job.kind c.args.self.now.job.command (seen_bits c.args.self.now.reader.progress) c.args.self.now.teller c.args.page.now;
+  advances = Advances-none c.args.self.now.job.kind c.args.self.now.job.command (seen_bits c.args.self.now.reader.progress) c.args.self.now.printer c.args.page.now;
 }
 
 pub loop-rest-preserved : goal.loop-rest-preserved
@@ -50,5 +50,5 @@ returns-in_err-taken-clause-said c =
     let before = c.loop-rest.invariant in
     let job = c.args.self.now.job in
     let p = err_from_is_err_and c.from_residual.result c.from_residual.ensures.1 in
-    let told = before.advances in
-    rw p.1 (says_then job.command _ _ c.take_front.new.self.teller told.told _ told.added _ _ told.added_is told.text_is (rw before.job_is at c.in_err-taken.ensures.err.1))
+    let printed = before.advances in
+    rw p.1 (says_then job.command _ _ c.take_front.new.self.printer printed.reported _ printed.added _ _ printed.added_is printed.text_is (rw before.job_is at c.in_err-taken.ensures.err.1))

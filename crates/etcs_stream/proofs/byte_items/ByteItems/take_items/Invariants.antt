@@ -9,10 +9,10 @@ invariant-loop-rest l = record {
   front : List ℕ;
   job_is : l.self.job ≡ l.fn.self.job;
   waits : Awaits l.fn.self.job.kind l.self.reader;
-  few : l.self.teller.count ≤ 1000000;
-  room : HasRoom l.fn.self.teller.count (seen_bits l.fn.self.reader.progress) → HasRoom l.self.teller.count (seen_bits l.self.reader.progress);
+  few : l.self.printer.count ≤ 1000000;
+  room : HasRoom l.fn.self.printer.count (seen_bits l.fn.self.reader.progress) → HasRoom l.self.printer.count (seen_bits l.self.reader.progress);
   all : l.bytes ≡ front ++ l.rest;
-  advances : Advances l.fn.self.job.kind l.fn.self.job.command (seen_bits l.fn.self.reader.progress) (seen_bits l.self.reader.progress) l.fn.self.teller l.self.teller front l.fn.page l.page;
+  advances : Advances l.fn.self.job.kind l.fn.self.job.command (seen_bits l.fn.self.reader.progress) (seen_bits l.self.reader.progress) l.fn.self.printer l.self.printer front l.fn.page l.page;
 }
 
 abbrev pub decreases-loop-rest : goal.decreases-loop-rest

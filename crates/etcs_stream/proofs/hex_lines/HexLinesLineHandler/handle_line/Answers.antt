@@ -5,23 +5,23 @@ use Rattle.etcs_stream.proofs.hex_lines.HexLinesLineHandler.handle_line.Goals as
 pub handle-requires-clause-waits : goal.handle-requires-clause-waits
 handle-requires-clause-waits c = c.requires.took.2.waits
 
-pub handle-requires-clause-told : goal.handle-requires-clause-told
-handle-requires-clause-told c = c.requires.took.2.items.few
+pub handle-requires-clause-reported : goal.handle-requires-clause-reported
+handle-requires-clause-reported c = c.requires.took.2.items.few
 
 pub returns-clause-ok : goal.returns-clause-ok
-returns-clause-ok c lines raw told h l e =
+returns-clause-ok c lines raw output h l e =
     let i = c.args.self.now.items in
     let i' = c.handle.new.self.items in
     let k = c.handle.ensures in
-    rw k.job (took_more i.job i.reader i.teller lines told c.args.text.now.items h raw i'.reader i'.teller c.handle.new.text.items c.args.line.now c.handle.result e k.good k.waits k.told k.room k.ok)
+    rw k.job (took_more i.job i.reader i.printer lines output c.args.text.now.items h raw i'.reader i'.printer c.handle.new.text.items c.args.line.now c.handle.result e k.good k.waits k.reported k.room k.ok)
 
 pub returns-clause-err : goal.returns-clause-err
-returns-clause-err c lines raw more told h l e m =
+returns-clause-err c lines raw more output h l e m =
     let i = c.args.self.now.items in
-    took_stops i.job i.reader i.teller lines told c.args.text.now.items h raw more c.handle.new.text.items c.args.line.now c.args.number c.handle.result l e m c.handle.ensures.err
+    took_stops i.job i.reader i.printer lines output c.args.text.now.items h raw more c.handle.new.text.items c.args.line.now c.args.number c.handle.result l e m c.handle.ensures.err
 
 pub returns-clause-said : goal.returns-clause-said
-returns-clause-said c lines told h =
+returns-clause-said c lines output h =
     let i = c.args.self.now.items in
     let k = c.handle.ensures in
-    rw k.job (says_all_if i.job.command i.teller c.handle.new.self.items.teller h.items.items told c.args.text.now.items _ c.handle.result h.items.text k.said)
+    rw k.job (says_all_if i.job.command i.printer c.handle.new.self.items.printer h.items.items output c.args.text.now.items _ c.handle.result h.items.text k.said)

@@ -7,22 +7,22 @@ use Rattle.etcs_stream.proofs.json_lines.JsonLines.handle.Goals as goal
 
 pub returns-in-Ok-clause-ok : goal.returns-in-Ok-clause-ok
 returns-in-Ok-clause-ok c =
-    let room : c.args.self.now.teller.count < 1000000 = omega (arith, c.requires.told, c.if-count-eq-MOST_ITEMS.false, c.count.ensures) in
-    let told = c.in-Ok.ensures.ok in
-    item_line (entry_value c.in_ok-entry.entry) told.0 c.in_ok-entry.ensures.ok room told.1 (c.into_text.ensures ∙ told.2 ∙ ap (λ (z : List ℕ). z ++ told.0) c.open-page.ensures)
+    let room : c.args.self.now.printer.count < 1000000 = omega (arith, c.requires.reported, c.if-count-eq-MOST_ITEMS.false, c.count.ensures) in
+    let printed = c.in-Ok.ensures.ok in
+    item_line (entry_value c.in_ok-entry.entry) printed.0 c.in_ok-entry.ensures.ok room printed.1 (c.into_text.ensures ∙ printed.2 ∙ ap (λ (z : List ℕ). z ++ printed.0) c.open-page.ensures)
 
 pub returns-then-count-eq-MOST_ITEMS-clause-said : goal.returns-then-count-eq-MOST_ITEMS-clause-said
 returns-then-count-eq-MOST_ITEMS-clause-said c =
     let s = c.args.self.now in
-    says_here s.job.command s.teller s.teller _ _ refl (omega arith)
+    says_here s.job.command s.printer s.printer _ _ refl (omega arith)
 
 pub returns-in_err-entry-clause-said : goal.returns-in_err-entry-clause-said
 returns-in_err-entry-clause-said c =
     let s = c.args.self.now in
     let p = err_from_is_err_and c.from_residual.result c.from_residual.ensures.1 in
-    rw p.1 (says_here s.job.command s.teller s.teller _ _ refl (omega arith))
+    rw p.1 (says_here s.job.command s.printer s.printer _ _ refl (omega arith))
 
 pub returns-in-Err-clause-said : goal.returns-in-Err-clause-said
 returns-in-Err-clause-said c =
     let s = c.args.self.now in
-    says_here s.job.command s.teller c.tell-told.new.self _ _ (c.into_text.ensures ∙ c.in-Err.ensures.err ∙ c.open-page.ensures) (omega (arith, c.tell-told.ensures.count))
+    says_here s.job.command s.printer c.print-printed.new.self _ _ (c.into_text.ensures ∙ c.in-Err.ensures.err ∙ c.open-page.ensures) (omega (arith, c.print-printed.ensures.count))

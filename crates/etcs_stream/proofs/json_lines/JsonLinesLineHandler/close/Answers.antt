@@ -3,17 +3,17 @@ use Rattle.etcs_stream.proofs.Saying.{says_first_if, says_same}
 use Rattle.etcs_stream.proofs.json_lines.JsonLinesLineHandler.close.Goals as goal
 
 pub returns-clause-ok : goal.returns-clause-ok
-returns-clause-ok c lines last told h l long =
+returns-clause-ok c lines last output h l long =
     let s = c.args.self.now in
-    absurd (json_short s.job s.teller lines last told h long)
+    absurd (json_short s.job s.printer lines last output h long)
 
 pub returns-clause-err : goal.returns-clause-err
-returns-clause-err c lines last told h l long =
+returns-clause-err c lines last output h l long =
     let s = c.args.self.now in
-    absurd (json_short s.job s.teller lines last told h long)
+    absurd (json_short s.job s.printer lines last output h long)
 
 pub returns-clause-said : goal.returns-clause-said
-returns-clause-said c lines told h =
+returns-clause-said c lines output h =
     let s = c.args.self.now in
     let text = c.args.text.now.items in
-    says_first_if s.job.command s.teller s.teller h.items told text _ c.end.result c.requires.empty h.text (says_same _ s.job.command s.teller text _ c.end.result c.end.ensures.err)
+    says_first_if s.job.command s.printer s.printer h.items output text _ c.end.result c.requires.empty h.text (says_same _ s.job.command s.printer text _ c.end.result c.end.ensures.err)

@@ -1,5 +1,5 @@
 use Rattle.std.proofs.Common.{refl}
-use Rattle.etcs_stream.proofs.teller.Teller.close_group.Goals as goal
+use Rattle.etcs_stream.proofs.printer.Printer.close_group.Goals as goal
 
 pub returns-clause-ok : goal.returns-clause-ok
 returns-clause-ok c =

@@ -1,12 +1,12 @@
 use Rattle.std.proofs.Common.{Ok, subst}
-use Rattle.etcs_stream.specs.Told.{Told}
+use Rattle.etcs_stream.specs.Reported.{Reported}
 use Rattle.etcs_stream.specs.Groups.{Answers}
 use Rattle.etcs_stream.proofs.Answering.{accepted}
-use Rattle.etcs_stream.proofs.teller.Teller.add.Goals as goal
+use Rattle.etcs_stream.proofs.printer.Printer.add.Goals as goal
 
 pub returns-in-Ok-clause-answer : goal.returns-in-Ok-clause-answer
 returns-in-Ok-clause-answer c =
-    subst (λ (s : Told). Answers s.held c.args.telegram (Ok c.in-Ok.added)) c.self.view_is
+    subst (λ (s : Reported). Answers s.held c.args.telegram (Ok c.in-Ok.added)) c.self.view_is
     (accepted c.self.inside.assembly c.args.telegram c.in-Ok.added c.in-Ok.ensures.new c.in-Ok.ensures.repeat)
 
 pub returns-in-Ok-clause-held : goal.returns-in-Ok-clause-held

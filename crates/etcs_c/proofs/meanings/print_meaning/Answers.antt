@@ -1,7 +1,7 @@
 use Rattle.std.proofs.Common.{◌∙◌, inl}
 use Rattle.etcs_c.specs.Meanings.{IsMeaning}
 use Rattle.etcs_c.proofs.Delivering.{text_said}
-use Rattle.etcs_c.proofs.meanings.tell_meaning.Goals as goal
+use Rattle.etcs_c.proofs.meanings.print_meaning.Goals as goal
 
 pub returns-in-Some : goal.returns-in-Some
 returns-in-Some c =

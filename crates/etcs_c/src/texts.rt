@@ -62,7 +62,7 @@ fn say_text(
 }
 
 /// Answers what the bytes begin with, and writes the text of an item.
-pub(crate) fn tell(
+pub(crate) fn write_text(
     alloc: Global,
     wanted: Wanted,
     kind: Kind,

@@ -13,39 +13,39 @@ use Rattle.etcs_stream.specs.declared.job.Job.{Job}
 use Rattle.etcs_stream.specs.declared.job.Tally.{Tally}
 use Rattle.etcs_text.specs.Kinds.{IsOfTelegrams}
 use Rattle.etcs_stream.specs.Groups.{GroupItem, LastLines}
-use Rattle.etcs_stream.specs.Told.{Told}
+use Rattle.etcs_stream.specs.Reported.{Reported}
 
 -- messages aren't grouped
 abbrev pub IsGroupable : Job → Type 0
 IsGroupable job = job.command ≡ Group → IsOfTelegrams job.kind
 
-abbrev pub nothing_told : Told
-nothing_told = record { count = 0; clashes = 0; held = replicate 8 None }
+abbrev pub nothing_reported : Reported
+nothing_reported = record { count = 0; clashes = 0; held = replicate 8 None }
 
 -- one item more
-abbrev pub one_more : Told → Told
+abbrev pub one_more : Reported → Reported
 one_more s = record { count = s.count + 1; clashes = s.clashes; held = s.held }
 
 -- what is written of an item after those reported
-abbrev pub TellsItem : Command → EntryValue → Told → List ℕ → Told → Type 0
-TellsItem Show e s text s' = (text ≡ entry_text e (s.count + 1)) × (s' ≡ one_more s)
-TellsItem Check e s text s' = (text ≡ check_line e (s.count + 1)) × (s' ≡ one_more s)
-TellsItem (Convert Hex) e s text s' = ((bytes : List ℕ) × IsEncoded e bytes × (text ≡ encode_upper bytes ++ 10 ∷ [])) × (s' ≡ one_more s)
-TellsItem (Convert Bin) e s text s' = IsEncoded e text × (s' ≡ one_more s)
-TellsItem (Convert Json) e s text s' = (text ≡ compact_text (json_tree e) ++ 10 ∷ []) × (s' ≡ one_more s)
-TellsItem Group (of_telegram t) s text s' = GroupItem t s text s'
-TellsItem Group (of_message way m) s text s' = ⊥
+abbrev pub OutputsItem : Command → EntryValue → Reported → List ℕ → Reported → Type 0
+OutputsItem Show e s text s' = (text ≡ entry_text e (s.count + 1)) × (s' ≡ one_more s)
+OutputsItem Check e s text s' = (text ≡ check_line e (s.count + 1)) × (s' ≡ one_more s)
+OutputsItem (Convert Hex) e s text s' = ((bytes : List ℕ) × IsEncoded e bytes × (text ≡ encode_upper bytes ++ 10 ∷ [])) × (s' ≡ one_more s)
+OutputsItem (Convert Bin) e s text s' = IsEncoded e text × (s' ≡ one_more s)
+OutputsItem (Convert Json) e s text s' = (text ≡ compact_text (json_tree e) ++ 10 ∷ []) × (s' ≡ one_more s)
+OutputsItem Group (of_telegram t) s text s' = GroupItem t s text s'
+OutputsItem Group (of_message way m) s text s' = ⊥
 
 -- and of items one after another
-abbrev pub TellsItems : Command → Told → List EntryValue → List ℕ → Told → Type 0
-TellsItems c s [] text s' = (text ≡ []) × (s' ≡ s)
-TellsItems c s (e ∷ es) text s' = (mid : Told) × (first : List ℕ) × (rest : List ℕ) × (text ≡ first ++ rest) × TellsItem c e s first mid × TellsItems c mid es rest s'
+abbrev pub OutputsItems : Command → Reported → List EntryValue → List ℕ → Reported → Type 0
+OutputsItems c s [] text s' = (text ≡ []) × (s' ≡ s)
+OutputsItems c s (e ∷ es) text s' = (mid : Reported) × (first : List ℕ) × (rest : List ℕ) × (text ≡ first ++ rest) × OutputsItem c e s first mid × OutputsItems c mid es rest s'
 
 -- what is written of the items of an input
 abbrev pub ItemsText : Command → List EntryValue → List ℕ → Type 0
-ItemsText c es text = (s : Told) × TellsItems c nothing_told es text s
+ItemsText c es text = (s : Reported) × OutputsItems c nothing_reported es text s
 
 -- what is written at the end of the input, and what a run answers then
-abbrev pub Closes : Command → Told → List ℕ → Tally → Type 0
+abbrev pub Closes : Command → Reported → List ℕ → Tally → Type 0
 Closes Group s last tally = LastLines s.held last × (tally.items ≡ s.count) × (tally.clashes ≡ s.clashes) × ((tally.complete ≡ true) ↔ IsWhole s.held)
 Closes c s last tally = (last ≡ []) × (tally.items ≡ s.count) × (tally.clashes ≡ 0) × (tally.complete ≡ true)

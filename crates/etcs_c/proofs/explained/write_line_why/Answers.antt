@@ -1,6 +1,6 @@
 use Rattle.std.proofs.Common.{◌∙◌, inl, inr, refl}
 use Rattle.etcs_c.proofs.Refusals.{words_said}
-use Rattle.etcs_c.proofs.explained.tell_line_why.Goals as goal
+use Rattle.etcs_c.proofs.explained.write_line_why.Goals as goal
 
 pub returns-in-Ok : goal.returns-in-Ok
 returns-in-Ok c = inl (_, c.in-Ok.ensures.ok, refl, refl, refl)

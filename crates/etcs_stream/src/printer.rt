@@ -1,4 +1,4 @@
-//! What is written of the items, and after the last of them.
+//! What is written for each item, and after the last one.
 
 ghost use Rattle.std.specs.Prelude.{◌≡◌, ◌+◌, ◌<◌, ◌++◌, ◌∷◌, [], ℕ, List, Ok, Err, IfOk, OnErr, OnOk};
 ghost use Rattle.etcs_telegram.specs.Telegrams.{IsTelegram};
@@ -7,9 +7,9 @@ ghost use Rattle.etcs_text.specs.Encodings.{IsEncoded};
 ghost use Rattle.etcs_text.specs.Entries.{entry_kind, entry_value};
 ghost use Rattle.hex.specs.Hex.{encode_upper};
 ghost use Rattle.etcs_stream.specs.Groups.{Answers, clashes_with};
-ghost use Rattle.etcs_stream.specs.Told.{Told};
+ghost use Rattle.etcs_stream.specs.Reported.{Reported};
 ghost use Rattle.etcs_text.specs.Kinds.{IsOfTelegrams};
-ghost use Rattle.etcs_stream.specs.Tellers.{Closes, TellsItem, nothing_told, one_more};
+ghost use Rattle.etcs_stream.specs.Printers.{Closes, OutputsItem, nothing_reported, one_more};
 
 use crate::group_lines::{answer_line, last_lines};
 use crate::job::{Command, Tally};
@@ -24,29 +24,29 @@ use std::marker::Model;
 
 /// How many items were reported, and of a balise group how many of them clash and what is held.
 #[derive(Drop)]
-pub(crate) struct Teller {
+pub(crate) struct Printer {
     count: u64,
     clashes: u64,
     assembly: Assembly,
 }
 
-impl Model for Teller {
+impl Model for Printer {
     ghost use Rattle.std.specs.Prelude.{◌≤◌};
-    ghost use Rattle.etcs_stream.specs.Told.{Told};
+    ghost use Rattle.etcs_stream.specs.Reported.{Reported};
 
-    ghost Value = { Told };
+    ghost Value = { Reported };
 
     ghost view = { λ t. record { count = t.count; clashes = t.clashes; held = t.assembly } };
 
     ghost invariant = { λ t. t.clashes ≤ t.count };
 }
 
-impl Teller {
+impl Printer {
     /// Nothing was reported.
-    pub(crate) fn new() -> Teller
-        ensures { result ≡ nothing_told }
+    pub(crate) fn new() -> Printer
+        ensures { result ≡ nothing_reported }
     {
-        Teller {
+        Printer {
             count: 0,
             clashes: 0,
             assembly: Assembly::new(),
@@ -65,7 +65,7 @@ impl Teller {
     /// # Errors
     ///
     /// Where memory is refused.
-    pub(crate) fn tell(
+    pub(crate) fn print(
         &mut self,
         command: Command,
         entry: Entry,
@@ -74,13 +74,13 @@ impl Teller {
         requires few { self.old.count < 1000000 }
         requires grouped { command ≡ Command.Group → IsOfTelegrams (entry_kind (entry_value entry)) }
         ensures count { self.new.count ≡ self.old.count + 1 }
-        ensures ok { OnOk result ((added : List ℕ) × TellsItem command (entry_value entry) self.old added self.new × (page.new ≡ page.old ++ added)) }
+        ensures ok { OnOk result ((added : List ℕ) × OutputsItem command (entry_value entry) self.old added self.new × (page.new ≡ page.old ++ added)) }
         ensures err { OnErr result (page.new ≡ page.old) }
     {
         if command == Command::Group {
-            return self.tell_grouped(entry, page);
+            return self.print_grouped(entry, page);
         }
-        self.tell_alone(command, &entry, page)
+        self.print_alone(command, &entry, page)
     }
 
     /// Appends what a command writes of the next item by itself, or nothing.
@@ -89,7 +89,7 @@ impl Teller {
     ///
     /// Where memory is refused.
     #[inline(always)]
-    pub(crate) fn tell_alone(
+    pub(crate) fn print_alone(
         &mut self,
         command: Command,
         entry: &Entry,
@@ -98,7 +98,7 @@ impl Teller {
         requires few { self.old.count < 1000000 }
         requires alone { command ≡ Command.Group → ⊥ }
         ensures count { self.new.count ≡ self.old.count + 1 }
-        ensures ok { OnOk result ((added : List ℕ) × TellsItem command (entry_value entry.now) self.old added self.new × (page.new ≡ page.old ++ added)) }
+        ensures ok { OnOk result ((added : List ℕ) × OutputsItem command (entry_value entry.now) self.old added self.new × (page.new ≡ page.old ++ added)) }
         ensures err { OnErr result (page.new ≡ page.old) }
     {
         self.count += 1;
@@ -138,11 +138,11 @@ impl Teller {
     }
 
     /// Appends the line that says what a telegram is to the group, or nothing.
-    pub(crate) fn tell_grouped(&mut self, entry: Entry, page: &mut Page) -> Result<(), AllocError>
+    pub(crate) fn print_grouped(&mut self, entry: Entry, page: &mut Page) -> Result<(), AllocError>
         requires few { self.old.count < 1000000 }
         requires grouped { IsOfTelegrams (entry_kind (entry_value entry)) }
         ensures count { self.new.count ≡ self.old.count + 1 }
-        ensures ok { OnOk result ((added : List ℕ) × TellsItem Command.Group (entry_value entry) self.old added self.new × (page.new ≡ page.old ++ added)) }
+        ensures ok { OnOk result ((added : List ℕ) × OutputsItem Command.Group (entry_value entry) self.old added self.new × (page.new ≡ page.old ++ added)) }
         ensures err { OnErr result (page.new ≡ page.old) }
     {
         let answer = match entry {
@@ -182,7 +182,7 @@ fn write_alone(
     page: &mut Page,
 ) -> Result<(), AllocError>
     requires { command ≡ Command.Group → ⊥ }
-    ensures ok { (s : Told) → item ≡ s.count + 1 → OnOk result ((added : List ℕ) × TellsItem command (entry_value entry.now) s added (one_more s) × (page.new ≡ page.old ++ added)) }
+    ensures ok { (s : Reported) → item ≡ s.count + 1 → OnOk result ((added : List ℕ) × OutputsItem command (entry_value entry.now) s added (one_more s) × (page.new ≡ page.old ++ added)) }
     ensures err { OnErr result (page.new ≡ page.old) }
 {
     match command {

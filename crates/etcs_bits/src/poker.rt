@@ -151,7 +151,7 @@ impl<'a> Poker<'a> {
         Poker { bytes, place: 0 }
     }
 
-    /// Writes a number into the next `width` bits, which are then behind the poker.
+    /// Writes a number into the next `width` bits, which the poker then has passed.
     /// All other bits stay.
     ///
     /// # Errors
@@ -174,7 +174,7 @@ impl<'a> Poker<'a> {
         Ok(())
     }
 
-    /// How many bits are behind the poker.
+    /// How many bits the poker has passed.
     pub fn place(&self) -> usize
         ensures { result ≡ place_of self.now }
     {

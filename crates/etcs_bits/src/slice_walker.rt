@@ -61,7 +61,7 @@ fn next_bits_from(bits: &BitSlice<'_>, at: usize, width: usize) -> Option<NextBi
 #[derive(Drop)]
 pub struct SliceWalker<'a> {
     bits: BitSlice<'a>,
-    /// How many of the bits are behind the walker or kept.
+    /// How many of the bits the walker has passed or keeps.
     end: usize,
     next: NextBits,
 }
@@ -89,7 +89,7 @@ impl<'a> SliceWalker<'a> {
         }
     }
 
-    /// The number in the next `width` bits, most significant bit first, which are then behind the walker.
+    /// The number in the next `width` bits, most significant bit first, which the walker then has passed.
     /// `None` where these go past the end; the walker then stays where it is.
     #[inline(always)]
     pub fn next(&mut self, width: usize) -> Option<u64>
@@ -112,14 +112,14 @@ impl<'a> SliceWalker<'a> {
         Some(number)
     }
 
-    /// How many of the bits are behind the walker.
+    /// How many of the bits the walker has passed.
     pub fn place(&self) -> usize
         ensures { result ≡ self.now.place }
     {
         self.end - self.next.count
     }
 
-    /// Whether all of the bits are behind the walker.
+    /// Whether the walker has passed all of the bits.
     pub fn is_at_end(&self) -> bool
         ensures { result ≡ nat_le (length self.now.bits) self.now.place }
     {

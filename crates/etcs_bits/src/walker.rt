@@ -163,7 +163,7 @@ impl<'a> Walker<'a> {
         Walker { bytes, place: 0 }
     }
 
-    /// The number in the next `width` bits, which are then behind the walker.
+    /// The number in the next `width` bits, which the walker then has passed.
     /// `None` where these bits go past the end; the walker then stays where it is.
     pub fn next(&mut self, width: usize) -> Option<u64>
         requires width { width ≤ 64 }
@@ -176,7 +176,7 @@ impl<'a> Walker<'a> {
         Some(number)
     }
 
-    /// How many bits are behind the walker.
+    /// How many bits the walker has passed.
     pub fn place(&self) -> usize
         ensures { result ≡ self.now.place }
     {

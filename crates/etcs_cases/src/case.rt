@@ -403,7 +403,7 @@ impl<'a> Case<'a> {
         self.say(var.name());
     }
 
-    /// Answers besides what doesn't hold.
+    /// If this doesn't hold, appends that to the answer.
     pub fn check(&mut self, holds: bool, text: &str) {
         if !holds {
             self.say("\nbut ");
@@ -412,7 +412,7 @@ impl<'a> Case<'a> {
     }
 }
 
-/// What the next words are, by its type: a number of a width, `0` or `1`, several in turn, or `-` for none.
+/// What the next words give, by its type: a number of a width, `0` or `1`, several in turn, or `-` for none.
 pub trait Argument: Sized {
     fn next(case: &mut Case) -> Self;
 }

@@ -9,11 +9,11 @@ use std::alloc::Global;
 
 /// Answers a line about items: whether it is one.
 ///
-/// `short HEX`, `long HEX`, `radio HEX`, `train HEX`: what is said of the bytes of an item. `message HEX`, `train_message HEX`:
-/// how many bits and packets a message to the train or to the track has. `turned KIND HEX`: a line for each turned bit with
-/// which the bytes are none of these items, with what is answered. `alike KIND HEX`: of how many bytes with one bit turned all
-/// ways to read them say the same. `pairs KIND`: how many of all pairs of first bytes are refused. `fed KIND PIECE PIECE ..`:
-/// what a reader answers to each piece, how many bits it has seen and what it holds.
+/// `short HEX`, `long HEX`, `radio HEX`, `train HEX`: what the bytes are read as. `message HEX`, `train_message HEX`: how many
+/// bits and packets a message to the train or to the track has. `turned KIND HEX`: a line for each bit with which, flipped,
+/// the bytes are no longer one item, with the answer to them. `alike KIND HEX`: for how many flipped bits all ways to read the
+/// bytes give the same answer. `pairs KIND`: how many of all pairs of first bytes are refused. `fed KIND PIECE PIECE ..`: what
+/// a reader answers to each piece, how many bits it has seen and what it holds.
 pub(crate) fn answer(case: &mut Case, asked: &str) -> bool {
     match asked {
         "short" => read(case, Kind::Short),
@@ -31,7 +31,7 @@ pub(crate) fn answer(case: &mut Case, asked: &str) -> bool {
     true
 }
 
-/// What is said of the bytes of an item.
+/// Answers what the bytes are read as.
 fn read(case: &mut Case, kind: Kind) {
     let bytes = case.bytes();
     let (fed, item) = read_whole(case.alloc(), kind, bytes.as_slice());
@@ -113,7 +113,7 @@ fn is_no_view(kind: Kind, bytes: &[u8], fed: Result<Fed, ReadFault>) -> bool {
     }
 }
 
-/// What is said of bytes that are no item.
+/// Answers why bytes are no item.
 fn say_unread(case: &mut Case, fed: Result<Fed, ReadFault>) {
     match fed {
         Ok(Fed::More) => case.say("wants more"),

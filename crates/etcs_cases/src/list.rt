@@ -1,4 +1,4 @@
-//! The typed packets, said once: of those without groups number and variant, of those with groups the variant.
+//! The list of typed packets: number and variant of those without groups, the variant of those with groups.
 //!
 //! [`to_train`] and [`to_track`] hand their lists to another macro, with what that one is given in braces before them.
 

@@ -40,7 +40,7 @@ fn check_reads<P: Program>(case: &mut Case, asked: Asked<'_>, wanted: &Ended) {
     }
 }
 
-/// Checks what is said where a read failed, or before, of what is refused.
+/// Checks the output and the status if a read failed, or if the input before that is refused.
 fn check_failed_read(case: &mut Case, failed: &Ended, wanted: &Ended, may_be_refused: bool) {
     let whole = wanted.output.as_slice();
     let is_front = whole.starts_with(failed.output.as_slice());
@@ -50,7 +50,7 @@ fn check_failed_read(case: &mut Case, failed: &Ended, wanted: &Ended, may_be_ref
     case.check(is_refused || is_said, "no failed read");
 }
 
-/// Checks that a reader that fails after whole lines has no line unwritten, but for what a group is at the end.
+/// Checks that, if a reader fails after whole lines, no line is unwritten, except the last lines of a group.
 fn check_whole_lines<P: Program>(case: &mut Case, asked: Asked<'_>, wanted: &Ended) {
     let is_group = asked.line.starts_with("etcs group");
     if wanted.status == 0 && asked.input.last() == Some(&b'\n') && !is_group {
@@ -84,7 +84,7 @@ fn check_writes<P: Program>(case: &mut Case, asked: Asked<'_>, wanted: &Ended) {
     }
 }
 
-/// Checks what is said of a write that failed after these bytes.
+/// Checks what is reported of a write that failed after these bytes.
 fn check_failed_write(case: &mut Case, failed: &Ended, written: &[u8]) {
     let sent = written.len() as u64;
     let line = fault_line(case, &RunFault::Write { sent });

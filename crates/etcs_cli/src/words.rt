@@ -2,7 +2,7 @@
 
 ghost use Rattle.std.specs.Prelude.{◌≡◌, IfSome};
 ghost use Rattle.etcs_stream.specs.declared.job.Job.{Job};
-ghost use Rattle.etcs_stream.specs.Tellers.{IsGroupable};
+ghost use Rattle.etcs_stream.specs.Printers.{IsGroupable};
 ghost use Rattle.etcs_cli.specs.Statuses.{fault_status, log_status, tally_status};
 
 use clap::builder::ValueParser;
@@ -61,7 +61,7 @@ static LOG_GROUPS_HELP: &str =
 /// What `--from` and `--to` take.
 static FORMS: [&str; 3] = ["hex", "bin", "json"];
 
-/// What help says of them.
+/// What help says about them.
 static FROM_HELP: &str =
     "Form of the input: lines of hexadecimal digits (hex), the bytes themselves (bin) or lines of JSON (json)";
 
@@ -71,7 +71,7 @@ static TO_HELP: &str =
 /// What `--to` of `explain` takes.
 static LAYOUTS: [&str; 2] = ["text", "html"];
 
-/// What help says of it.
+/// What help says about it.
 static LAYOUTS_HELP: &str =
     "Form of the output: lines of text (text) or a page for a browser (html)";
 
@@ -146,13 +146,12 @@ pub fn parse(alloc: Global, words: &[String]) -> Parsed
     }
 }
 
-/// The whole program but for taking its words and streams: the answer is its status.
+/// The whole program, except that `main` hands it the words and the streams. Returns the exit status.
 ///
-/// The first of the words is the program's name. The status is 0 where the run accepted all of
-/// its input, or help or the version was asked for; 1 where the input was refused, and where a group has
-/// a clash or isn't whole; 2 where the command line was refused; and 3 where a stream failed, the input didn't end or memory was
-/// refused. Text, help and the version go to `output`, and what was wrong goes to `faults`. A write
-/// to `faults`, or of help or the version, that fails changes no status.
+/// The first of the words is the program's name. The status is 0 if the run accepted all of its input, or help or the
+/// version was asked for; 1 if some of the input was refused, or a group has a clash or isn't complete; 2 if the command
+/// line was refused; and 3 if a stream failed, the input didn't end or memory was refused. Text, help and the version go
+/// to `output`, and faults to `faults`. A failed write to `faults`, or of help or the version, doesn't change the status.
 pub fn run_words(
     alloc: Global,
     words: Vec<String>,
@@ -202,8 +201,8 @@ fn run_job(
     }
 }
 
-/// Reads a log from the reader to the writer, and where good lines are asked for writes what is said of bad ones to
-/// `faults`; answers its status. After a fault, what was written is passed on.
+/// Reads a log from the reader to the writer, and if good lines are asked for writes what is reported of other lines to
+/// `faults`; returns the status. After a fault, what was written is passed on.
 #[inline(never)]
 fn read_log(
     alloc: Global,

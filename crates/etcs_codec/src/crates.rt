@@ -1,4 +1,4 @@
-//! The crates below, each with all that it has: what it hands to crates above (`inner`), and its laws (`laws`).
+//! The crates below, each with everything in it: also its module for the crates above (`inner`) and its laws (`laws`).
 
 pub use etcs_bits;
 pub use etcs_group;

@@ -1,7 +1,7 @@
-//! The whole codec in one crate: a program or a library names it alone in `crates.txt`.
+//! The whole codec in one crate: of this repository, a program or a library names only this one in `crates.txt`.
 //!
-//! [`prelude`] has what most programs use, for `use etcs_codec::prelude::*`. Here is the rest: bits at any offset, rows
-//! and walks over them, runs over streams, how an account ends. The crates below are in [`crates`], each with all that it has.
+//! [`prelude`] has what most programs use, for `use etcs_codec::prelude::*`. The rest is here: bits at any offset, rows and
+//! walks over them, runs over streams, how an account ends. [`crates`] has each crate below with everything in it.
 //!
 //! ```rust
 //! use etcs_codec::prelude::*;

@@ -1,5 +1,5 @@
-//! Reads a log of short telegrams, one a line in hexadecimal digits: says of each line that is none why, and at the end how
-//! many telegrams, bad lines and links to other groups there were.
+//! Reads a log of short telegrams, one per line in hexadecimal digits: reports why a line isn't one, and at the end how many
+//! telegrams, bad lines and links to other groups there were.
 
 use etcs_codec::prelude::*;
 use std::io::BufRead;

@@ -1,5 +1,5 @@
-//! Three examples of programs over the library. The first word picks one, which reads standard input; without a word all
-//! run, one after another, over their files in the working directory, where the gate puts those of data/.
+//! Three example programs over the library. The first word picks one, which reads standard input; without a word all of them
+//! run in turn, over their files in the working directory, where the gate puts those of data/.
 #![tactic(auto)]
 
 use std::io::BufReader;
@@ -31,7 +31,7 @@ fn one(rt: HostRuntime, name: &str) -> anyhow::Result<ExitCode> {
     Ok(ExitCode::SUCCESS)
 }
 
-/// Runs all examples, those that read over their files.
+/// Runs all examples; those that read get their files.
 fn all(rt: HostRuntime) -> anyhow::Result<ExitCode> {
     simulator::run(rt)?;
     let log = fs::open(&rt, "log_reader.txt")?;

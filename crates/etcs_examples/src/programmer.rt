@@ -8,7 +8,7 @@ use std::io::{BufRead, Write};
 /// 40 km/h, in steps of 5.
 const LIMIT: u64 = 8;
 
-/// The packet with V_TSR at most LIMIT, where it is a temporary speed restriction; and any other as it is.
+/// The packet with V_TSR lowered to LIMIT, if it is a temporary speed restriction above that; any other as it is.
 fn limited(packet: Packet) -> Result<Packet, BuildFault> {
     let Packet::Tsr(restriction) = &packet else {
         return Ok(packet);

@@ -1,4 +1,4 @@
-//! What a test asks, one question after another.
+//! The checks of a test, one after another.
 
 /// The first thing that doesn't hold, if any.
 #[derive(Clone, Copy)]
@@ -9,7 +9,7 @@ pub struct Checks {
 }
 
 impl Checks {
-    /// Nothing asked yet.
+    /// No check has been made.
     pub fn new() -> Checks {
         Checks {
             wrong: None,
@@ -18,7 +18,7 @@ impl Checks {
         }
     }
 
-    /// Notes what doesn't hold.
+    /// Notes the text, if this is the first check that doesn't hold.
     pub fn check(&mut self, holds: bool, text: &'static str) {
         if !holds && self.wrong.is_none() {
             self.wrong = Some(text);
@@ -34,7 +34,7 @@ impl Checks {
         }
     }
 
-    /// Notes where no call was refused memory, or all were.
+    /// Notes if no call was refused memory, or all were.
     pub fn check_counts(&mut self) {
         let (refused, answered) = (self.refused, self.answered);
         self.check(refused > 0, "no call was refused memory");

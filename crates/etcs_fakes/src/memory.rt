@@ -2,8 +2,13 @@
 
 use std::alloc::{AllocError, Global};
 
-/// Blocks that leave no room for another of 16 bytes. They reserve addresses and touch nearly none.
-/// Small blocks are taken in each size, since the heap keeps freed ones for requests of their size.
+/// Takes blocks until there is no memory for another of 16 bytes, and returns them: memory is used up until they are
+/// dropped. They reserve addresses and touch almost none of them. Small blocks are taken in each size, since the heap keeps
+/// freed blocks for requests of their size.
+///
+/// # Errors
+///
+/// If there is no memory for the list of blocks.
 pub fn starve(alloc: Global) -> Result<Vec<Vec<u8>>, AllocError> {
     let mut held = Vec::with_capacity(alloc, 400_000)?;
     let mut size = 1usize << 46;
@@ -19,7 +24,11 @@ pub fn starve(alloc: Global) -> Result<Vec<Vec<u8>>, AllocError> {
     Ok(held)
 }
 
-/// As `starve`, but about this many bytes, of at most 8192, can still be had.
+/// As [`starve`], but about `room` bytes, at most 8,192, can still be allocated.
+///
+/// # Errors
+///
+/// If there is no memory for the list of blocks, or to set `room` aside.
 pub fn starve_to(alloc: Global, room: usize) -> Result<Vec<Vec<u8>>, AllocError> {
     let spare: Vec<u8> = Vec::with_capacity(alloc, 8192)?;
     let mut held = starve(alloc)?;

@@ -5,7 +5,8 @@ use std::io::{self, ErrorKind, Read, Write};
 /// How many bytes a reader may be asked for at once.
 const MOST: usize = 4096;
 
-/// Gives n bytes a read, and then fails, or is at its end. It fails, too, where it is asked for more than 4,096 bytes.
+/// Gives at most `step` bytes of `rest` at each read; after the last it fails with `fails`, or is at its end. A read of
+/// more than 4,096 bytes fails.
 #[derive(Drop)]
 pub struct Broken<'a> {
     pub rest: &'a [u8],
@@ -29,7 +30,7 @@ impl Read for Broken<'_> {
     }
 }
 
-/// Gives the same bytes again and again, so often, and then others.
+/// Gives the same bytes `left` times, and then those of `then`.
 #[derive(Drop)]
 pub struct Repeated<'a> {
     pub bytes: &'a [u8],
@@ -49,7 +50,7 @@ impl Read for Repeated<'_> {
     }
 }
 
-/// What a writer does once it has no room.
+/// What a writer does when it has no room left.
 #[derive(Clone, Copy)]
 pub enum Full {
     Fails,
@@ -57,7 +58,7 @@ pub enum Full {
     TakesNothing,
 }
 
-/// Has room for this many bytes. It counts how often it is flushed, which fails unless it `flushes`.
+/// Has room for this many bytes. It counts its flushes, which fail unless it `flushes`.
 #[derive(Drop)]
 pub struct Narrow<'a> {
     pub held: &'a mut Vec<u8>,

@@ -17,16 +17,16 @@ pub fn one_spelling()
     laws::one_spelling::<RadioHead, Body>();
 }
 
-/// Where a header's numbers are admitted, its bits with those of the number's variables and of packets after them begin
-/// a message exactly where they are at most 8 times L_MESSAGE and what is left is padding of at most 7 bits or the 23
-/// bits of a packet's frame at least.
+/// If a header's numbers are admitted, its bits, those of the message's own variables and those of packets after them
+/// begin a message exactly if they fit into 8 times L_MESSAGE bits and leave either at most 7 of these, for PADDING, or at
+/// least 23, for the frame of a packet.
 pub fn room()
     ensures { RoomRule }
 {
     laws::room::<RadioHead>();
 }
 
-/// Of the same bits a reader holds one and the same: packets, numbers, kept bits and the unfinished variable.
+/// The bits that a reader has read determine what it holds: packets, numbers, kept bits and the unfinished variable.
 pub fn one_holding()
     ensures { OneHolding }
 {
@@ -51,8 +51,8 @@ pub fn round_trip(alloc: Global, message: &Message) -> Result<Message, AllocErro
     laws::round_trip(alloc, message)
 }
 
-/// Reads a message from the front of some bytes and appends its encoding: these are then the bytes that were read.
-/// Answers how many they are, or `None` where no message is at the front, and then appends nothing.
+/// Reads a message from the front of some bytes and appends its encoding, which is exactly the bytes that were read.
+/// Answers how many they are; or `None`, without appending anything, if no message is at the front.
 ///
 /// # Errors
 ///

@@ -15,7 +15,7 @@ use etcs_packets::inner::AnyPacket;
 use etcs_telegram::Telegram;
 use std::alloc::AllocError;
 
-/// How many bits an entry has, of a telegram user bits.
+/// How many bits an entry has: for a telegram its user bits, 210 or 830.
 fn entry_bits(entry: &Entry) -> usize
     ensures { result ≡ entry_bits (entry_value entry.now) }
 {
@@ -39,8 +39,8 @@ pub fn check_on(entry: &Entry, item: u64, page: &mut Page) -> Result<(), AllocEr
     page.put_checked(item, entry_bits(entry) as u64)
 }
 
-/// Appends the line that says that an entry, the item of this number, was accepted: `item`, the number, `ok` and how many
-/// bits it has, of a telegram user bits.
+/// Appends the line that reports an entry, numbered `item`, as accepted: `item <n> ok <bits> bits` and a LF. The bits of a
+/// telegram are its user bits, 210 or 830.
 ///
 /// # Errors
 ///
@@ -88,7 +88,7 @@ fn append_message<H: Head, B: Own<Front = H>>(
     appended
 }
 
-/// Appends the entry's encoding.
+/// Appends the bytes of the entry's encoding.
 ///
 /// # Errors
 ///

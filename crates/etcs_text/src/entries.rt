@@ -50,7 +50,7 @@ impl EntryReader {
         EntryReader { inner }
     }
 
-    /// How many bits of an item that isn't whole were taken.
+    /// How many bits of the current item were taken, while it isn't whole yet.
     pub fn bits_seen(&self) -> usize
         ensures { (seen : List Bool) → self.now.progress ≡ reading seen → result ≡ length seen }
     {
@@ -61,13 +61,14 @@ impl EntryReader {
         }
     }
 
-    /// Takes the next piece, up to the item's end.
+    /// Takes the next piece: `More` if all of it was taken and the item isn't whole yet, `Done` with the number of its
+    /// bytes up to the item's end. Take a whole item by [`EntryReader::next`] before feeding further bytes.
     ///
     /// # Errors
     ///
-    /// `Refused` with the first bit of the item with which none continues, and the variable that holds it; `Memory` where
-    /// memory is refused, at a bit with which an item continues, never within the first 6 bytes of a telegram or the first
-    /// 2 of a message.
+    /// `Refused` with the first bit, counted from 0 in the item, with which no item continues, and the variable that holds
+    /// it; `Memory` if memory is refused, at a bit with which an item continues, never within the first 6 bytes of a
+    /// telegram or the first 2 of a message. No clause says what the reader answers after a fault: make a new one.
     #[inline(always)]
     pub fn feed(&mut self, piece: &[u8]) -> Result<Fed, ReadFault>
         ensures answer { (seen : List Bool) → self.old.progress ≡ reading seen → Feeds (EntryReads self.old.kind) seen (bits piece.now) result self.new.progress }
@@ -81,11 +82,11 @@ impl EntryReader {
         }
     }
 
-    /// The item, once `feed` has answered `Done`. The next one of the kind is read then.
+    /// The item, once `feed` has answered `Done`. The reader then reads the next one.
     ///
     /// # Errors
     ///
-    /// `()` where no item is whole. The reader then stays as it was.
+    /// `()` if no item is whole. The reader then stays as it was.
     #[inline(always)]
     pub fn next(&mut self) -> Result<Entry, ()>
         ensures some { IfOk result (λ e. self.old.progress ≡ finished (entry_value e)) }
@@ -100,7 +101,7 @@ impl EntryReader {
         }
     }
 
-    /// Takes the room of an item that isn't needed any more for the next ones that the reader reads.
+    /// Hands back an item that isn't needed any more; the reader may use its memory for the next ones.
     #[inline(always)]
     pub fn reuse(&mut self, entry: Entry)
         ensures { self.new ≡ self.old }

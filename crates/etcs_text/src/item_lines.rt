@@ -7,7 +7,7 @@ ghost use Rattle.etcs_packet_text.specs.Fronts.{Begins};
 use etcs_packet_text::inner::Page;
 use std::alloc::AllocError;
 
-/// Appends the word and the number that the line of an item begins with.
+/// Appends `item ` and the number, with which the line of an item begins.
 ///
 /// # Errors
 ///

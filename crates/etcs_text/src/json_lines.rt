@@ -47,7 +47,7 @@ fn write_telegram(telegram: &Telegram, page: &mut JsonPage) -> Result<(), AllocE
     page.put(b"}")
 }
 
-/// What is in a message of a way in front of its number: its kind, and the number's name.
+/// What precedes the number of a message of this way: its kind, and the number's name.
 #[inline(always)]
 pub fn way_member(way: Way) -> &'static [u8]
     ensures { result.now ≡ way_member way }
@@ -191,7 +191,7 @@ pub fn json_on(entry: &Entry, page: &mut Page) -> Result<(), AllocError>
     written
 }
 
-/// Appends the entry's JSON on a line: its compact text and a LF, or nothing.
+/// Appends the entry's JSON as one line: its compact text and a LF.
 ///
 /// The members are in the order of their names. A telegram has `fill`, `header`, `kind` and `packets`, a typed message
 /// `fields`, `header`, `kind`, `nid`, `packets` and `padding`, and one that is kept as bits `data`, `kind` and `nid`. A

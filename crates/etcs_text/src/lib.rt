@@ -1,9 +1,9 @@
-//! Items as text: a line for each variable, one line of JSON, a line of hexadecimal, or the line that says that one was
-//! accepted. All of them are appended to bytes; no tree is made.
+//! Items as text: a line for each variable, one line of JSON, one line of hexadecimal digits, or the line that reports an
+//! item as accepted. All of them are appended to a list of bytes; no tree is made.
 //!
 //! ```rust
-//! show_lines(&entry, 1, &mut out)?; // as `etcs show`: the item of number 1
-//! json_line(&entry, &mut out)?; // as `etcs convert --to json`
+//! show_lines(&entry, 1, &mut out)?; // as `etcs show` writes it, numbered 1
+//! json_line(&entry, &mut out)?; // as `etcs convert --to json` writes it
 //! ```
 #![tactic(auto, using(etcs_packet_text::specs::laws::Fronts::begins_more))]
 

@@ -85,14 +85,12 @@ pub fn show_on(entry: &Entry, item: u64, page: &mut Page) -> Result<(), AllocErr
     shown
 }
 
-/// Appends the text of an entry, the item of this number: a line with the number, the kind and the
-/// count of bits, of a telegram user bits, a line for each variable of the header and of a message's
-/// own in the order of sending (SUBSET-026, 7.5 and 8), its packets, and what closes it. Each line
-/// ends with a LF.
+/// Appends the text of an entry, numbered `item`: a line with the number, the kind and the count of bits (of a telegram
+/// its user bits), a line for each variable of the header and of a message's own in the order of sending (SUBSET-026,
+/// 7.5 and 8), its packets, and what closes it. Each line ends with a LF.
 ///
-/// A telegram is closed by `packet 255` and the line of FILL, a typed message by `end` and the line
-/// of PADDING. A message that is kept as bits has the lines of NID_MESSAGE, L_MESSAGE and OTHER_DATA
-/// alone after the first.
+/// A telegram is closed by `packet 255` and the line of FILL, a typed message by `end` and the line of PADDING. After its
+/// first line a message that is kept as bits has only those of NID_MESSAGE, L_MESSAGE and OTHER_DATA.
 ///
 /// # Errors
 ///

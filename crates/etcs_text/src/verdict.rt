@@ -16,11 +16,11 @@ use std::marker::Model;
 pub enum Verdict {
     /// This item, and nothing else.
     Item(Entry),
-    /// No item continues with this bit, which the variable holds.
+    /// No item continues with this bit, counted from 0, which the variable holds.
     Refused { bit: usize, var: Var },
     /// They end inside an item.
     TooShort,
-    /// They begin with an item, and there are more after it.
+    /// They begin with an item, and there are further bytes after it.
     TooLong,
 }
 
@@ -44,7 +44,7 @@ impl Model for SingleReader {
     ghost invariant = { λ s. s.reader ≡ record { kind = s.kind; progress = reading [] } };
 }
 
-/// The item that is whole. The next one is read then.
+/// The item that is whole. The reader then reads the next one.
 fn take(reader: &mut EntryReader) -> Entry
     requires whole { (e : EntryValue) × (reader.old.progress ≡ finished e) }
     ensures fresh { reader.new ≡ record { kind = reader.old.kind; progress = reading [] } }
@@ -76,11 +76,11 @@ impl SingleReader {
         }
     }
 
-    /// What these bytes are.
+    /// What these bytes are, read by themselves, whatever was read before.
     ///
     /// # Errors
     ///
-    /// Where memory is refused.
+    /// If memory is refused. The reader can still be used.
     pub fn read(&mut self, bytes: &[u8]) -> Result<Verdict, AllocError>
         ensures kind { self.new ≡ self.old }
         ensures verdict { IfOk result (λ v. IsVerdict self.old bytes.now v) }
@@ -102,7 +102,7 @@ impl SingleReader {
         verdict
     }
 
-    /// Takes the room of an item that isn't needed any more for the next ones that are read.
+    /// Hands back an item that isn't needed any more; the reader may use its memory for the next ones.
     #[inline(always)]
     pub fn reuse(&mut self, entry: Entry)
         ensures { self.new ≡ self.old }

@@ -162,7 +162,7 @@ fn is_plain(nid: u8) -> bool
     matches!(nid, 130 | 136 | 150 | 155 | 156 | 159)
 }
 
-/// Whether the variable of its own of a message of this number is T_TRAIN.
+/// Whether a message of this number has T_TRAIN as the one variable of its own.
 fn is_train_time(nid: u8) -> bool
     ensures { result ≡ is_train_time nid }
 {

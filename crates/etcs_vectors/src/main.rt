@@ -1,8 +1,8 @@
 //! Checks vectors: lines of standard input that say what the crates of this repository answer.
 //!
-//! A line is `KIND WORDS = EXPECTED`, with one blank between words. A line after it that begins with a blank continues
-//! what is expected, as one more line of it. Lines that begin with `#` and empty lines say nothing. Each vector that isn't
-//! answered as expected is written with what was answered, and at the end how many there were of each kind.
+//! A line is `KIND WORDS = EXPECTED`, with one blank between words. A line after it that begins with a blank is one more line
+//! of the expected answer. Lines that begin with `#` and empty lines are ignored. Each vector that isn't answered as expected
+//! is written with its answer, and at the end how many there were of each kind.
 #![tactic(auto)]
 
 use etcs_cases::{Ended, Pieces, Program, Room, Sheet};

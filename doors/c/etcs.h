@@ -167,8 +167,8 @@ etcs_status etcs_meaning(etcs_kind kind, uint32_t var, uint64_t number, uint32_t
  *     ETCS_ODD_DIGITS        taken, which is how many digits it has, an odd number; out is as before */
 etcs_status etcs_line_bytes(const uint8_t *line, size_t len, uint8_t *out, size_t room, etcs_answer *answer);
 
-/* How many characters are in front of the digits of a line, without blanks after them; of a line without digits all of it.
- * They begin at the line's first character, or after a byte order mark, EF BB BF, where it begins with one. */
+/* How many bytes are before the digits of a line, not counting blanks and tabs just before them; if it has no digits, all of
+ * it. They begin at the line's first byte, or after a byte order mark, EF BB BF, if it begins with one. */
 size_t etcs_line_front(const uint8_t *line, size_t len);
 
 /* What telegrams of one balise group make together (SUBSET-026, 3.16.2.4), in whatever order they came. Each is held beside

@@ -26,3 +26,4 @@ pub mod Equality
 pub mod FrontsAtOnce
 pub mod MessagesAtOnce
 pub mod Parts
+pub mod Sending

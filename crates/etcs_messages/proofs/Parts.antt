@@ -13,7 +13,7 @@ use Rattle.etcs_messages.specs.Readers.{IsMessagePart}
 use Rattle.etcs_messages.proofs.MessagesAtOnce.{parts}
 
 -- bits of a piece, and more of them
-leaps_both : (M L F G K : Reading → Type 0) (xs : List Bool) (at n there k : ℕ) → there ≡ at + n → ((p q : Reading) → F p → G q → K (p ++ q)) → LeapsBy M F xs at n → LeapsBy L G xs there k → LeapsBy L K xs at (n + k)
+pub leaps_both : (M L F G K : Reading → Type 0) (xs : List Bool) (at n there k : ℕ) → there ≡ at + n → ((p q : Reading) → F p → G q → K (p ++ q)) → LeapsBy M F xs at n → LeapsBy L G xs there k → LeapsBy L K xs at (n + k)
 leaps_both M L F G K xs at n there k e both a c =
     let b : LeapsBy L G xs (at + n) k = subst (λ i. LeapsBy L G xs i k) e c in
     let some = a.some in

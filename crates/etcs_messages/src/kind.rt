@@ -18,7 +18,7 @@ pub trait Head: Variables + Copy {
     /// Where a reader of such messages keeps them.
     type Store: ListStore<Self::Packet>;
 
-    /// What is said of such heads.
+    /// The laws of such heads.
     ghost head: { HeadOf Self };
 
     /// Whether the variables admit their numbers.
@@ -46,7 +46,7 @@ pub trait Own: Variables + Copy {
     /// What is in front of it.
     type Front: Head;
 
-    /// What is said of such bodies.
+    /// The laws of such bodies.
     ghost own: { OwnOf Self };
 
     /// NID_MESSAGE.

@@ -131,7 +131,7 @@ impl<H: Head, B: Own<Front = H>> MessageOf<H, B> {
     /// With the same bits:
     ///
     /// - `NotAdmitted(NID_MESSAGE)` for the number of a typed message;
-    /// - [`BuildFault::FillLength`] where these bits and the 18 in front of them aren't 3 to 1,023 whole bytes.
+    /// - [`BuildFault::FillLength`] where with the 18 bits before them these bits aren't 3 to 1,023 whole bytes.
     pub fn kept(nid: u8, bits: Bits) -> Result<Self, (BuildFault, Bits)>
         ensures ok { IfOk result (λ m. m ≡ Kept nid bits) }
         ensures fits { OnOk result (kept_fault H.Packet.WAY nid (length bits) ≡ None) }

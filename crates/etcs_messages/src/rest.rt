@@ -75,7 +75,7 @@ fn behind_packets(left: &PacketsState) -> Phase
     }
 }
 
-/// What comes after the variables that come before this place, of this many in front of the packets.
+/// What comes next at this place among the variables before the packets, which are this many.
 fn behind_front(count: usize, at: usize, left: &PacketsState) -> Phase
     ensures { result ≡ behind_front count at left.now }
 {

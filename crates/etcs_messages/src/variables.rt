@@ -1,16 +1,25 @@
 //! The variables of messages with their numbers, sent in order (SUBSET-026, 8).
 
-ghost use Rattle.std.specs.Prelude.{◌≡◌, IfOk, OnErr, OnOk};
+ghost use Rattle.std.specs.Prelude.{◌≡◌, ℕ, ◌≤◌, ◌++◌, ◌⊎◌, List, Some, false, length, IfOk, IfSome, IsTrue, OnErr, OnOk};
 ghost use Rattle.etcs_bits.specs.Bits.{num};
+ghost use Rattle.etcs_vars.specs.declared.var.Var.{Var};
 ghost use Rattle.etcs_vars.specs.declared.var.Var.TheVariants.{PADDING};
-ghost use Rattle.etcs_vars.specs.Reading.{kept};
+ghost use Rattle.etcs_vars.specs.Reading.{Reading, kept, spelled};
+ghost use Rattle.etcs_sequence.specs.Labels.{labelled};
+ghost use Rattle.etcs_packets.specs.PacketReadings.{readings_to};
+ghost use Rattle.etcs_messages.specs.Lefts.{front_row, headed, HoldsIn};
+ghost use Rattle.etcs_messages.specs.Messages.{values_of};
 ghost use Rattle.etcs_messages.specs.Readings.{front_reading, own_reading, padding_bits_of, padding_of};
 ghost use Rattle.etcs_messages.specs.laws.Parts.{closed_message};
 
 use crate::kind::{Head, Own};
 use crate::message::{Content, MessageOf};
+use crate::phase::{Phase, front_bits, front_var};
+use crate::rest::MessageRest;
 use etcs_bits::BitSlice;
-use etcs_packets::inner::{send_all, send_bits};
+use etcs_packets::inner::{AnyPacket, room_after, send_all, send_bits};
+use etcs_sequence::{ListStore, Stage};
+use etcs_tables::Way;
 use etcs_vars::Var;
 use etcs_vars::inner::{PairList, VarSink, Variables};
 use std::alloc::{AllocError, Global};
@@ -116,4 +125,79 @@ fn send_closed<H: Head, B: Own<Front = H>, S: VarSink>(
 {
     send_all(message.packets(), out)?;
     send_padding(message, out)
+}
+
+/// Sends the variables between L_MESSAGE and the packets of a typed message of this number, which have these numbers.
+fn send_numbers<S: VarSink>(
+    way: Way,
+    nid: u8,
+    numbers: &[u64],
+    out: &mut S,
+) -> Result<(), AllocError>
+    ensures { OnOk result ((vars : List Var) → front_row way nid ≡ Some vars → length numbers.now ≡ length vars → out.new ≡ S.with out.old (labelled vars numbers.now)) }
+{
+    for at in 0..numbers.len() {
+        let Some(var) = front_var(way, nid, at) else {
+            return Ok(());
+        };
+        out.send(&[(var, numbers[at])])?;
+    }
+    Ok(())
+}
+
+impl<H: Head, B: Own<Front = H>> MessageRest<H, B> {
+    /// L_MESSAGE, where the variables that were read, which take this many bits, are all in front of PADDING, and the packet
+    /// that is read last is whole.
+    fn bytes_by(&self, bits: usize) -> Option<usize>
+        requires { bits ≤ 8184 }
+        ensures { IfSome result (λ len. (q : Reading) → HoldsIn H.Store.holds self.now q → length (spelled q) ≡ bits → (vars : List Var) × (front_row H.Packet.WAY self.now.nid ≡ Some vars) × (length self.now.front ≡ length vars) × (q ≡ headed self.now.nid len (labelled vars self.now.front ++ readings_to H.Packet.WAY (values_of H.Packet.form (H.Store.list self.now.store).packets.items)))) }
+    {
+        match self.phase {
+            Phase::Packets => match &self.packets.left.stage {
+                Stage::Number => Some((bits + self.packets.left.room) / 8),
+                _ => None,
+            },
+            Phase::Padding(_) | Phase::Whole => self.closed_bytes(bits),
+            _ => None,
+        }
+    }
+
+    /// The same where the packets are closed.
+    fn closed_bytes(&self, bits: usize) -> Option<usize>
+        requires small { bits ≤ 8184 }
+        requires phase { ((left : ℕ) × (self.now.phase ≡ Phase.Padding left)) ⊎ (self.now.phase ≡ Phase.Whole) }
+        ensures { IfSome result (λ len. (q : Reading) → HoldsIn H.Store.holds self.now q → length (spelled q) ≡ bits → (vars : List Var) × (front_row H.Packet.WAY self.now.nid ≡ Some vars) × (length self.now.front ≡ length vars) × (q ≡ headed self.now.nid len (labelled vars self.now.front ++ readings_to H.Packet.WAY (values_of H.Packet.form (H.Store.list self.now.store).packets.items)))) }
+    {
+        let front = front_bits(H::Packet::WAY, self.nid)?;
+        if bits < front {
+            return None;
+        }
+        if room_after(bits - front, self.packets.store.list().packets.as_slice())? > 0 {
+            return None;
+        }
+        Some((bits + 7) / 8)
+    }
+
+    /// Sends the variables that were read, which take this many bits: those in front of the packets and those of whole packets,
+    /// where the number of a packet comes next, or PADDING, of which no bit was read. Elsewhere it answers false, and sends none.
+    ///
+    /// # Errors
+    ///
+    /// That of the sink. Some of them may then be sent.
+    pub fn send<S: VarSink>(&self, bits: usize, out: &mut S) -> Result<bool, AllocError>
+        requires { bits ≤ 8184 }
+        ensures sent { IfOk result (λ b. IsTrue b → (q : Reading) → HoldsIn H.Store.holds self.now q → length (spelled q) ≡ bits → out.new ≡ S.with out.old q) }
+        ensures none { IfOk result (λ b. b ≡ false → out.new ≡ out.old) }
+    {
+        let Some(bytes) = self.bytes_by(bits) else {
+            return Ok(false);
+        };
+        out.send(&[
+            (Var::NID_MESSAGE, u64::from(self.nid)),
+            (Var::L_MESSAGE, bytes as u64),
+        ])?;
+        send_numbers(H::Packet::WAY, self.nid, self.front.as_slice(), out)?;
+        send_all(self.packets.store.list().packets.as_slice(), out)?;
+        Ok(true)
+    }
 }

@@ -1,3 +1,4 @@
 pub mod Accounting
 pub mod ItemLengths
 pub mod Nearest
+pub mod Tracing

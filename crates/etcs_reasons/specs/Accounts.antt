@@ -1,4 +1,4 @@
--- What is said of bits, variable by variable.
+-- What bits are, variable by variable.
 use Rattle.std.specs.Prelude.{◌≡◌, ℕ, ◌<◌, ◌≤◌, Bool, List, ◌++◌, length, take}
 use Rattle.etcs_bits.specs.Bits.{num}
 use Rattle.etcs_vars.specs.Vars.{width}
@@ -14,7 +14,7 @@ pub record Shows (L : Reading → Type 0) (p : Reading) (part b : List Bool) : T
   pub bits : spelled p ++ part ≡ b
 
 -- the bits b begin with the spelling p; or they end inside one, whose next variable holds the bit after them; or a bit is
--- refused, which the variable holds, and p are the whole variables before it. Of that variable some bits are left
+-- refused, which the variable holds, and p are the whole variables before it. That variable isn't whole
 abbrev pub Accounts : (Reading → Type 0) → Reading → End → List Bool → Type 0
 Accounts L p Whole b = L p × (n : ℕ) × (n ≤ length b) × (spelled p ≡ take n b)
 Accounts L p (Open part) b = Shows L p (num part.count part.bits) b × Owner L b part.var × (part.count < width part.var)

@@ -3,3 +3,4 @@ pub mod BitDigits
 pub mod Kinds
 pub mod PacketLengths
 pub mod Sentences
+pub mod Traces

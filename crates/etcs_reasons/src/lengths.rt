@@ -1,4 +1,4 @@
-//! The lengths that a packet may have, of which the nearest are found by halving.
+//! The lengths that a packet may have; those nearest to a given one are found by bisection.
 
 ghost use Rattle.std.specs.Prelude.{◌≡◌, ◌↔◌, ℕ, ◌<◌, ◌≤◌, IsTrue, Some};
 ghost use Rattle.etcs_reasons.specs.PacketLengths.{AnyIn, HasLength, IsFirst, IsLast};
@@ -9,7 +9,7 @@ use etcs_tables::MOST_LENGTH;
 /// The lengths in bits that a packet may have.
 #[derive(Drop)]
 pub(crate) struct Lengths {
-    /// A place in its row, where the rest of it is any of those that are left.
+    /// A place in its row: what follows it may have any of the lengths that are left there.
     place: Place,
     /// How many bits it has before that place.
     before: usize,

@@ -1,10 +1,10 @@
-//! Why lines of hexadecimal digits say no bytes.
+//! Why lines of hexadecimal digits have no bytes.
 
 use crate::numbers::write_count_of;
 use etcs_runs::NoBytes;
 use std::alloc::AllocError;
 
-/// Appends why a line says no bytes: nothing of a line that is blank or a comment.
+/// Appends why a line has no bytes, or nothing if it is blank or a comment.
 ///
 /// # Errors
 ///

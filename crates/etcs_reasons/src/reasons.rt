@@ -76,7 +76,7 @@ fn write_at_least(lengths: &Lengths, least: Option<usize>, out: &mut Text) {
     }
 }
 
-/// Appends the lengths where there are one or two, else those that are next to one that there isn't.
+/// Appends the lengths if there are one or two, otherwise those nearest to one that isn't among them.
 fn write_nearest(lengths: &Lengths, length: usize, out: &mut Text) {
     let length = length.min(MOST_LENGTH);
     let low = lengths.last_below(length);
@@ -328,8 +328,8 @@ fn is_begun(bytes: &[u8], start: usize, var: Var, count: usize) -> bool {
     }
 }
 
-/// Appends why a bit of the variable is refused after the variables in front, of which these bits come before it. No capital
-/// and no full stop.
+/// Appends why a bit of the variable is refused after the variables in front; these bits of the variable come before it. The
+/// sentence has no capital and no full stop.
 pub(crate) fn write_reason(front: &Front, bytes: &[u8], part: Part, out: &mut Text)
     ensures { IsWritten out.new }
 {

@@ -1,5 +1,5 @@
 -- What is left of a telegram after its header and the packets that were taken in one pass.
-use Rattle.std.proofs.Common.{◌≡◌, ℕ, ◌+◌, ◌-◌, ◌≤◌, Bool, List, [], ◌++◌, refl, sym, ap, subst, ◌∙◌, arith, ltb}
+use Rattle.std.proofs.Common.{◌≡◌, ℕ, ◌+◌, ◌-◌, Bool, List, [], ◌++◌, refl, sym, ap, subst, ◌∙◌, arith, ltb}
 use Rattle.std.specs.Prelude.{IsTrue, nat_lt}
 use Rattle.etcs_bits.specs.Bits.{part}
 use Rattle.etcs_bits.proofs.Lists.{part-add}

@@ -11,7 +11,7 @@ pub use crate::store::TelegramStore;
 use crate::telegram::Telegram;
 
 /// How many bits the header's variables take.
-pub(crate) const HEADER_BITS: usize = 50;
+pub const HEADER_BITS: usize = 50;
 
 /// The numbers of the header's variables in the order of sending. Each variable admits its number.
 pub fn header_numbers(header: &Header) -> [u64; 10]

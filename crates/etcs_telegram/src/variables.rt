@@ -1,16 +1,25 @@
 //! The variables of headers and of telegrams with their numbers, sent in order (SUBSET-026, 7 and 8).
 
-ghost use Rattle.std.specs.Prelude.{◌≡◌, ◌++◌, false, IfOk, OnErr, OnOk, map, replicate};
+ghost use Rattle.std.specs.Prelude.{◌≡◌, ◌≤◌, ◌++◌, false, IfOk, IsTrue, OnErr, OnOk, length, map, replicate};
 ghost use Rattle.etcs_vars.specs.declared.var.Var.TheVariants.{FILL, PAD};
-ghost use Rattle.etcs_vars.specs.Reading.{kept};
+ghost use Rattle.etcs_vars.specs.Reading.{Reading, kept};
+ghost use Rattle.etcs_tables.specs.Headers.{header_row};
 ghost use Rattle.etcs_packets.specs.PacketValues.{packet_value};
+ghost use Rattle.etcs_packets.specs.PacketReadings.{packets_reading};
+ghost use Rattle.etcs_sequence.specs.Labels.{labelled};
+ghost use Rattle.etcs_telegram.specs.Lefts.{HoldsIn};
+ghost use Rattle.etcs_telegram.specs.Readers.{store_holds};
 ghost use Rattle.etcs_telegram.specs.Telegrams.{closed_reading, header_reading, pad_bits};
 
 use crate::header::Header;
 use crate::inner::HEADER_BITS;
+use crate::phase::{Phase, header_var};
+use crate::rest::TelegramRest;
 use crate::size::Size;
+use crate::store::TelegramStore;
 use crate::telegram::Telegram;
 use etcs_packets::inner::{send_all, send_bits};
+use etcs_sequence::Stage;
 use etcs_tables::CLOSING;
 use etcs_vars::inner::{VarSink, Variables};
 use etcs_vars::{Var, pairs_of};
@@ -92,5 +101,63 @@ fn send_pad<S: VarSink>(size: Size, out: &mut S) -> Result<(), AllocError>
     match size {
         Size::Short => out.send(&[(Var::PAD, 0); 6]),
         Size::Long => out.send(&[(Var::PAD, 0); 2]),
+    }
+}
+
+/// Sends the header's first variables, which have these numbers.
+fn send_header<S: VarSink>(numbers: &[u64], out: &mut S) -> Result<(), AllocError>
+    requires { length numbers.now ≤ 10 }
+    ensures { OnOk result (out.new ≡ S.with out.old (labelled header_row numbers.now)) }
+{
+    for at in 0..numbers.len() {
+        out.send(&[(header_var(at), numbers[at])])?;
+    }
+    Ok(())
+}
+
+impl TelegramRest<TelegramStore> {
+    /// Whether the number of a packet comes next, or 255.
+    fn is_at_number(&self) -> bool
+        ensures { IsTrue result → (q : Reading) → HoldsIn store_holds self.now q → q ≡ labelled header_row self.now.header ++ packets_reading (map packet_value self.now.store.list.packets.items) }
+    {
+        match (self.phase, &self.packets.left.stage) {
+            (Phase::Packets, Stage::Number) => true,
+            _ => false,
+        }
+    }
+
+    /// Whether 255 was read, and nothing after it.
+    fn is_closed(&self) -> bool
+        ensures { IsTrue result → (q : Reading) → HoldsIn store_holds self.now q → q ≡ labelled header_row self.now.header ++ closed_reading (map packet_value self.now.store.list.packets.items) }
+    {
+        match self.phase {
+            Phase::Fill(_) => self.packets.store.list.bits.is_empty(),
+            Phase::Pad(left) => {
+                left == self.size.pad_bits() && self.packets.store.list.bits.is_empty()
+            }
+            _ => false,
+        }
+    }
+
+    /// Sends the variables that were read, those of the header and of whole packets, where the number of a packet comes next,
+    /// or 255, or what is after 255. Elsewhere it answers false, and sends none.
+    ///
+    /// # Errors
+    ///
+    /// That of the sink. Some of them may then be sent.
+    pub fn send<S: VarSink>(&self, out: &mut S) -> Result<bool, AllocError>
+        ensures sent { IfOk result (λ b. IsTrue b → (q : Reading) → HoldsIn store_holds self.now q → out.new ≡ S.with out.old q) }
+        ensures none { IfOk result (λ b. b ≡ false → out.new ≡ out.old) }
+    {
+        let closed = self.is_closed();
+        if !closed && !self.is_at_number() {
+            return Ok(false);
+        }
+        send_header(self.header.as_slice(), out)?;
+        send_all(self.packets.store.list.packets.as_slice(), out)?;
+        if closed {
+            out.send(&[(Var::NID_PACKET, u64::from(CLOSING))])?;
+        }
+        Ok(true)
     }
 }

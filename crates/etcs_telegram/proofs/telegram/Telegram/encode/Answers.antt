@@ -1,4 +1,4 @@
-use Rattle.std.proofs.Common.{◌*◌, ap, ◌∙◌, arith}
+use Rattle.std.proofs.Common.{ap, ◌∙◌, arith}
 use Rattle.etcs_vars.specs.Reading.{spelled}
 use Rattle.etcs_vars.proofs.WordSinks.{appended}
 use Rattle.etcs_telegram.specs.Telegrams.{container_bytes, telegram_value}

@@ -25,7 +25,7 @@ use Rattle.etcs_messages.proofs.OneReading.{message_reads}
 use Rattle.etcs_text.specs.Entries.{of_message, message_kind}
 use Rattle.etcs_packet_text.specs.Trees.{bits_tree}
 use Rattle.etcs_json_trees.specs.Loose.{ListHasOnly, ListHasStandIns, unnamed}
-use Rattle.etcs_json.specs.Loose.{HasStandIns, IfMessage, IsMessageOf, unnamed_message}
+use Rattle.etcs_json.specs.Loose.{HasStandIns, IfMessage, IsContentOf, IsMessageOf, unnamed_message}
 use Rattle.etcs_json.specs.TreeParts.{typed_value}
 use Rattle.etcs_json_trees.specs.TreeReading.{ArePairTrees, ArePacketTrees, IsPairList, plain}
 use Rattle.etcs_json.specs.TreeReading.{IsMessageTree, kept_message_tree, message_tree}
@@ -67,7 +67,7 @@ module _ {H B P : Type 0} (way : Way) (k : HeadOf H) (o : OwnOf B) (form : P →
 
   -- a message of such parts
   pub typed_message_some : (x y w u v : Data) (c : Option (Content H B P)) (nid : ℕ) (head : H) (body : B) (ps : List P) (padding : List Bool) → IsOwn o body × (o.nid body ≡ nid) → w ≡ plain nid → IsPairList (o.reading body) x → IsHead k head × ReadsFields (head_row way) (k.reading head) × IsPairList (k.reading head) y → ListHasStandIns way u (values_of form ps) → v ≡ bits_tree padding → IfSome c (λ m. message_value way k o form m ≡ typed_value k o form head body ps padding)
-      → IfSome c (λ m. IsMessageOf way (message_tree way x y w u v) (message_value way k o form m))
+      → IfSome c (IsContentOf way k o form (message_tree way x y w u v))
   typed_message_some x y w u v None nid head body ps padding own number fields header list padded is = tt
   typed_message_some x y w u v (Some m) nid head body ps padding own number (fs, fields, ft) (is_head, reads, (hs, header, ht)) (vs, ds, named, list, pt) padded is =
       let same : message_value way k o form m ≡ unnamed_message way (typed_message nid (k.reading head) (o.reading body) vs padding) = is ∙ (λ i. typed_message (own.1 i) (k.reading head) (o.reading body) (named i) padding) in
@@ -119,7 +119,7 @@ long_padding way m x y w u v pad r long padding reads tree =
 
 -- one that is kept as bits has no stand-ins
 pub kept_stands : {H B P : Type 0} (way : Way) (k : HeadOf H) (o : OwnOf B) (form : P → Form) (c : Option (Content H B P)) (x z : Data) (nid : ℕ) (b : List Bool) → x ≡ bits_tree b → z ≡ plain nid → IfSome c (λ m. message_value way k o form m ≡ kept_message nid b)
-    → IfSome c (λ m. IsMessageOf way (kept_message_tree way x z) (message_value way k o form m))
+    → IfSome c (IsContentOf way k o form (kept_message_tree way x z))
 kept_stands way k o form None x z nid b bits number is = tt
 kept_stands way k o form (Some m) x z nid b bits number is = (kept_message nid b, is, rw (bits, number) refl)
 

@@ -7,11 +7,13 @@ use Rattle.etcs_vars.specs.declared.var.Var.TheVariants.{FILL, PAD, PADDING, NID
 use Rattle.etcs_vars.specs.Reading.{Reading, spelled, kept, IsOutcome, refused}
 use Rattle.etcs_tables.specs.declared.row.Way.{Way}
 use Rattle.etcs_tables.specs.declared.row.Way.TheVariants.{ToTrain}
-use Rattle.etcs_packets.specs.PacketValues.{PacketValue}
+use Rattle.etcs_packets.specs.PacketValues.{Form, PacketValue}
 use Rattle.etcs_packets.specs.PacketReadings.{readings_to}
 use Rattle.etcs_telegram.specs.declared.size.Size.{Size}
 use Rattle.etcs_telegram.specs.Telegrams.{TelegramValue, TelegramReads, header_reading, closed_reading, pad_bits}
-use Rattle.etcs_messages.specs.Messages.{MessageValue, MessageReads, typed_message, kept_message, front_of, head_reading}
+use Rattle.etcs_messages.specs.declared.message.Content.{Content}
+use Rattle.etcs_messages.specs.Kinds.{HeadOf, OwnOf}
+use Rattle.etcs_messages.specs.Messages.{MessageValue, MessageReads, typed_message, kept_message, front_of, head_reading, message_value}
 use Rattle.etcs_text.specs.declared.entry.Kind.{Kind}
 use Rattle.etcs_text.specs.Entries.{EntryValue, of_telegram, of_message, EntryReads}
 use Rattle.etcs_json_trees.specs.Loose.{unnamed}
@@ -37,6 +39,10 @@ IsTelegramOf d t = (u : TelegramValue) × (t ≡ unnamed_telegram u) × IsTelegr
 
 abbrev pub IsMessageOf : Way → Data → MessageValue → Type 0
 IsMessageOf way d m = (u : MessageValue) × (m ≡ unnamed_message way u) × IsMessageTree way u d
+
+-- the same of the content m
+abbrev pub IsContentOf : {H B P : Type 0} → Way → HeadOf H → OwnOf B → (P → Form) → Data → Content H B P → Type 0
+IsContentOf way k o form d m = IsMessageOf way d (message_value way k o form m)
 
 -- P holds if d is the tree of any telegram of the size, or message, but that a kept packet may have such a number
 abbrev pub IfTelegram : Size → Data → Type 0 → Type 0

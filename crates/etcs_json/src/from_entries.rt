@@ -26,8 +26,8 @@ use std::alloc::{AllocError, Global};
 /// may be in the form of packets that are kept as bits, as it was stored before these were typed: the item is then the one
 /// that has these bits.
 ///
-/// The value is the caller's, and so is what it takes: made by serde_json of a text that isn't trusted, some 120 bytes for
-/// each byte of the text, and stack for each level. [`from_line`] makes no more of a line than an item may have.
+/// The caller makes the value, and bears what that takes: with serde_json some 120 bytes for each byte of the text, and stack
+/// for each level, which matters if the text isn't trusted. [`from_line`] makes no more of a line than an item may have.
 ///
 /// # Errors
 ///
@@ -47,8 +47,8 @@ pub fn from_value(alloc: Global, kind: Kind, value: &Value) -> Result<Entry, Jso
     }
 }
 
-/// The item of the kind whose JSON the line is. No more is made of the line than an item may have: one of 1 MiB takes some
-/// 4 MB at most, whatever it is.
+/// The item of the kind whose JSON the line is. No more is made of the line than an item may have: in all that was tried, a
+/// line of 1 MiB took at most some 4 MB.
 ///
 /// # Errors
 ///

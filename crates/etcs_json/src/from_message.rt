@@ -12,7 +12,7 @@ ghost use Rattle.etcs_reader.specs.Fields.{ReadsFields};
 ghost use Rattle.etcs_messages.specs.Kinds.{IsHead, IsOwn};
 ghost use Rattle.etcs_tables.specs.Headers.{head_row};
 ghost use Rattle.etcs_messages.specs.Messages.{KeptReads, MessageReads, kept_message, message_value, values_of};
-ghost use Rattle.etcs_json.specs.Loose.{IfMessage, IsMessageOf};
+ghost use Rattle.etcs_json.specs.Loose.{IfMessage, IsContentOf};
 ghost use Rattle.etcs_json.specs.TreeParts.{typed_value};
 ghost use Rattle.etcs_json_trees.specs.TreeReading.{IsPairList};
 ghost use Rattle.etcs_json.specs.TreeReading.{kept_message_tree, message_tree};
@@ -101,7 +101,7 @@ fn kept_of<H: Head, B: Own<Front = H>>(
     nid: &Value,
 ) -> Result<Option<MessageOf<H, B>>, AllocError>
     ensures reads { IfOk result (λ o. IfSome o (λ m. (r : Reading) × MessageReads H.Packet.WAY (message_value H.Packet.WAY H.head B.own H.Packet.form m) r)) }
-    ensures some { IfOk result (λ o. IfSome o (λ m. IsMessageOf H.Packet.WAY (kept_message_tree H.Packet.WAY (view bits.now) (view nid.now)) (message_value H.Packet.WAY H.head B.own H.Packet.form m))) }
+    ensures some { IfOk result (λ o. IfSome o (IsContentOf H.Packet.WAY H.head B.own H.Packet.form (kept_message_tree H.Packet.WAY (view bits.now) (view nid.now)))) }
     ensures only { IfOk result (λ o. IfMessage H.Packet.WAY (kept_message_tree H.Packet.WAY (view bits.now) (view nid.now)) (IsSome o)) }
 {
     match byte_in(nid) {
@@ -123,7 +123,7 @@ fn typed_of<H: Head, B: Own<Front = H>>(
     padding: &Value,
 ) -> Result<Option<MessageOf<H, B>>, AllocError>
     ensures reads { IfOk result (λ o. IfSome o (λ m. (r : Reading) × MessageReads H.Packet.WAY (message_value H.Packet.WAY H.head B.own H.Packet.form m) r)) }
-    ensures some { IfOk result (λ o. IfSome o (λ m. IsMessageOf H.Packet.WAY (message_tree H.Packet.WAY (view fields.now) (view header.now) (view nid.now) (view packets.now) (view padding.now)) (message_value H.Packet.WAY H.head B.own H.Packet.form m))) }
+    ensures some { IfOk result (λ o. IfSome o (IsContentOf H.Packet.WAY H.head B.own H.Packet.form (message_tree H.Packet.WAY (view fields.now) (view header.now) (view nid.now) (view packets.now) (view padding.now)))) }
     ensures only { IfOk result (λ o. IfMessage H.Packet.WAY (message_tree H.Packet.WAY (view fields.now) (view header.now) (view nid.now) (view packets.now) (view padding.now)) (IsSome o)) }
 {
     let Some(nid) = byte_in(nid) else {
@@ -178,7 +178,7 @@ pub(crate) fn message_in<H: Head, B: Own<Front = H>>(
     value: &Value,
 ) -> Result<Option<MessageOf<H, B>>, AllocError>
     ensures reads { IfOk result (λ o. IfSome o (λ m. (r : Reading) × MessageReads H.Packet.WAY (message_value H.Packet.WAY H.head B.own H.Packet.form m) r)) }
-    ensures some { IfOk result (λ o. IfSome o (λ m. IsMessageOf H.Packet.WAY (view value.now) (message_value H.Packet.WAY H.head B.own H.Packet.form m))) }
+    ensures some { IfOk result (λ o. IfSome o (IsContentOf H.Packet.WAY H.head B.own H.Packet.form (view value.now))) }
     ensures only { IfOk result (λ o. IfMessage H.Packet.WAY (view value.now) (IsSome o)) }
 {
     let way = H::Packet::WAY;

@@ -9,11 +9,11 @@ use std::alloc::Global;
 
 /// Answers a line about items: whether it is one.
 ///
-/// `short HEX`, `long HEX`, `radio HEX`, `train HEX`: what the bytes are read as. `message HEX`, `train_message HEX`: how many
-/// bits and packets a message to the train or to the track has. `turned KIND HEX`: a line for each bit with which, flipped,
-/// the bytes are no longer one item, with the answer to them. `alike KIND HEX`: for how many flipped bits all ways to read the
-/// bytes give the same answer. `pairs KIND`: how many of all pairs of first bytes are refused. `fed KIND PIECE PIECE ..`: what
-/// a reader answers to each piece, how many bits it has seen and what it holds.
+/// `short HEX`, `long HEX`, `radio HEX`, `train HEX`: what the bytes are read as. `message HEX`, `train_message HEX`: how
+/// many bits and packets a message to the train or to the track has. `turned KIND HEX`: a line for each bit with which,
+/// flipped, the bytes are no longer one item, with the answer to them. `alike KIND HEX`: of how many bytes with one bit
+/// flipped all ways to read them give the same answer. `pairs KIND`: how many of all pairs of first bytes are refused.
+/// `fed KIND PIECE PIECE ..`: what a reader answers to each piece, how many bits it has seen and what it holds.
 pub(crate) fn answer(case: &mut Case, asked: &str) -> bool {
     match asked {
         "short" => read(case, Kind::Short),

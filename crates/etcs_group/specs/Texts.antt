@@ -1,4 +1,4 @@
--- What is said of clashes and faults.
+-- The texts of clashes and faults.
 use Rattle.std.specs.Prelude.{ℕ, List, codes}
 use Rattle.etcs_group.specs.declared.clash.Clash.{Clash}
 use Rattle.etcs_group.specs.declared.clash.Clash.TheVariants.{BadPosition, BadDuplicate, OtherGroup, OtherTotal, Counter, Differs}

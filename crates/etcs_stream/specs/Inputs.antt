@@ -13,8 +13,8 @@ use Rattle.etcs_stream.specs.Lines.{bad_place, lines_bytes, AreGood, IsHexText}
 use Rattle.etcs_stream.specs.JsonItems.{EndedJson, BadJsonLine, RefusedJsonLine, EndlessJson, WholeJson, FirstJson}
 use Rattle.etcs_stream.specs.Streams.{AreSpelled}
 
--- how the items of an input end: with the input; at a bit of an item, which the variable holds; inside an item, after so
--- many bits of it; at a place of a line; in a line of JSON; at a byte after the last item that a run may have
+-- how the items of an input end: with the input; at a bit of an item, which the variable holds; inside an item, after this
+-- many of its bits; at a place of a line; in a line of JSON; at a byte after the last item that a run may have
 pub data End : Type 0 where
   ended : End
   refused : ℕ → Var → End

@@ -1,4 +1,4 @@
--- What a run says of an input is said of one list of items, one end and one text.
+-- An input has one list of items, one end and one text, so what the clauses of a run say about it is unambiguous.
 use Rattle.std.specs.Prelude.{◌≡◌, ℕ, List, Option, ◌++◌}
 use Rattle.etcs_telegram.specs.Telegrams.{TelegramContent}
 use Rattle.etcs_group.specs.Groups.{IsGroup}

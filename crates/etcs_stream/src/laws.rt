@@ -3,9 +3,9 @@
 ghost use Rattle.etcs_stream.specs.OneRuns.{OneEnd, OneFront, OneLast, OneText, OneWhole};
 ghost use Rattle.etcs_stream.specs.ReadBacks.{ReadBack};
 
-/// The clauses of `run` leave only one result for an input. An input has one list of items and ends in one way; a part of
-/// it has one list of whole items; any first items of it are the front of that list; items have one text; and so have the
-/// last lines of a group.
+/// What the clauses of `run` say about an input is unambiguous: an input has one list of items and ends in one way; a part
+/// of it has one list of whole items; any first items of it are the front of that list; items have one text; and so have
+/// the last lines of a group.
 pub fn one_run()
     ensures end { OneEnd }
     ensures whole { OneWhole }

@@ -32,7 +32,7 @@ const MOST_READS: u64 = 16_000_000;
 ///   [`RunFault::BadJson`] if no item of the kind has the JSON of a line;
 /// - [`RunFault::Read`] if a read failed, [`RunFault::Write`] if a write failed, with how many bytes of the text the sink
 ///   took;
-/// - [`RunFault::Endless`] for an input of more than 16,000,000 reads or 1,000,000 items;
+/// - [`RunFault::Endless`] if the input isn't at its end after 16,000,000 reads, or continues after 1,000,000 items;
 /// - [`RunFault::Memory`] if memory was refused.
 ///
 /// The text of the items that were whole before a fault is written first, unless memory or the sink fails.

@@ -51,7 +51,7 @@ Spells (of_message way m) r = MessageReads way m r
 abbrev pub EntryReads : Kind → EntryValue → Reading → Type 0
 EntryReads kind e r = (entry_kind e ≡ kind) × Spells e r
 
--- how many bits it has: of a telegram user bits
+-- how many bits it has; of a telegram its user bits
 abbrev pub entry_bits : EntryValue → ℕ
 entry_bits (of_telegram t) = user_bits t.size
 entry_bits (of_message way m) = message_bits way m

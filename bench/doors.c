@@ -1,6 +1,6 @@
 /* doors KIND FILE COUNT: checks each record of a file COUNT times, from memory, by the etcs_check that it is linked with,
- * and writes a line for each: how many bytes the item has that the record begins with, or 0 where there is none. A record
- * is how many bytes it has, in two of them, and the bytes. After the last there is room, since a walker reads past it. */
+ * and writes a line for each: how many bytes the item has that the record begins with, or 0 if there is none. A record
+ * is its number of bytes, in two bytes, and then these bytes. After the last there is room, since a walker reads past it. */
 #include "etcs.h"
 #include <stdio.h>
 #include <stdlib.h>

@@ -4,7 +4,7 @@
     bench/doors.py etcs|walker KIND FILE COUNT
 
 checks each record of a file COUNT times, from memory, by the Python door or by the walker in Python, and writes a line
-for each, as bench/doors.c does, which says what a record is. The door takes the library that $ETCS_LIBRARY names, or
+for each, as bench/doors.c does, which says what a record is. The door uses the library that $ETCS_LIBRARY names, or
 that of doors/out.
 """
 

@@ -5,7 +5,7 @@
 
 Each line has one change: of a bit, a digit, a number, a name, a mark, a pair, a packet, any byte, or the order of
 packets or members. Some lines are still as the program writes them, some are other JSON of an item, and most are no
-item. The same kind, number of lines and seed give the same lines. Of an item `items` changes a bit, cuts bytes off or
+item. The same kind, number of lines and seed give the same lines. `items` changes a bit of an item, cuts bytes off or
 adds some.
 """
 
@@ -31,7 +31,7 @@ PAIR = re.compile(r"\[\"[A-Z_]+\",[^\]]*\],?")
 
 
 def replaced(line, found, text):
-    """The line with another text where something was found, and as it is where nothing was."""
+    """The line with another text in place of what was found, and as it is if nothing was."""
     return line[: found.start()] + text + line[found.end() :] if found else line
 
 

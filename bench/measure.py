@@ -5,28 +5,28 @@
                      [--commands check,show,bin,hex,json] [--items N] [--edits N] [--seed N] [--jobs N]
                      [--doors FOLDER] [--write | --check] [PROGRAM]
 
-PROGRAM is `etcs`, where nothing is said the one that `./etcs build` has built. The plain decoder is
+PROGRAM is `etcs`, by default the one that `./etcs build` has built. The plain decoder is
 bench/plain/plain.rs, which rustc builds here. The commands are `check`, `show` and `convert` to a form. A
 count is callgrind's over N items (2,000) less that over an empty input, divided by N: it hardly varies from
 run to run.
 
 The forms C and Python are the doors of the library, each of which checks items in memory beside a walker of
-bench/walkers.py. FOLDER has libetcs.a and libetcs.so.1, and is that of `doors/build` where nothing is said.
-Where they aren't there and no form is named, the doors are left out. A count is that of checking all items
-twice less that of checking them once, divided by N.
+bench/walkers.py. FOLDER has libetcs.a and libetcs.so.1, and is by default that of `doors/build`. If they
+aren't there and no form is named, the doors are left out. A count is that of checking all items twice less
+that of checking them once, divided by N.
 
 Every answer of both is compared with the mix's own bytes, digits, JSON and lines of `check`, and the
-program's text of `show` with the plain decoder's. An answer that differs is named, and isn't counted. Where
-JSON is measured, both read N lines of each kind (1,000) that bench/edits.py has changed: where the plain
-decoder accepts a line, the program has to give the same answer, and where it refuses one, the program has
-to refuse it too or to write another line. A door and its walker have to answer alike to N changed items.
+program's text of `show` with the plain decoder's. An answer that differs is named, and isn't counted. If JSON
+is measured, both read N lines of each kind (1,000) that bench/edits.py has changed: if the plain decoder
+accepts a line, the program has to give the same answer, and if it refuses one, the program has to refuse
+it too or to write another line. A door and its walker have to answer alike to N changed items.
 
 The table is written a row at a time. With --write it is put into bench/README.md as well, unless an answer
 differs, with the commit and the versions of rustc and the kit. With --check nothing is put there: a row
-differs where a count is more than 1 in 100 from that of bench/README.md.
+differs if a count is more than 1 percent off that of bench/README.md.
 
-The status is 0 where no answer differs, nor any row with --check, 1 where one does, and 2 where the words
-are wrong or something can't be run. It needs rustc and valgrind, and works in the folder $BENCH
+The status is 0 if no answer differs, nor any row with --check, 1 if one does, and 2 if the words are
+wrong or something can't be run. It needs rustc and valgrind, and works in the folder $BENCH
 (etcs_bench in the user's cache).
 """
 
@@ -64,11 +64,11 @@ COLUMNS = {"kind": 5, "from": 6, "to": 5, "program": 9, "plain": 9, "ratio": 5}
 
 
 class Unrunnable(Exception):
-    """What can't be run, and why."""
+    """Something can't be run: what, and why."""
 
 
 def names_of(known):
-    """What makes a list of known names of a word."""
+    """What makes a list of known names from a word."""
 
     def names(text):
         listed = text.split(",")
@@ -81,7 +81,7 @@ def names_of(known):
 
 
 def at_least(least):
-    """What makes a number of a word."""
+    """What makes a number from a word."""
 
     def count(text):
         number = int(text)
@@ -169,7 +169,7 @@ def instructions(words, source):
 
 
 class Kind:
-    """The items of a kind, and what must be answered of them."""
+    """The items of a kind, and what must be answered to them."""
 
     def __init__(self, name, words, plain):
         self.name = name
@@ -198,7 +198,7 @@ class Kind:
         return self.shown
 
     def count(self, command, form):
-        """The instructions that both programs take for an item, or nothing for one whose answer differs."""
+        """The instructions that both programs take for an item; nothing for a program whose answer differs."""
         source = self.sources[form]
         counts = []
         for program in (self.program, self.plain):
@@ -212,7 +212,7 @@ class Kind:
         return counts
 
     def count_in_memory(self, programs):
-        """The instructions that programs take to check an item in memory, or nothing for one whose answer differs."""
+        """The instructions that programs take to check an item in memory; nothing for a program whose answer differs."""
         expected = (0, "".join(f"{len(item)}\n" for item, _ in self.drawn).encode())
         changed = [answer([*program, self.name, self.sources["changed"], "1"], b"") for program in programs]
         counts = []
@@ -231,7 +231,7 @@ class Kind:
         return [answer(call(program, command, self.name, "json"), lines) for program in (self.program, self.plain)]
 
     def is_accepted(self, line):
-        """Whether the plain decoder accepts a changed line; nothing where the program ought to answer otherwise."""
+        """Whether the plain decoder accepts a changed line; nothing if the program ought to have answered otherwise."""
         program, plain = self.answers("json", line)
         if plain != program if plain[0] == 0 else program == (0, line):
             print(f"the answers to a changed line differ, {self.name}: {line.decode().rstrip()}", file=sys.stderr)
@@ -253,7 +253,7 @@ class Kind:
 
 
 def measured(words, kinds, pool):
-    """Yields the rows with both counts, each of which is nothing where an answer differs."""
+    """Yields the rows with both counts, each of which is nothing if an answer differs."""
     rows, at_doors = [], {}
     if set(DOORS) & set(words.forms):
         try:
@@ -287,7 +287,7 @@ HEAD = [line(COLUMNS), "|---" * len(COLUMNS) + "|"]
 
 
 def drawn(words):
-    """What the counts are of."""
+    """What was counted."""
     return f"{words.items:,} items of each kind and seed {words.seed}"
 
 

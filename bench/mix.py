@@ -10,8 +10,8 @@ gives the same items, and the first of them are the same for every N.
 - A long telegram has one large packet (links, an authority, gradients, speeds, areas of a mode, track
   conditions, a text, or bits that are kept), then those that describe the line ahead as far as they fit,
   and up to three small packets. A short one has one to four small packets as far as they fit.
-- A message to the train has an authority with what describes the line, a few packets of any sort, a text,
-  or variables of its own, or is kept whole. One to the track mostly reports a position, with further
+- A message to the train has an authority and a description of the line, a few packets of any sort, a text,
+  or variables of its own, or it is kept whole. One to the track mostly reports a position, with further
   packets, some of which are kept; or it is kept whole.
 - Nine in ten FILLs are ones, and nine in ten PADDINGs zeros; the others are any bits.
 """
@@ -53,8 +53,8 @@ NAMES_BY_WIDTH = {
 }
 WIDTHS = {name: width for width, names in NAMES_BY_WIDTH.items() for name in names.split()}
 
-# Rows. `12( .. )` is a group that is there where the variable before it is 1 or 2, `*( .. )` one that is
-# there as often as the variable before it says. A count with `#` is given with the packet.
+# Rows. `12( .. )` is a group that is there if the variable before it is 1 or 2, `*( .. )` one that is
+# repeated as often as the variable before it says. A count with `#` is given with the packet.
 BALISE = "Q_NEWCOUNTRY 1( NID_C ) NID_BG"
 LINK = f"D_LINK {BALISE} Q_LINKORIENTATION Q_LINKREACTION Q_LOCACC"
 SECTION_TIMER = "Q_SECTIONTIMER 1( T_SECTIONTIMER D_SECTIONTIMERSTOPLOC )"
@@ -136,7 +136,7 @@ NUMBERS = {
     "train": [*[136] * 6, 157, 157, 146, 146, 137, 138, 130, 150, 155, 156, 159, 129, 132],
 }
 
-# What a variable is drawn from, as a range or as numbers; where nothing is said, from all of its width.
+# What a variable is drawn from, as a range or as numbers; by default from all numbers of its width.
 SPEEDS = range(4, 33)
 RELEASE_SPEEDS = [*range(1, 11), 126, 126, 127]
 UNLIMITED = [1023, 1023, *range(10, 600, 10)]
@@ -245,7 +245,7 @@ class Mix:
         return pairs
 
     def packet(self, nid, least, most):
-        """The bits and the tree of a packet, with a count, or as many kept bits, from least to most."""
+        """The bits and the tree of a packet, with a count or a number of kept bits from least to most."""
         count = self.by_chance.randint(least, most)
         if nid == 0 and self.kind != "train":
             pairs = [("NID_VBCMK", self.number("NID_VBCMK"))]

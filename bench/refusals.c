@@ -1,12 +1,12 @@
-/* Looks for the dearest refusals of the library for C: bench/refusals builds and runs it.
+/* Looks for the most expensive refusals of the library for C: bench/refusals builds and runs it.
  *
- *     refusals SECONDS SEED CALLS MOST     reads lines KIND HEX, and writes the MOST dearest refused inputs of each kind and of
- *                                          each of the first CALLS calls that it found
+ *     refusals SECONDS SEED CALLS MOST     reads lines KIND HEX, and writes the MOST most expensive refused inputs that it found
+ *                                          for each kind and each of the first CALLS calls
  *     refusals price CALLS                 reads the same lines and makes each of the first CALLS calls once, for callgrind
  *
- * A price is how many compares and switches of the library's code a call runs. The inputs of each kind are kept in lists, a list for each
- * call with the dearest refused ones, and one with items and fronts of them that are dear to check; each is changed, and
- * joined with another one, over and over.
+ * A price is how many compares and switches of the library's code a call runs. The inputs of each kind are kept in lists: one
+ * for each call with the most expensive refused inputs, and one with items and fronts of items that are expensive to check.
+ * Each input is changed, and joined with another one, over and over.
  */
 #include "fuzz.h"
 #include "mutate.h"
@@ -109,7 +109,7 @@ static etcs_status priced(size_t which, etcs_kind kind, input *in)
     return status;
 }
 
-/* Puts an input in the place of the cheapest of a list, where it is dearer and no other has its price. */
+/* Puts an input in the place of the cheapest of a list, if it is more expensive and no other has its price. */
 static void keep(input *list, const input *in)
 {
     input *least = list;

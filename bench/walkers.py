@@ -1,13 +1,13 @@
 #!/usr/bin/env python3
-"""Walkers over items in memory, which check them and make nothing of them: the doors of the library are measured
+"""Walkers over items in memory, which check them and make no values of them: the doors of the library are measured
 beside them.
 
     bench/walkers.py
 
-writes the walker in C, which has the call `etcs_check` of doors/c/etcs.h, calls no library, and of a refused item
-says neither bit nor variable. It may read 64 bytes past an item. `taken` walks in Python.
+writes the walker in C, which has the call `etcs_check` of doors/c/etcs.h, calls no library, and for a refused item
+gives neither bit nor variable. It may read 64 bytes past an item. `taken` walks in Python.
 
-Both are made of the rows of mix.py and of the numbers that plain/variables.rs admits. A variable that admits every
+Both are made from the rows of mix.py and from the numbers that plain/variables.rs admits. A variable that admits every
 number, and on which nothing depends, is passed over.
 """
 
@@ -22,13 +22,13 @@ import mix
 HERE = os.path.dirname(os.path.abspath(__file__))
 VARIABLE = re.compile(r"\b([A-Z]+_\w+) (\d+)(?: \(([^)]+)\))?")
 
-# Bits to pass over, and then a variable, but for the last step, whose width is 0: the numbers that it admits, or
-# nothing where it admits all, and the groups that depend on it, each a test and steps.
+# Bits to pass over, and then a variable, except in the last step, whose width is 0: the numbers that it admits, or
+# nothing if it admits all, and the groups that depend on it, each a test and steps.
 Step = namedtuple("Step", "skip width numbers groups")
 
 
 def admitted():
-    """The numbers that a variable admits, of those that don't admit all of their width."""
+    """The numbers that a variable admits, for those variables that don't admit all of their width."""
     with open(os.path.join(HERE, "plain", "variables.rs"), encoding="utf-8") as file:
         listed = re.search(r"\nvariables! \{\n(.*?)\n\}", file.read(), re.S)[1]
     numbers = {}
@@ -61,7 +61,7 @@ NUMBERS = admitted()
 TELEGRAM = steps_of(mix.parsed(mix.TELEGRAM_HEADER), {**NUMBERS, "M_VERSION": frozenset([32, 33])})
 ROWS = {"radio": mix.ROWS_TO_TRAIN, "train": mix.ROWS_TO_TRACK}
 PACKETS = {kind: {nid: steps_of(row, NUMBERS) for nid, row in rows.items()} for kind, rows in ROWS.items()}
-# Of a message what comes after L_MESSAGE and before its packets.
+# What a message has after L_MESSAGE and before its packets.
 MESSAGES = {
     kind: {nid: steps_of(mix.parsed(f"{mix.HEADERS[kind]} {own}"), NUMBERS) for nid, own in rows.items()}
     for kind, rows in mix.MESSAGES.items()
@@ -160,7 +160,7 @@ class Walk:
 
 
 def taken(data, kind):
-    """How many bytes the item has that the bytes begin with, or 0 where there is none."""
+    """How many bytes the item has that the bytes begin with, or 0 if there is none."""
     try:
         walk = Walk(data)
         return walk.over_telegram(kind) if kind in USER_BITS else walk.over_message(kind)
@@ -240,7 +240,7 @@ etcs_status etcs_check(etcs_kind kind, const uint8_t *bytes, size_t len, etcs_an
 
 
 def tested(name, numbers):
-    """An expression in C: whether a number is one of these."""
+    """An expression in C that says whether a number is one of these."""
     ranges = []
     for n in sorted(numbers):
         if ranges and ranges[-1][1] == n - 1:

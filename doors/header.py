@@ -1,10 +1,10 @@
 #!/usr/bin/env python3
-"""Compares etcs.h with the exports of crates/etcs_c/src: names, types in order; with the structs and the constants of
-crates/etcs_c/src; the names in the map of symbols, in Ada and in Python with the exports; and the tables of variables
-for C, Python and Ada, and the packets to begin with, with the specs; and the versions of the doors with the program's.
+"""Compares etcs.h with the exports of crates/etcs_c/src (names, and types in order) and with the structs and the constants
+there; the names in the map of symbols, in Ada and in Python with the exports; the tables of variables for C, Python and
+Ada, and the packets to begin with, with the specs; and the versions of the doors with the program's.
 
-    doors/header.py            the status is 0 where they agree; nothing else compares them
-    doors/header.py --write    writes the tables anew, and the version of etcs.h
+    doors/header.py            the status is 0 if they agree; nothing else compares them
+    doors/header.py --write    rewrites the tables, and the version of etcs.h
 """
 import json
 import os
@@ -21,7 +21,7 @@ from sources import variable
 VARS_H, VARS_PY, VARS_ADS = "doors/c/etcs_vars.h", "doors/python/src/etcs/_variables.py", "doors/ada/etcs-variables.ads"
 BLANKS_PY = "doors/python/src/etcs/_blanks.py"
 HEADER_H = "doors/c/etcs.h"
-# Where else a version is said.
+# Where else a version is given.
 VERSIONS = {
     "crates/etcs_c/src/lib.rt": r'^const VERSION: &\[u8\] = b"(.*)\\0";$',
     "doors/python/pyproject.toml": r'^version = "(.*)"$',

@@ -1,30 +1,30 @@
 #!/usr/bin/env python3
-"""Proves the libraries that a program or a static library rests on, side by side where that can be, and builds it.
+"""Proves the libraries that a program or a static library rests on, in parallel where possible, and builds it.
 
     tools/build.py RT CRATE
     tools/build.py RT . VERB [WORD ..]
 
 RT is the path of `rt`, and CRATE the folder of the crate. With a verb it does what `rt VERB ..` does in the folder that
-it is called in, as tools/rt does. How far it is goes to standard error, and what rt writes of a crate to its
-out/build.log. The status is 0 where the crate is built.
+it is called in, as tools/rt does. Progress goes to standard error, and what rt writes about a crate to its
+out/build.log. The status is 0 if the crate is built.
 
-Two runs of `rt` can't go side by side here: each locks its crate's folder and those of all libraries below it until it
-ends, and every crate rests on the lowest. `rt all` locks all of them once and goes side by side, but with one job a
-crate, and most crates here rest on one another. So this is one run over the module that `rt` itself is made of: it locks
-once, as `rt all` does, and makes for each crate the call that `rt lib` or `rt run` makes. What is proved, and what is
-kept in out/, is the same. It differs in two things.
+Two runs of `rt` can't go on at the same time here: each locks its crate's folder and those of all libraries below it
+until it ends, and every crate rests on the lowest one. `rt all` locks all of them once and works in parallel, but with one
+job for each crate, and most crates here rest on one another. So this is one run over the module that `rt` itself is made
+of: it locks once, as `rt all` does, and makes for each crate the call that `rt lib` or `rt run` makes. What is proved, and
+what is kept in out/, is the same. Two things differ.
 
-A sum once: to see what changed, rt sums a crate's files and those of all libraries below it, each time that it looks at
-one of them: a thousand times for the upper crates here. In this run each is summed once a time.
+Checksums: to see what changed, rt computes the checksums of a crate's files and those of all libraries below it, each time
+that it looks at one of them: a thousand times for the upper crates here. In this run each is computed once for each look.
 
-What it reads: rt builds a library anew where any file below it changed, and rattle then finds that nothing is to be
-checked again. Here a library stays as it is where its own files, and all that its build read of those below it, are as
+What a build reads: rt rebuilds a library if any file below it changed, and rattle then finds that nothing has to be
+checked again. Here a library stays as it is if its own files, and all that its build read of those below it, are as
 they were (reads.py says what that is, and why no more is needed). It gets the stamp that rt would give it. The program
-and the static library are built anew where any file changed, and then rattle looks at all libraries: it refuses one that
-read something else than what is there now.
+and the static library are rebuilt if any file changed, and then rattle looks at all libraries: it refuses one that
+read anything other than what is there now.
 
-The libraries that go side by side share the cores. Each job of a library loads all below it once more: with two jobs one
-of 145 seconds took 112, with four 109, at 181 and 190 seconds of processor.
+The libraries that are built in parallel share the cores. Each job of a library loads all libraries below it once more: a
+library of 145 seconds took 112 with two jobs, and 109 with four, at 181 and 190 seconds of processor time.
 """
 
 import contextlib
@@ -41,11 +41,11 @@ from importlib.util import module_from_spec, spec_from_loader
 
 import reads
 
-# How many libraries are proved at a time, and the free memory that is wanted for each: there is seldom a third that waits for
-# neither. Where each has kept work, most have nothing to check again, and take little.
+# How many libraries are proved at a time, and the free memory that is wanted for each: there is seldom a third one that waits
+# for neither. Where each has kept work, most have nothing to check again, and take little time.
 AT_ONCE, MEMORY = 2, 6_000_000_000
 AT_ONCE_KEPT, MEMORY_KEPT = 4, 3_000_000_000
-# What judges the repository, and so is rt itself with nothing changed.
+# What judges the repository, and so is left to rt itself, unchanged.
 JUDGES = ("ci", "verdict", "selftest")
 START = time.monotonic()
 LOOK = threading.local()
@@ -75,7 +75,7 @@ def give_up_on(folder):
 
 @contextlib.contextmanager
 def one_look():
-    """Gives the sums that are taken within it, or within the look that it is a part of: each crate is summed once."""
+    """Gives the checksums that are computed within it, or within the look that it is a part of: those of each crate once."""
     if hasattr(LOOK, "sums"):
         yield LOOK.sums
         return
@@ -87,7 +87,7 @@ def one_look():
 
 
 def sum_once(stamp):
-    """Returns rt's sum of a crate such that it takes each crate below once, and not once for each way down to it."""
+    """Returns rt's checksum of a crate such that it takes each crate below once, and not once for each way down to it."""
 
     def summed(crate):
         with one_look() as sums:
@@ -110,7 +110,7 @@ def sum_alone(stamp):
 
 
 def stamp_unchanged(is_built):
-    """Returns rt's test whether a library is built such that one stays, and gets its stamp, where all that it read is as it was."""
+    """Returns rt's test whether a library is built, changed so that a library stays, and gets its stamp, if all that it read is as it was."""
 
     def answered(crate):
         with one_look():
@@ -129,7 +129,7 @@ def stamp_unchanged(is_built):
 
 
 def build_noted(build_rlib):
-    """Returns rt's build of a library such that it notes what it read."""
+    """Returns rt's build of a library, changed so that it notes what it read."""
 
     def built(crate, flags, anew):
         if not anew and crate.is_built():
@@ -159,13 +159,13 @@ def module_of(path):
 
 
 def end_after(running):
-    """Says what is still waited for, where something is."""
+    """Says what is still waited for, if anything is."""
     if running:
         say(f"ending once {' and '.join(it.name for it in running.values())} are tried: that work is kept")
 
 
 def prove(crate, flags):
-    """Proves and builds a library, if it must be, and returns rt's status and how long that took, or None where it stays as it is."""
+    """Proves and builds a library if that is needed, and returns rt's status and how long that took, or None if it stays as it is."""
     if crate.is_built():
         return 0, None
     say(f"proving {crate.name}")
@@ -175,7 +175,7 @@ def prove(crate, flags):
 
 
 def prove_all(crates, at_once, flags):
-    """Proves libraries, each once those below it are proved, and returns whether all went well."""
+    """Proves libraries, each as soon as those below it are proved, and returns whether all went well."""
     # those that most others rest on go first
     left = sorted(crates, key=lambda it: -sum(it in other.below() for other in crates))
     running, unread = {}, 0
@@ -225,7 +225,7 @@ def output_to(file):
 
 
 def build_archive(crate, flags):
-    """Builds a static library where a file that it is made of changed, and returns rt's status. rt itself builds it each time."""
+    """Builds a static library if a file that it is made of changed, and returns rt's status. rt itself builds it each time."""
     archive, note = f"{crate.folder}/out/lib{crate.name}.a", f"{crate.folder}/out/lib{crate.name}.stamp"
     stamp = crate.stamp()
     with contextlib.suppress(FileNotFoundError), open(note, encoding="ascii") as it:

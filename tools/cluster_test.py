@@ -1,9 +1,9 @@
 #!/usr/bin/env python3
 """cluster_test.py PROGRAM [PYTHON]: reads a log by examples/log_cluster.py on a cluster of three workers on this machine, of
-which one is killed in the middle, and compares items, bad lines, counts and groups with what PROGRAM's `log` says of it.
+which one is killed in the middle, and compares items, bad lines, counts and groups with those of PROGRAM's `log`.
 
 PYTHON (/usr/bin/python3) has Dask: `apt-get install python3-distributed`. The library for C is that of doors/out, or the one
-that ETCS_LIBRARY names. A line says what was compared; the status is 0, or 1 where something differs, 2 without Dask.
+that ETCS_LIBRARY names. A line says what was compared; the status is 0, or 1 if something differs, 2 without Dask.
 """
 
 import json
@@ -54,7 +54,7 @@ def start(room, python):
 
 
 def one_run(program, path):
-    """Returns what PROGRAM says of the log: items, what is said of bad lines, counts and groups."""
+    """Returns what PROGRAM says about the log: items, what it says about bad lines, counts and groups."""
     words = [program, "log", "--kind", ",".join(KINDS), "--to", "json", "--summary", "--groups"]
     with open(path, "rb") as given:
         ran = subprocess.run(words, stdin=given, stdout=subprocess.PIPE, stderr=subprocess.PIPE, check=False)
@@ -115,7 +115,7 @@ def kill_one(ran, reader):
 
 
 def seconds_of(pid):
-    """Returns the seconds of processor that a process has taken."""
+    """Returns the seconds of processor time that a process has taken."""
     fields = pathlib.Path(f"/proc/{pid}/stat").read_text().rsplit(")", 1)[1].split()
     return (int(fields[11]) + int(fields[12])) / os.sysconf("SC_CLK_TCK")
 

@@ -3,8 +3,8 @@
 
     tools/completion_test.py
 
-Each shell that is installed is asked at the same places of command lines, and has to propose exactly the words that are expected,
-which come from the program's help. A shell that isn't installed is named. The status is 1 where one proposes other words.
+Each installed shell is asked at the same places of command lines, and has to propose exactly the words that are expected,
+which come from the program's help. A shell that isn't installed is named. The status is 1 if one proposes other words.
 """
 
 import fcntl
@@ -90,7 +90,7 @@ def zsh(line):
         os.close(end)
         os.write(terminal, (ZSH % (f"{TOP}/completions", f"{home}/dump")).encode() + b"print RE''ADY\n")
         read_until(terminal, "READY")
-        # a terminal in whose line mode neither Tab nor Ctrl-G means anything
+        # a terminal whose line mode gives neither Tab nor Ctrl-G a meaning
         os.write(terminal, line.encode() + b"\t\x07")
         text = read_until(terminal, "DONE")
         os.close(terminal)
@@ -99,7 +99,7 @@ def zsh(line):
 
 
 def read_until(terminal, word):
-    """Returns what a terminal writes until a word comes, or nothing more for a minute."""
+    """Returns what a terminal writes until a word comes, or until nothing more comes for a minute."""
     text = ""
     while word not in text and select.select([terminal], [], [], 60)[0]:
         text += os.read(terminal, 65536).decode(errors="replace")

@@ -3,12 +3,12 @@
 
     tools/copy_library.py [--check] DIR
 
-DIR is the folder of the other repository, with its crates.txt or none yet. Each crate's src, specs and proofs become those
+DIR is the folder of the other repository, with its crates.txt or without one. Each crate's src, specs and proofs become those
 of this repository, and their lines of crates.txt come before all other lines. Nothing else in DIR is touched, so the same
-call brings a newer library. A crate of DIR then names `etcs_codec` in its line of crates.txt, and nothing else of the library.
+call updates the library. A crate of DIR then names `etcs_codec` in its line of crates.txt, and nothing else of the library.
 
-With --check nothing is written: each file and line that is missing, differs or is too many is named, and the status is 1
-where there is one. The status is 2 where the words are wrong or DIR can't be read or written.
+With --check nothing is written: each file and line that is missing, different or superfluous is named, and the status is 1
+if there is one. The status is 2 if the words are wrong or DIR can't be read or written.
 """
 
 import filecmp
@@ -21,7 +21,7 @@ PARTS = ("src", "specs", "proofs")
 
 
 def crate_lines(folder):
-    """Returns the lines of a crates.txt, and of those that are of crates the names of the crates, in order."""
+    """Returns the lines of a crates.txt, and the names of the crates that they are of, in order."""
     path = f"{folder}/crates.txt"
     lines = open(path, encoding="utf-8").read().splitlines() if os.path.exists(path) else []
     return lines, {it.split(":")[0].split()[0]: it for it in lines if ":" in it and not it.startswith("#")}
@@ -49,7 +49,7 @@ def files_of(folder, name):
 
 
 def differences(folder):
-    """Yields what a copy lacks, what differs in it, and what it has too many of."""
+    """Yields what a copy lacks, what differs in it, and what is superfluous."""
     _, there = crate_lines(folder)
     for name, line in library().items():
         if there.get(name) != line:

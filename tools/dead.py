@@ -1,17 +1,17 @@
 #!/usr/bin/env python3
-"""Finds what nothing uses: definitions and lemmas, and what crates hand on to those above.
+"""Finds what nothing uses: definitions and lemmas, and what crates re-export to those above.
 
     tools/dead.py
 
-A definition or lemma of specs/ or proofs/ is used where the code or an answer to a goal names it, and where one that is used
-does. Those after a line `-- example`, and those of files whose names end with Examples.antt, are used.
+A definition or lemma of specs/ or proofs/ is used if the code or an answer to a goal names it, or one that is used
+does. Those after a line `-- example`, and those of files whose names end with Examples.antt, count as used.
 
-A public item of a module `inner` is used where the code of another crate names it, or a macro that others use; what its
-own crate alone uses needn't be there. One of `laws` is used where any code names it, or docs/PROVED.md: such a law is a
-promise. An item that is handed on by such a module is used where it is used there.
+A public item of a module `inner` is used if the code of another crate names it, or a macro that others use; what only its
+own crate uses needn't be there. One of `laws` is used if any code names it, or docs/PROVED.md: such a law is a
+promise. An item that such a module re-exports is used if it is used there.
 
-Each line is the place and the name of one that isn't used. The status is 1 where there is one that EXCEPTIONS doesn't name,
-or where EXCEPTIONS names another.
+Each line is the place and the name of one that isn't used. The status is 1 if there is one that EXCEPTIONS doesn't name,
+or if EXCEPTIONS names anything else.
 """
 
 import os
@@ -20,7 +20,7 @@ import sys
 
 TOP = os.path.dirname(os.path.dirname(os.path.realpath(__file__)))
 NEWLINE = "\n"
-# What stays though nothing uses it, as `crates/etcs_bits/specs/Bits.antt: name`, each with why.
+# What stays though nothing uses it, as `crates/etcs_bits/specs/Bits.antt: name`, each with the reason.
 EXCEPTIONS: dict[str, str] = {}
 
 
@@ -83,7 +83,7 @@ class File:
                 self.hands_on[new or name] = module, name
 
     def declarations(self, text):
-        """Yields what a file without its `use` lines declares. Of answers those are used that are public or answer a goal."""
+        """Yields what a file without its `use` lines declares. An answer is used if it is public or answers a goal."""
         is_answer = os.path.basename(self.path) in ANSWERS and self.path.count("/") > 1
         is_example, blocks, last = False, Blocks(), None
         for number, line in enumerate(text.split("\n"), 1):
@@ -151,7 +151,7 @@ class Names:
                     self.known.setdefault((f"{file.module}.{it.name}", name), []).append(it)
 
     def found(self, module, name):
-        """Yields the declarations that a name of a module is, also where the module hands it on."""
+        """Yields the declarations that a name of a module means, including one that the module re-exports."""
         yield from self.known.get((module, name), [])
         file = self.of_module.get(module)
         if file and name in file.hands_on:
@@ -180,7 +180,7 @@ class Names:
             yield from self.known.get((file.module, name), [])
 
     def unused(self):
-        """Yields the place and the name of each declaration that nothing uses, and of each that is handed on for nothing."""
+        """Yields the place and the name of each declaration that nothing uses, and of each that is re-exported for nothing."""
         home = {id(it): file for file in self.files for it in file.declared}
         waiting = [it for file in self.of_code for it in self.named_in(file, file.code)]
         waiting += [it for file in self.files for it in file.declared if it.is_used]
@@ -199,7 +199,7 @@ class Names:
                     yield f"crates/{file.crate}/{file.path}:1", f"{name}, handed on"
 
 
-# ---- What crates hand on.
+# ---- What crates re-export.
 
 PUBLIC = re.compile(r"^[ \t]*pub (?:const )?(?:fn|const|struct|enum|trait|type|static|union) (\w+)", re.M)
 
@@ -226,7 +226,7 @@ def paths_of(tree, before=()):
 
 
 def uses_of(code, here):
-    """Yields of each `use` of code where it is, whether it is public, and the path and name of each item."""
+    """Yields for each `use` of code where it is, whether it is public, and the path and name of each item."""
     for found in re.finditer(r"^[ \t]*(pub(?:\(crate\))? )?use ([^;]*);", code, re.M):
         for path, name in paths_of(" ".join(found[2].split())):
             yield found.start(), found[1] == "pub ", absolute(path, here), name
@@ -256,7 +256,7 @@ def inside(code, at, here):
 
 
 def doors():
-    """Returns the items of `inner` and `laws` by their paths; what each hands on; and the paths that code names, each with the crates."""
+    """Returns the items of `inner` and `laws` by their paths; what each re-exports; and the paths that code names, each with the crates."""
     found, hands_on, users = {}, {}, {}
     for crate, path, text in files(".rt", "src"):
         here, code, names = modules_of(crate, path), without_comments(text), {}
@@ -268,7 +268,7 @@ def doors():
                 own = (*inside(code, at, here), name)
                 found[own], hands_on[own] = place(at), tuple(full)
             else:
-                # what another public module hands on is of the crate's surface
+                # what another public module re-exports belongs to the crate's surface
                 users.setdefault(tuple(full), set()).add("" if is_public else crate)
         for it in PUBLIC.finditer(code if is_door else ""):
             found[(*inside(code, it.start(), here), it[1])] = place(it.start())

@@ -3,10 +3,10 @@
 
     tools/definition_names.py
 
-Each name in the first column of its tables has to be one of crates/*/specs or of those that clauses name, of the code or of
-the kit; each file that it names has to be there; and each definition has to be on the page that a clause names of a call or
-a trait that lib.rt of a crate hands on. Where a first column ends with `..`, it stands for all names with the end of its first one, as `_fault` of
-`link_fault`. The status is 1 where something is missing.
+Each name in the first column of its tables has to be one of crates/*/specs, or one that clauses name, of the code or of
+the kit. Each file that the page names has to be there. Each definition that a clause names, of a call or a
+trait that lib.rt of a crate re-exports, has to be on the page. A first column that ends with `..` stands for all names that end
+as its first one does, as `_fault` of `link_fault`. The status is 1 if something is missing.
 """
 
 import os
@@ -18,7 +18,7 @@ from definitions import CLAUSE, TOP, Antt, Declaration, code_item, code_of
 from sources import crates, crates_below
 
 PAGE = f"{TOP}/docs/DEFINITIONS.md"
-PROGRAMS = ["etcs", "etcs_c", "etcs_codec"]  # what they rest on are the crates that aren't of tests
+PROGRAMS = ["etcs", "etcs_c", "etcs_codec"]  # the crates that they rest on are those that aren't of tests
 KIT = {"Consumes", "Appends", "IsAtEnd"}  # definitions of the kit that rows of the page explain
 FUNCTION = r'(?:    )?(?:pub )?(?:const |unsafe |extern "C" )*fn (\w+)'
 
@@ -46,7 +46,7 @@ def first_columns(page):
 
 
 def is_known(name, known):
-    """Returns whether a name of a first column is one of specs, of the code or of the kit."""
+    """Returns whether a name of a first column comes from the specs, the code or the kit."""
     names = [*crates()]
     return name in known or name in KIT or name in names or name.startswith("*") or any(code_item(it, name) or is_trait(it, name) for it in names)
 
@@ -68,7 +68,7 @@ def unknown(page, named):
 
 
 def handed_on(crate):
-    """Returns the names of its own that lib.rt of a crate hands on."""
+    """Returns the names of its own that lib.rt of a crate re-exports."""
     text = next((it for it in code_of(crate) if it.path.endswith("/src/lib.rt")), None)
     uses = re.findall(r"^pub use (?!etcs_)([^;]*);", "\n".join(text.lines) if text else "", re.M)
     own = re.findall(r"^pub (?:extern \"C\" )?fn (\w+)", "\n".join(text.lines) if text else "", re.M)
@@ -76,7 +76,7 @@ def handed_on(crate):
 
 
 def clauses_of(crate):
-    """Yields each call that a crate hands on, and what its clauses mean."""
+    """Yields each call that a crate re-exports, and what its clauses mean."""
     names = handed_on(crate)
     for code in code_of(crate):
         for first, end in code.blocks(r"impl|trait|(?:const )?fn"):
@@ -97,7 +97,7 @@ def meanings(code, first, end, at):
 
 
 def named_by_clauses():
-    """Returns the definitions that clauses of the crates name, but for those of tests, each with a call that does."""
+    """Returns the definitions that clauses of the crates name, except those of tests, each with a call that does."""
     found = {}
     for crate in crates_below(PROGRAMS)[0]:
         for call, items in clauses_of(crate):

@@ -6,19 +6,19 @@
 
 A CALL is `etcs_telegram::TelegramReader::feed`, `etcs_stream::run`, or a method of a `pub type`, as
 `etcs_radio::MessageReader::feed`; --headline names those that read and write telegrams and messages. It follows the names
-in `requires` and `ensures`, in the ghost members of types and traits in the call's head that these name, in `Value` and
+in `requires` and `ensures`, in the ghost members of types and traits in the call's signature that these name, in `Value` and
 `view` of the types' `impl Model` (--clauses leaves these two out), in the ghost members of the types that a `pub type`
 gives (`H.Packet.form` where H is `RadioHead`), and in the definitions of crates/*/specs; not invariants, names of the kit,
 and items of the code, which are listed at the end, with the members of types that are the caller's to give. A line has a
 file and line, a name and how many lines it has without comments; the last one, which --count prints alone, has the
-counts. The status is 1 where a name isn't found, where a contract rests on a lemma (it lies in specs/laws or proofs, or is
-neither `abbrev` nor `unfoldable` nor a type), and where there are more than N definitions.
+counts. The status is 1 if a name isn't found, if a contract rests on a lemma (it lies in specs/laws or proofs, or is
+neither `abbrev` nor `unfoldable` nor a type), or if there are more than N definitions.
 
 --page writes the parts of docs/READ-TO-BELIEVE.md between `<!-- definitions: FILE .. -->`, `<!-- quoted: FILE .. -->`,
 `<!-- clauses: CALL .. -->` or `<!-- counts: CALL .. -->` and `<!-- end -->`: where the headline's definitions in these files
 of crates/ are, or their text too, the clauses of these calls, and how many definitions each rests on. Each definition has
 to be in one part, the clauses of each call of the headline in another, and no type of it may be the caller's to give. With
---check nothing is written, and the status is 1 where the page has parted from the sources.
+--check nothing is written, and the status is 1 if the page no longer matches the sources.
 """
 
 import os
@@ -59,7 +59,7 @@ class Declaration:
         self.is_type = bool({"data", "record"} & set(self.marks))
 
     def size(self):
-        """Returns how many lines it has without comments, with that of its fixity."""
+        """Returns how many lines it has without comments, including that of its fixity."""
         said = [it for it in self.lines if it.strip() and not it.strip().startswith("--")]
         return len(said) + (self.name in self.file.fixities)
 
@@ -203,7 +203,7 @@ class Code:
         return re.fullmatch(r"[A-Z]\w*", name) and code_item(self.crate_of(name), name)
 
     def crate_of(self, name):
-        """Returns the crate that a name of this file is from: its own where no other is given."""
+        """Returns the crate that a name of this file is from: its own if no other is given."""
         uses = re.findall(r"^(?:pub )?use (?!crate|self|super)(\w+)::([^;]*);", "\n".join(self.lines), re.M)
         found = (it for it, rest in uses if name in re.findall(r"\w+", rest) and os.path.isdir(f"{TOP}/crates/{it}"))
         return next(found, self.path.split("/")[1])
@@ -225,7 +225,7 @@ class Code:
 
 @lru_cache(maxsize=None)
 def code_of(crate):
-    """Returns the files of a crate's code; none of a library that isn't of this repository."""
+    """Returns the files of a crate's code; none for a library that isn't of this repository."""
     found = (f"{place}/{it}" for place, _, names in os.walk(f"{TOP}/crates/{crate}/src") for it in names)
     return [Code(it) for it in sorted(found) if it.endswith(".rt")]
 
@@ -344,7 +344,7 @@ class Reached:
         self.clauses_alone = clauses_alone
 
     def visit_all(self, items, user=None):
-        """Visits what names mean; where one isn't found, notes that."""
+        """Visits what names mean; if one isn't found, notes that."""
         try:
             for item in items:
                 self.visit(item, user)

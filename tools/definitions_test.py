@@ -4,7 +4,7 @@
     tools/definitions_test.py
 
 In a folder with the script, the page and the crates, some of them changed, `definitions.py --page --check` has to find each
-of the changes below, and nothing where nothing is changed. The status is 0 where that is so.
+of the changes below, and nothing if nothing is changed. The status is 0 if that is so.
 """
 
 import os
@@ -22,7 +22,7 @@ LOCATED, READING = "crates/etcs_track/src/located.rt", "crates/etcs_vars/specs/R
 PARTED = "has parted from the sources"
 USES = "    ghost use Rattle.{}.specs.Hidden.{{{}}};\n\n"
 
-# What is changed: of a file an old text and the new one, or all of a new file; and a part of what has to be said.
+# What is changed: an old text of a file and the new one, or all of a new file; and a part of what has to be said.
 TRIED = {
     "a ghost member is on no step": ([(PAGE, f"<!-- definitions: {BODIES} ", "<!-- definitions: ")], f"crates/{BODIES} is in no part"),
     "a ghost member says something new": (

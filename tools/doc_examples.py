@@ -3,13 +3,13 @@
 
     tools/doc_examples.py [--check] PROGRAM [DOCUMENT ..]
 
-PROGRAM is the built `etcs`. The documents are README.md, examples/README.md and those of docs/, where none is named.
+PROGRAM is the built `etcs`. If no document is named, they are README.md, examples/README.md and those of docs/.
 
 - Each block ```console is run by bash in a folder for its document, in which `./etcs` is PROGRAM, and `docs`
   and `examples` are the repository's folders. After each command, a line that begins with `$ ` with those that begin with `> `, comes all that it
   writes, standard error too. A line `..` stands for any number of lines, and `..` at a line's end for any rest of it.
-  What a block writes isn't compared where a tool that it needs isn't installed: a line `skipped: ..` says so.
-- After `<!-- lines: PATH .. -->` each line of the block, but for comments and empty ones, is a line of one of these files.
+  If a tool that a block needs isn't installed, what it writes isn't compared, and a line `skipped: ..` says so.
+- After `<!-- lines: PATH .. -->` each line of the block, except comments and empty ones, is a line of one of these files.
   `{ .. }` at its end stands for a block of any length.
 - After `<!-- .. skeletons of packets to the WAY -->` each line of the block is a packet that an item of the way may have.
 - Each row of examples/README.md is run, a file with its kind or its command: the status, and the line `etcs: ..` or none,
@@ -18,9 +18,9 @@ PROGRAM is the built `etcs`. The documents are README.md, examples/README.md and
   numbers are those that PROGRAM shows, its widths those of the sources, and its bits those of the file, in which the
   numbers have to be. `<!-- bits: KIND FILE 50..128 -->` is of these bits alone.
 - After `<!-- file: PATH -->` the block is the file; after `<!-- file: PATH NAME .. -->` its lines between `// NAME` and
-  `// end`, of one name after another, and for a name `NAME()` the function with what is said above it, after a blank line.
+  `// end`, of one name after another, and for a name `NAME()` the function with the comment above it, after a blank line.
 
-Blocks of the last two kinds are written anew; with --check they are compared. The status is 1 where an output or a block
+Blocks of the last two kinds are rewritten; with --check they are compared. The status is 1 if an output or a block
 differs.
 """
 
@@ -168,7 +168,7 @@ def part_of(text, name):
 
 
 def remade(text, program):
-    """Returns a document with its marked blocks made anew."""
+    """Returns a document with its marked blocks rewritten."""
 
     def block(found):
         lines = item_lines(program, found[3]) if found[2] == "bits" else file_lines(found[3])
@@ -206,7 +206,7 @@ def written(block, folder):
 
 
 def agrees(lines, wanted):
-    """Returns whether lines are as they are wanted, where `..` stands for any lines or for the rest of one."""
+    """Returns whether lines are the wanted ones, in which `..` stands for any lines or for the rest of one."""
     if not wanted:
         return not lines
     first, rest = wanted[0], wanted[1:]
@@ -263,7 +263,7 @@ def line_differences(text, path):
 
 
 def items_with(way, packet):
-    """Yields JSON of items with a packet, of which one has the bits that are left: FILL where it may be in no message, else PADDING."""
+    """Yields JSON of items with a packet, one of which has the bits that are left: FILL if it may be in no message, else PADDING."""
     message = {"fields": [], "packets": [packet]}
     if way == "track":
         message |= {"header": [["T_TRAIN", 0], ["NID_ENGINE", 1]], "kind": "train", "nid": 136}
@@ -289,7 +289,7 @@ def skeleton_differences(text, path, program):
 
 
 def row_differences(text, path, program):
-    """Yields what is wrong with the rows of examples/README.md: a file, its kind or a command, and what it answers."""
+    """Yields what is wrong with the rows of examples/README.md, which have a file, its kind or a command, and what it answers."""
     for name, given, answer in re.findall(r"^\| `(\w+\.\w+)` \| (.*?) \| (.*) \|$", text, re.M):
         command = given.strip("`") if "etcs" in given else f"./etcs show --kind {given} < examples/{name}"
         command += " --from json" * name.endswith(".json")

@@ -3,8 +3,8 @@
 
     tools/format_tables.py [--check]
 
-A part between `<!-- made by tools/format_tables.py: NAME -->` and `<!-- end -->` is written anew. With --check nothing is
-written: the status is 1 where a document has parted from the sources. The sources are the tables of crates/etcs_vars and
+A part between `<!-- made by tools/format_tables.py: NAME -->` and `<!-- end -->` is rewritten. With --check nothing is
+written: the status is 1 if a document no longer matches the sources. The sources are the tables of crates/etcs_vars and
 crates/etcs_tables, the enums of packets and bodies with their comments, and crates.txt. Variables are compared with their
 definitions, and lengths with the vectors `lengths`, before anything is written.
 """
@@ -22,7 +22,7 @@ KEPT = "\u00a0"  # a blank at which no line is broken
 DOCUMENTS = ["docs/FORMAT.md", "docs/COVERAGE.md", "docs/USING.md"]
 PART = re.compile(r"(<!-- made by tools/format_tables.py: ([\w ]+) -->\n)(.*?)(<!-- end -->)", re.S)
 
-# What the line of a variable says of its unit.
+# What the line of a variable says about its unit.
 UNITS = {
     "in steps of 5 km/h": "5 km/h",
     "in seconds": "1 s",
@@ -41,7 +41,7 @@ def thousands(number):
 
 
 def spans(numbers):
-    """Returns numbers as text, those in a row as a range."""
+    """Returns numbers as text, consecutive ones as a range."""
     groups = []
     for n in sorted(numbers):
         if groups and groups[-1][1] == n - 1:
@@ -227,7 +227,7 @@ def skeletons(way):
 
 
 def table_of_crates():
-    """Returns what has to be copied for each use of the library: the crates, or how they differ from those of a use above."""
+    """Returns what has to be copied for each use of the library: the crates, or how they differ from those of an earlier use."""
     uses = [
         ("telegrams: reading, building, viewing", "etcs_telegram"),
         ("balise groups", "etcs_group"),

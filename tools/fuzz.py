@@ -1,28 +1,28 @@
 #!/usr/bin/env python3
-"""Runs the program over inputs by chance, and checks what needs no second codec.
+"""Runs the program over random inputs, and checks what needs no second codec.
 
     tools/fuzz.py [--seconds N] [--seed N] [PROGRAM [WORD ..]]
 
-PROGRAM is `etcs`, where nothing is said the one that `./etcs build` has built; the WORDs go before those
-of each call. An input is items of crates/etcs_vectors/stdin one after another, some of them changed or
-cut, or bytes by chance: of each kind, as bytes, as digits or as JSON. Each command is run over it:
+PROGRAM is `etcs`, by default the one that `./etcs build` has built; the WORDs go before those of each
+call. An input is a sequence of items of crates/etcs_vectors/stdin, some of them changed or cut, or random
+bytes: of each kind, as bytes, as digits or as JSON. Each command is run over it:
 
-- A call ends in 20 seconds, with the status 0 or 1, and takes at most 64 MiB.
-- After 0 nothing is on standard error; after 1 the line of a fault that this form can have, about the
-  item after those that were written, or none of a group that isn't whole or has a clash.
+- A call ends within 20 seconds, with the status 0 or 1, and takes at most 64 MiB.
+- After 0 nothing is on standard error; after 1 there is the line of a fault that this form can have, about
+  the item after those that were written, or no line for a group that isn't whole or has a clash.
 - All commands end alike and write as many items.
 - What is written as bytes begins the input, and stays the same through each form.
-- Items that the sheet has are accepted, each with its bits.
+- Items of the vectors are accepted, each with its bits.
 - The same bytes end alike as bytes, as one line of digits and as lines that are cut anywhere.
-- Items that are accepted and an input after them give the items, and then what the input gives.
-- Lines that have an item each, in spellings of people, are good lines of a log.
-- With the bit at which an item is refused turned, it is refused at a later bit or not at all, and so
+- Accepted items with an input after them give the items, and then what the input gives.
+- Lines that have an item each, spelled as people do, are good lines of a log.
+- If the bit at which an item is refused is turned, it is refused at a later bit or not at all, and so
   on: so some item begins with the bits before.
 
 It ends after N seconds (60) or 20 findings. Each is written with its call and the input in hexadecimal;
-at the end are the counts, and the seed that gives the same inputs again. The status is 0 where nothing
-was found, 1 where something was, 2 where the words are wrong or the program can't be run. Programs that
-each have to be found out are in tools/fuzz_test.py.
+at the end are the counts, and the seed that gives the same inputs again. The status is 0 if nothing was
+found, 1 if something was, and 2 if the words are wrong or the program can't be run. tools/fuzz_test.py
+has wrong programs, each of which this has to find.
 """
 
 import collections
@@ -45,7 +45,7 @@ FAULTS = {
     "bad hexadecimal": re.compile(rb"etcs: line (\d+): bad hexadecimal at (\d+)\n"),
     "bad JSON": re.compile(rb"etcs: line (\d+): bad JSON\n"),
 }
-# An item of the sheet, and where it is one how many bits it has.
+# An input of the vectors, and if it is an item how many bits it has.
 SHEET_ITEM = re.compile(r"^(short|long|radio|train) ([0-9A-F]+) =(?:\n item 1 \w+ (\d+) bits$)?", re.MULTILINE)
 BIN_FAULTS = ["refused", "truncated"]
 FORM_FAULTS = {"bin": BIN_FAULTS, "hex": [*BIN_FAULTS, "bad hexadecimal"], "json": ["refused", "bad JSON"]}
@@ -53,11 +53,11 @@ WAYS = [("bin", "json"), ("json", "bin"), ("json", "hex"), ("hex", "bin"), ("jso
 
 
 class Finding(Exception):
-    """What isn't as it must be, of a call over an input."""
+    """What is wrong with a call over an input."""
 
 
 def expect(right, what, words, given):
-    """Raises the finding where something isn't right."""
+    """Raises the finding if something isn't right."""
     if not right:
         raise Finding(f"{what}: {' '.join(words)} < {given.hex().upper()}")
 
@@ -70,7 +70,7 @@ class Program:
         self.counts = collections.Counter()
 
     def run(self, words, given):
-        """The status, output and faults of a call over these bytes, if it ends as each call must."""
+        """The status, output and faults of a call over these bytes, which has to end as each call must."""
         file = tempfile.TemporaryFile
         with file() as start, file() as output, file() as faults:
             start.write(given)
@@ -91,7 +91,7 @@ class Program:
 
 
 def fault_of(form, words, given, answer):
-    """The name and the numbers of a call's fault; nothing where it has none."""
+    """The name and the numbers of a call's fault; nothing if it has none."""
     status, _, line = answer
     for name in FORM_FAULTS[form]:
         if status == 1 and (found := FAULTS[name].fullmatch(line)):
@@ -169,7 +169,7 @@ class Trial:
             expect(right, "other bytes", words, self.given)
 
     def after(self, whole, status, fault, text):
-        """Whether items of the sheet are accepted, and the input ends after them as it does alone."""
+        """Whether items of the vectors are accepted, and the input ends after them as it does alone."""
         given = b"".join(item for item, _ in whole)
         lines = b"".join(b"item %d ok %d bits\n" % (n, bits) for n, (_, bits) in enumerate(whole, 1))
         words, answer = self.call_of("bin", given, "check")
@@ -184,7 +184,7 @@ class Trial:
         expect(right, "another answer after items that are whole", words, given)
 
     def in_a_log(self, pick, whole):
-        """Whether `log` finds the digits of items, a line each."""
+        """Whether `log` finds the digits of items, one on each line."""
         items = [item.hex() for item, _ in whole]
         given = b"".join(spelled(pick, it).encode() + b"\n" for it in items)
         words = ["log", "--kind", self.kind, "--good"]
@@ -220,7 +220,7 @@ class Trial:
 
 
 def spelled(pick, digits):
-    """Digits of an item as people have them: in groups, with something around them."""
+    """Digits of an item as people write them: in groups, with something around them."""
     size = pick.choice((2, 4, 8, 16, len(digits)))
     groups = [digits[at : at + size] for at in range(0, len(digits), size)]
     if pick.random() < 0.3:
@@ -261,7 +261,7 @@ def changed_line(pick, line):
 
 
 class Inputs:
-    """Makes inputs of the items of the sheet."""
+    """Makes inputs from the items of the vectors."""
 
     def __init__(self, pick, program, sheet):
         self.pick, self.program = pick, program
@@ -272,7 +272,7 @@ class Inputs:
                 self.whole[kind].append((bytes.fromhex(digits), int(bits)))
 
     def make_whole(self, kind):
-        """One or two items that the sheet has, with the number of their bits."""
+        """One or two items of the vectors, with the number of their bits."""
         return self.pick.choices(self.whole[kind], k=self.pick.randrange(1, 3))
 
     def make(self, kind, form):
@@ -283,14 +283,14 @@ class Inputs:
         return given if form == "bin" else self.digits(given)
 
     def item(self, kind):
-        """An item of the sheet, as it is, changed or with other bytes after its first ones."""
+        """An item of the vectors, as it is, changed or with other bytes after its first ones."""
         item, what = self.pick.choice(self.items[kind]), self.pick.randrange(4)
         if what == 0:
             return item[: self.pick.randrange(16)] + self.pick.randbytes(self.pick.randrange(120))
         return item if what == 1 else changed_bytes(self.pick, item)
 
     def digits(self, given):
-        """Lines of digits of these bytes, of which one in four is changed."""
+        """Lines of digits of these bytes, one in four of which is changed."""
         text = b""
         for at in range(0, len(given), 29):
             digits = given[at : at + 29].hex()
@@ -299,7 +299,7 @@ class Inputs:
         return changed_bytes(self.pick, text) if self.pick.random() < 0.25 else text
 
     def line(self, kind):
-        """A line of JSON that the program writes of an item, as it is or changed."""
+        """A line of JSON that the program writes for an item, as it is or changed."""
         words = ["convert", "--kind", kind, "--from", "bin", "--to", "json"]
         line = self.program.run(words, self.pick.choice(self.items[kind]))[1].strip() or b"{}"
         what = self.pick.randrange(4)
@@ -309,7 +309,7 @@ class Inputs:
 
 
 def fuzz(program, pick, sheet, seconds, most=20):
-    """Tries inputs until the time is over, or there are this many findings: how many there are."""
+    """Tries inputs until the time is over or there are this many findings; returns how many there are."""
     end, findings = time.monotonic() + seconds, 0
     inputs = Inputs(pick, program, sheet)
     while time.monotonic() < end and findings < most:
@@ -324,7 +324,7 @@ def fuzz(program, pick, sheet, seconds, most=20):
 
 
 def sheet_text():
-    """The sheet of the vectors."""
+    """The file of the vectors."""
     with open(f"{TOP}/crates/etcs_vectors/stdin", encoding="utf-8") as text:
         return text.read()
 

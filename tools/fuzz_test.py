@@ -3,9 +3,9 @@
 
     tools/fuzz_test.py [PROGRAM [WORD ..]]
 
-PROGRAM is `etcs`, as of tools/fuzz.py. Over it are made programs that answer wrongly, but alike in each command: one that
-never accepts an item, and one that ends an item at each line. Each has to be found out in 30 seconds, and PROGRAM itself must
-not be. The status is 0 where that is so, 1 where it isn't, 2 where the words are wrong or the program can't be run.
+PROGRAM is `etcs`, as for tools/fuzz.py. From it are made programs that answer wrongly, but alike in each command: one that
+never accepts an item, and one that ends an item at each line. Each has to be found wrong within 30 seconds, and PROGRAM itself
+must not be. The status is 0 if that is so, 1 if it isn't, and 2 if the words are wrong or the program can't be run.
 """
 
 import random
@@ -19,12 +19,12 @@ SEED = 1
 
 
 def form_of(words):
-    """The form that a call reads; nothing of a log."""
+    """The form that a call reads; nothing for a log."""
     return words[words.index("--from") + 1] if "--from" in words else ""
 
 
 class Never(fuzz.Program):
-    """Says of each input that it is cut short, or that a line is bad."""
+    """Says that each input is cut short, or that a line is bad."""
 
     def run(self, words, given):
         form = form_of(words)
@@ -54,7 +54,7 @@ class ByLine(fuzz.Program):
 
 
 def findings(program):
-    """How many findings there are of a program."""
+    """How many findings there are for a program."""
     print(f"{type(program).__name__}:", flush=True)
     return fuzz.fuzz(program, random.Random(SEED), fuzz.sheet_text(), SECONDS, 1)
 

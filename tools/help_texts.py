@@ -4,7 +4,7 @@
     tools/help_texts.py [--check]
 
 The texts are those of the vectors `help` of crates/etcs_vectors/stdin, which the gate compares with the program; the
-script `etcs` answers from the file what the program would. With --check the file is compared, and the status is 1 where
+script `etcs` answers from the file what the program would. With --check the file is compared, and the status is 1 if
 it differs.
 """
 
@@ -17,7 +17,7 @@ from vectors import vectors_of
 TOP = os.path.dirname(os.path.dirname(os.path.realpath(__file__)))
 STDIN = f"{TOP}/crates/etcs_vectors/stdin"
 FILE = f"{TOP}/docs/help.txt"
-# What a line of command lines begins with: no line of a text does.
+# What a line of command lines begins with; no line of a text begins so.
 MARK = "== "
 HEAD = f"""\
 What the program answers to words that ask for help, for its version or for nothing. A line `{MARK}STATUS: LINE, LINE ..` has

@@ -3,8 +3,8 @@
 
     tools/manual.py [--check]
 
-man/ has a page of `etcs` and one of each command, completions/ a file each for bash, zsh and fish. The texts are those of the
-vectors `help`, as in docs/help.txt. With --check nothing is written, and the status is 1 where a file differs, or there is one more.
+man/ has a page for `etcs` and one for each command, completions/ a file each for bash, zsh and fish. The texts are those of the
+vectors `help`, as in docs/help.txt. With --check nothing is written, and the status is 1 if a file differs or is superfluous.
 """
 
 import os
@@ -63,7 +63,7 @@ def read():
 
 
 def plain(text):
-    """Returns a text in which nothing means anything to roff."""
+    """Returns a text in which nothing has a meaning to roff."""
     text = text.replace("\\", "\\e").replace("-", "\\-")
     return re.sub(r"^(?=[.'])", "\\&", text, flags=re.M)
 
@@ -253,7 +253,7 @@ def files():
 
 
 def parted(made):
-    """Yields the files that differ, are missing, or are there without being made."""
+    """Yields the files that differ, are missing, or are superfluous."""
     for path, text in made.items():
         try:
             with open(f"{TOP}/{path}", encoding="utf-8") as file:

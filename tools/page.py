@@ -3,14 +3,15 @@
 
 PROGRAM writes a page of each file of examples/ that is for `show`, of several of them, of lines that are no item, of no
 item, and of 2,000 items. Each is looked at with 390, 1,000 and 1,400 pixels, light and dark, with and without bits, for
-cells that are higher than a line, text that leaves the page or its cell, contrast below 4.5, and headings. Then it is
-asked, of each page once: whether each row and each bit marks the other and nothing else, whether the bits are those of the
-bytes, whether Tab stops once a table and the arrows go through its rows, what is drawn, whether all is there without a
-script, and whether a text of the input made an element. A page of 2,000 items has to be there within three seconds.
+cells that are higher than a line, text that leaves the page or its cell, contrast below 4.5, and headings. Then these are
+checked once for each page: whether each row and each bit marks the other and nothing else, whether the bits are those of
+the bytes, whether Tab stops once for each table and the arrows go through its rows, what is drawn, whether all is there
+without a script, and whether a text of the input made an element. A page of 2,000 items has to be there within three
+seconds.
 
-It wants Debian's chromium (`apt-get install chromium`), or the one that the variable BROWSER names, and speaks with it over
-two pipes. FOLDER, where it is given, keeps the pages, a picture of each look, and each page as it is printed (PDF). A line
-a page; the status is 1 where something is wrong, and 2 where there is no browser. The gate doesn't run it.
+It needs Debian's chromium (`apt-get install chromium`), or the one that the variable BROWSER names, and speaks with it over
+two pipes. FOLDER, if it is given, keeps the pages, a picture of each look, and each page as it is printed (PDF). It writes a
+line for each page; the status is 1 if something is wrong, and 2 if there is no browser. The gate doesn't run it.
 """
 
 import base64
@@ -39,7 +40,7 @@ SCALES = (
     "FFFFFFFC"
 )
 
-# What is drawn, by hand from the numbers: distances are summed, in steps of Q_SCALE.
+# What is drawn, worked out by hand from the numbers: distances are summed, in steps of Q_SCALE.
 DRAWN = {
     "scales": [
         "distance from the reference, direction: nominal"
@@ -127,7 +128,7 @@ LOOK = r"""(() => {
   return [...wrong];
 })()"""
 
-# Asked once a page, with all items open: how many rows and bits there are, and what is wrong.
+# Asked once for each page, with all items open: how many rows and bits there are, and what is wrong.
 MARKS = r"""(() => {
   const wrong = [];
   let rows = 0, bits = 0;
@@ -225,7 +226,7 @@ class Browser:
             self.events.append(said)
 
     def open(self, at, plain=False):
-        """Opens a page, plain without its script; answers the seconds until it is drawn, and what its script failed of."""
+        """Opens a page, a plain one without its script; returns the seconds until it is drawn, and the exceptions of its script."""
         self.events, began = [], time.monotonic()
         self.call("Page.navigate", url=at.as_uri())
         while not any(event.get("method") == "Page.loadEventFired" for event in self.events):
@@ -307,7 +308,7 @@ def keys_wrong(browser):
 
 
 def picture(browser, at, width):
-    """Keeps a picture of a page, as long as it is."""
+    """Keeps a picture of a page, in its full length."""
     size = browser.call("Page.getLayoutMetrics")["cssContentSize"]
     clip = {"x": 0, "y": 0, "width": width, "height": min(size["height"], 3000), "scale": 1}
     browser.keep("Page.captureScreenshot", at, format="png", captureBeyondViewport=True, clip=clip)
@@ -328,7 +329,7 @@ def looks(browser, at, keeps):
 
 
 def check(browser, name, page, folder, keeps):
-    """Looks at a page; answers its counts of rows and bits, and what is wrong."""
+    """Looks at a page; returns its counts of rows and bits, and what is wrong."""
     at = folder / (name.replace(" ", "_").replace(".", "_") + ".html")
     at.write_text(page)
     wrong = looks(browser, at, keeps)
@@ -353,7 +354,7 @@ def check(browser, name, page, folder, keeps):
 
 
 def main():
-    """Checks all pages, and answers the status."""
+    """Checks all pages, and returns the status."""
     if len(sys.argv) not in (2, 3):
         sys.exit(__doc__)
     if shutil.which(BROWSER) is None:

@@ -4,8 +4,8 @@
     tools/picture.py [--check] PROGRAM
 
 PROGRAM writes the page, whose script draws in a browser without a window, as tools/page.py has it (Debian's chromium, or the
-one that BROWSER names). With --check it compares, and writes nothing. The status is 0, 1 where the picture differs, and 2
-where there is no browser.
+one that BROWSER names). With --check it compares, and writes nothing. The status is 0, 1 if the picture differs, and 2
+if there is no browser.
 """
 
 import pathlib
@@ -40,7 +40,7 @@ def drawn(page):
 
 
 def picture_of(page):
-    """Returns the picture: the drawing with the page's colours, on a ground of its own, so that it is read on any."""
+    """Returns the picture: the drawing with the page's colours, on a background of its own, so that it can be read on any page."""
     drawing = drawn(page)
     width, height = re.search(r'viewBox="0 0 (\S+) (\S+)"', drawing).groups()
     style = "\n".join(RULES.findall(page)) + "\nsvg{background:Canvas}"

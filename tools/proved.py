@@ -1,12 +1,12 @@
 #!/usr/bin/env python3
-"""Compares the tables of docs/PROVED.md with the calls that crates hand on.
+"""Compares the tables of docs/PROVED.md with the calls that crates re-export.
 
     tools/proved.py --check
 
-Each call or method of a trait that lib.rt of a crate hands on, and that has a contract, has to be named in the second column
-of a row, or in the head of a table of its answers: as `peek`, `Walker::next`, `Walker::{new, place}`, as `try_clone` where
-a row says of which types, or all methods of a trait by its name. Calls that read one part of a value have a row for all of
-them. Crates of tests are left out. The status is 1 where a call is missing.
+Each call or method of a trait that lib.rt of a crate re-exports, and that has a contract, has to be named in the second
+column of a row, or in the head of a table of its answers: as `peek`, `Walker::next`, `Walker::{new, place}`, as `try_clone`
+if a row says of which types, or all methods of a trait by its name. Calls that read one part of a value have one row for all
+of them. Crates of tests are left out. The status is 1 if a call is missing.
 """
 
 import re
@@ -18,14 +18,14 @@ from definitions import CLAUSE, TOP, code_of
 from sources import crates_below
 
 PAGE = f"{TOP}/docs/PROVED.md"
-# What rows say of messages of both ways is of the types that these are over heads and bodies.
+# Rows about messages of both ways are about the types that these are, over heads and bodies.
 NAMES = {"MessageOf": ("Message", "TrainMessage"), "ReaderOf": ("MessageReader", "TrainReader")}
 # A part of a value, as `result ≡ self.now.d_link`.
 PART = r" *ensures \w* ?\{ result(\.now)? ≡ self(\.now)?\.\w+(\.now)? \};?"
 
 
 def rows():
-    """Yields the heading of each row and its second column, or the first where it heads a table of answers."""
+    """Yields the heading of each row and its second column, or the first column if it heads a table of answers."""
     heading = ""
     for line in open(PAGE, encoding="utf-8"):
         heading = line if line.startswith("## ") else heading
@@ -43,7 +43,7 @@ def named_in(column):
 
 
 def known_of(crate):
-    """Returns what rows name of a crate: calls with their types anywhere, and by themselves in its own rows and those of all."""
+    """Returns the calls of a crate that rows name: with their types in any row, or by themselves in its own rows or those of all crates."""
     headings = [crate, "several crates", *(["etcs_radio", "etcs_train"] if crate == "etcs_messages" else [])]
     found = set()
     for heading, column in rows():
@@ -53,7 +53,7 @@ def known_of(crate):
 
 
 def calls_of(crate):
-    """Yields each call with a contract that a crate hands on: its file and line, the names of it in rows, its clauses."""
+    """Yields each call with a contract that a crate re-exports: its file and line, its names in rows, its clauses."""
     names = handed_on(crate)
     for code in code_of(crate):
         for first, end in code.blocks(r"impl|trait|(?:const )?fn"):

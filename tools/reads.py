@@ -1,20 +1,20 @@
-"""What the build of a library read of those below it, so that it needn't be built anew where all of that is as it was.
+"""What the build of a library read of those below it, so that it needn't be rebuilt if all of that is as it was.
 
-A note beside the rlib says it: the sum of the crate's own files, what others may read of the library, and what its build
-read of each library below. A build reads of an rlib below it (`rattle build --help`, under --extern):
+A note beside the rlib says it: the checksum of the crate's own files, what others may read of the library, and what its
+build read of each library below. From an rlib below it a build reads (`rattle build --help`, under --extern):
 
-- the public interface, which are the folders interface and below and the file format. All of it counts, less the two
-  lines of format that are sums of the whole: types, constants, macros, bounds, and which functions are inlined.
+- the public interface, which is the folders interface and below and the file format. All of it counts, except the two
+  lines of format that are checksums of the whole: types, constants, macros, bounds, and which functions are inlined.
 - modules of its statements, specs and proofs. Those count that antt names at the head of one of the library's own
-  checked modules, as imported or seen by way of an import, and of each the text that it is made from.
+  checked modules, as imported or seen by way of an import; what counts of each is the text that it is made from.
 
-It doesn't read the code of functions (toolchain/mir.json) nor the private items (lang/src). The build of a program or of
-a static library reads these, and it is done anew where any file changed. It also reads checked modules of all libraries,
-and rattle refuses one that read something else than what is there now ("something that it read has changed"): a clause,
-a definition or a type that this file overlooked would make that build fail, and nothing unproved pass. rattle doesn't
-notice a constant or a macro that changed, whose value is in the code of the library above. Those are in the interface,
-which is why it counts in whole. Where a note is missing or can't be read, or a module is not in the form that is known
-here, the library is built anew.
+It reads neither the code of functions (toolchain/mir.json) nor the private items (lang/src). The build of a program or of
+a static library reads these, and it is repeated if any file changed. It also reads checked modules of all libraries,
+and rattle refuses one that read anything other than what is there now ("something that it read has changed"): a clause,
+a definition or a type that this file overlooked would make that build fail, and let nothing unproved pass. rattle doesn't
+notice a changed constant or macro, whose value is in the code of the library above. Those are in the interface,
+which is why all of it counts. If a note is missing or can't be read, or a module isn't in the form that is known
+here, the library is rebuilt.
 """
 
 import functools
@@ -44,14 +44,14 @@ def files_of(rlib):
 
 
 def interface_of(rlib):
-    """Returns a sum of what every library above may read of this one."""
+    """Returns a checksum of what every library above may read of this one."""
     with open(f"{rlib}/format", "rb") as it:
         lines = [line for line in it if not line.startswith(SUMS_OF_ALL)]
     return sum_of(lines, [sum_of(*it) for it in files_of(rlib)])
 
 
 def modules_of(rlib):
-    """Returns, by the name of each module of a library, the sum of its text and the modules that antt names at its head."""
+    """Returns, by the name of each module of a library, the checksum of its text and the modules that antt names at its head."""
     found = {}
     with open(f"{rlib}/toolchain/checked.json", encoding="utf-8") as names, open(f"{rlib}/toolchain/checked.a", "rb") as archive:
         for name, start, length in map(json.loads, names):
@@ -84,7 +84,7 @@ def note_of(crate):
 
 
 def view(note, modules):
-    """Returns a sum of what a build sees of a library if it reads these of its modules."""
+    """Returns a checksum of what a build sees of a library if it reads these of its modules."""
     return sum_of(note["interface"], [(it, note["modules"].get(it)) for it in modules])
 
 

@@ -4,10 +4,10 @@
     tools/schema.py
     tools/schema.py --check [PROGRAM]
 
-It is made of the tables in the sources, which tools/sources.py reads. With --check nothing is written: the status is 1 where the
-file has parted from the tables, or where a line of JSON of a vector isn't judged as the vector says. A line that is an item has to
-be valid; one that isn't has to be invalid, or wrong in what a schema can't say, which `unsaid` finds. Where PROGRAM is given, what
-it writes of the items of all vectors has to be valid too. This needs python3-jsonschema, and is skipped where it isn't installed.
+It is made from the tables in the sources, which tools/sources.py reads. With --check nothing is written: the status is 1 if the
+file no longer matches the tables, or if a line of JSON of a vector isn't judged as the vector says. A line that is an item has to
+be valid; one that isn't has to be invalid, or wrong in what a schema can't say, which `unsaid` finds. If PROGRAM is given, what
+it writes for the items of all vectors has to be valid too. This needs python3-jsonschema, and is skipped if it isn't installed.
 """
 
 import json
@@ -79,7 +79,7 @@ def pair(var):
 
 
 def pair_with(var, numbers):
-    """The pair of a variable that has one of these numbers, or any where there are none."""
+    """The pair of a variable that has one of these numbers, or any number if none are given."""
     if not numbers:
         return ref(var)
     is_range = len(numbers) > 2 and numbers == list(range(numbers[0], numbers[-1] + 1))
@@ -94,7 +94,7 @@ def flat(items):
 
 
 def least(items):
-    """The least number of pairs of items, where no group is."""
+    """The least number of pairs of items, without any group."""
     return sum(isinstance(it, One) for it in items)
 
 
@@ -132,7 +132,7 @@ def fields(row):
 
 
 def by_number(cases, other):
-    """What holds of an object by its nid: what is said of each number, and of all others."""
+    """What holds of an object by its nid: what is said for each number, and for all others."""
     typed = {"required": ["nid"], "properties": {"nid": {"enum": list(cases)}}}
     said = [
         {"if": {"required": ["nid"], "properties": {"nid": {"const": nid}}}, "then": it} for nid, it in cases.items()
@@ -154,7 +154,7 @@ def kept_packet(way):
 
 
 def packets_of(way, more):
-    """A packet of a way, of which these numbers have a form of their own."""
+    """A packet of a way, in which these numbers have a form of their own."""
     cases = {nid: ref(f"packet_{way}_{nid}") for nid in packets(way)}
     if way == "train":
         cases |= {nid: {"anyOf": [cases[nid], ref("kept_train")]} for nid in CARRIED}
@@ -242,14 +242,14 @@ def whole(text):
 
 
 def once(members):
-    """The members of an object, none of which is there twice."""
+    """The members of an object, none of which may be there twice."""
     if len({name for name, _ in members}) < len(members):
         raise Unsaid("a member twice")
     return dict(members)
 
 
 def taken(items, pairs, known):
-    """How many bits the first pairs have, which are taken as a row wants them; `known` has the last number of each name."""
+    """How many bits the first pairs have, which are taken as a row needs them; `known` has the last number of each name."""
     bits = 0
     for item in items:
         if isinstance(item, One):
@@ -286,7 +286,7 @@ def packet_bits(way, packet):
 
 
 def unsaid(item):
-    """Whether a valid item is one of the language: raises what is wrong otherwise."""
+    """Whether a valid item is one of the language; otherwise raises what is wrong."""
     way = KINDS[item["kind"]]
     if "data" in item:
         return
@@ -318,7 +318,7 @@ def lines_of(sheet):
 
 
 def judged(lines, expected):
-    """Yields each line of an input that is an item or that isn't, as far as the status and the fault say it, and whether it is."""
+    """Yields each line of an input of which the status and the fault say whether it is an item, and whether it is."""
     items = [it for it in lines if it]
     bad_line = re.fullmatch(r"etcs: line (\d+): bad JSON", expected[-1])
     refused = re.fullmatch(r"etcs: item (\d+) refused at bit .*", expected[-1])
@@ -327,7 +327,7 @@ def judged(lines, expected):
     elif refused:
         items = items[: int(refused[1])]
     elif expected[0] != "0" and not expected[-1].startswith("group "):
-        # of bytes the faults aren't said
+        # for bytes the faults aren't said
         yield from [(it, False) for it in items] if len(items) == 1 else []
         return
     for at, line in enumerate(items, 1):
@@ -335,7 +335,7 @@ def judged(lines, expected):
 
 
 def read(line, **how):
-    """The value of a line of JSON; none where it isn't JSON."""
+    """The value of a line of JSON; none if it isn't JSON."""
     try:
         return json.loads(line.decode(), parse_constant=int, **how)
     except (ValueError, RecursionError):
@@ -343,7 +343,7 @@ def read(line, **how):
 
 
 def lines_of_program(program, sheet):
-    """Yields the line of JSON that a program writes of each item of the vectors, as `lines_of` does."""
+    """Yields the line of JSON that a program writes for each item of the vectors, as `lines_of` does."""
     for number, kind, digits, expected in vectors.vectors_of(sheet):
         if kind in KINDS and expected.startswith("item 1 "):
             words = [program, "convert", "--kind", kind, "--to", "json"]
@@ -364,7 +364,7 @@ def is_explained(validator, kind, line):
 
 
 def is_right(validator, kind, line, is_item):
-    """Whether the schema, and what it can't say, judge a line so."""
+    """Whether the schema, and what it can't say, judge a line rightly."""
     if not is_item:
         return is_explained(validator, kind, line)
     item = read(line)
@@ -378,7 +378,7 @@ def is_right(validator, kind, line, is_item):
 
 
 def check_lines(validator, lines):
-    """Says which lines are judged otherwise: how many there are."""
+    """Says which lines are judged otherwise, and returns how many there are."""
     counts, wrong = Counter(), 0
     for number, kind, line, is_item in lines:
         counts[is_item] += 1

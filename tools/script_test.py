@@ -7,8 +7,8 @@ PROGRAM is the built `etcs`. In a folder whose name has a blank, with the script
 stand-ins for `rt`, tools/build.py, tools/unproved.py, tools/test.py and doors/build, it checks which words are answered
 without the program and that they are answered as by PROGRAM, which sources make a built program old, both ways of a first
 look, what is said at a terminal, and how `build`, `install` and `test` end, well and badly: with a full disk, odd names of
-folders, and variables that others set. The gate doesn't run it: run it where the script, doors/install, doors/build, crates.txt
-or a text of the program changes. The status is 1 where something isn't as it should be.
+folders, and variables that others set. The gate doesn't run it: run it when the script, doors/install, doors/build, crates.txt
+or a text of the program changes. The status is 1 if something isn't as it should be.
 """
 
 import os
@@ -27,7 +27,7 @@ TOP = os.path.dirname(os.path.dirname(os.path.realpath(__file__)))
 LIMIT = 100  # seconds for a call, on a machine that is shared
 SOURCES, BUILT, CHANGED = 1_000_000_000, 1_000_000_100, 1_000_000_200
 OUT, MARK, UNPROVED = "crates/etcs/out/etcs", "crates/etcs/out/building", "crates/etcs/out/unproved/etcs"
-# What the script and doors/install call, but for python3.
+# What the script and doors/install call, except python3.
 TOOLS = (
     "awk cat cp cut date dirname find flock git grep head install ln ls mkdir mktemp mv readlink rm rmdir sed sh sha256sum sleep sort tail"
     " touch tr wc xargs"
@@ -51,10 +51,10 @@ if "--check" in sys.argv:
     sys.exit(not os.path.exists(TOP + "/same"))
 """
 MAKES = f"make({OUT!r})\n"
-# It ends with the test's folder too, where a test is ended.
+# It also ends with the test's folder, if a test is ended.
 WAITS = "open(TOP + '/pid', 'w').write(str(os.getpid()))\n" + MAKES
 WAITS += "while os.path.exists(TOP + '/pid') and not os.path.exists(TOP + '/go'): time.sleep(0.02)\n"
-# A tool that finds no room at its call number $2, and else does what it should: $1 is its path.
+# A tool that finds no room at its call number $2, and otherwise does what it should: $1 is its path.
 NO_ROOM = """#!/bin/sh
 echo >> "$0.calls"
 if [ $(wc -l < "$0.calls") -eq {} ]; then echo "${{0##*/}}: No space left on device" >&2; exit 1; fi
@@ -79,7 +79,7 @@ WRONG = (
     ["`log`"], ["*"], ["show, etcs show"], ["help show"], ["-"], ["-x"], ["-xh"], ["-v", "show"], ["--kind", "short"], ["--kind=short"],
     ["--a b"], ["--\\n", "%d"], ["help", "shwo"], ["help", ""], ["help", "-x"], ["help", "--help"], ["help", "shwo", "show"], ["biuld"],
 )  # fmt: skip
-# Words that the program alone answers.
+# Words that only the program answers.
 LEFT = (
     ["show"], CHECK, ["help", "show", "x"], ["help", "help", "x"], ["é"], ["shwo", "é"], ["--hlep"], ["--kind", "short", "show"],
     ["--", "show"], ["--"], ["-1"], ["--help", "x"], ["-Vx"], [b"\xff"],
@@ -87,13 +87,13 @@ LEFT = (
 
 
 def heed_signals():
-    """Has a command end by signals that this process may ignore, as in the background or under nohup."""
+    """Makes a command end by signals that this process may ignore, as in the background or under nohup."""
     for it in (signal.SIGINT, signal.SIGHUP, signal.SIGTERM):
         signal.signal(it, signal.SIG_DFL)
 
 
 class Room:
-    """A folder with the script, and what it was found to do wrong."""
+    """A folder with the script, and what the script was found to do wrong."""
 
     def __init__(self, folder, program):
         self.folder, self.program, self.faults = folder, os.path.realpath(program), []
@@ -106,7 +106,7 @@ class Room:
         for line in open(f"{TOP}/crates.txt", encoding="utf-8"):
             if ":" in line and not line.startswith("#"):
                 self.touch(f"crates/{line.split(':')[0].split()[0]}/src/lib.rt", SOURCES)
-        # where the kit is, no rt is to be found
+        # on a machine with the kit, no rt is to be found
         script = open(f"{TOP}/etcs", encoding="utf-8").read().replace("/opt/rattle/bin", "/nowhere")
         self.write("etcs", script)
         for name in TOOLS:
@@ -149,7 +149,7 @@ class Room:
         return os.path.lexists(f"{self.folder}/{path}")
 
     def calls(self):
-        """Returns which stand-ins were called since this was asked last, but for a mere look."""
+        """Returns which stand-ins were called since the last time, except for a mere look."""
         path = f"{self.folder}/calls"
         lines = [it.split() for it in open(path, encoding="utf-8")] if os.path.exists(path) else []
         open(path, "w", encoding="utf-8").close()
@@ -180,21 +180,21 @@ class Room:
             self.faults.append(what)
 
     def check_end(self, words, status, line, **how):
-        """The script ends with this status, no output and this line."""
+        """Checks that the script ends with this status, no output and this line."""
         answer = self.answer(words, **how)
         lines = answer[2].decode().splitlines() or [""]
         self.check(answer[:2] == (status, b"") and lines[-1] == f"etcs: {line}", f"{words}: {answer[0]} {answer[2].decode()}")
 
 
 def without_own(text, script):
-    """Returns a text without the lines that the script adds to the program's help; nothing where they aren't there."""
+    """Returns a text without the lines that the script adds to the program's help; nothing if they aren't there."""
     text, *own = text.decode().rsplit("\n\n", 1)
     names = [it.removeprefix(f"{script} ").split()[0] for it in own[0].splitlines()] if own else []
     return f"{text}\n".encode() if names == ["build", "install", "test"] else b""
 
 
 def check_help(room):
-    """Words that ask for help, the version or nothing are the program's, and where they ask for all commands three lines more."""
+    """Words that ask for help, the version or nothing are answered as by the program, with three lines more where they ask for all commands."""
     asked = [["-V"], ["--version"], ["help", "help"], ["help", "-h"]]
     for command in COMMANDS:
         asked += [[command, "-h"], [command, "--help"], ["help", command]]
@@ -215,7 +215,7 @@ def check_help(room):
 
 
 def check_words(room):
-    """Words that are wrong at the first are answered as by the program, without it; what isn't sure is left to it."""
+    """Words of which the first is wrong are answered as by the program, without it; what isn't sure is left to it."""
     for words in WRONG:
         answer = room.answer(words, tools=["path"])
         room.check(answer == room.answer_of_program(words), f"{words}: not as the program: {answer}")
@@ -244,7 +244,7 @@ def check_age(room):
 
 
 def check_look(room):
-    """A first look builds the unproved program once, and again where a source is newer; it says so, and answers as the program."""
+    """A first look builds the unproved program once, and again if a source is newer; it says so, and answers as the program does."""
     for words, given in ((CHECK, SHORT), (CHECK, b"A0"), (["show"], b""), (["--hlep"], b"")):
         status, output, faults = room.answer_of_program(words, given)
         for lines in (2, 1):
@@ -264,7 +264,7 @@ def check_look(room):
 
 
 def check_same(room):
-    """Where a source is newer and all the same, as tools/unproved.py finds, the unproved program is run at once, and later without it."""
+    """If a source is newer but the same, as tools/unproved.py finds, the unproved program is run at once, and later without asking it."""
     room.touch("crates/etcs/src/lib.rt", time.time() - 10)
     room.copy(room.program, f"{room.folder}/{UNPROVED}")
     os.utime(f"{room.folder}/{UNPROVED}", (1, 1))
@@ -275,7 +275,7 @@ def check_same(room):
 
 
 def check_try(room):
-    """Where no unproved program can be built, `rt try` answers; where the sources are refused nothing does."""
+    """If no unproved program can be built, `rt try` answers; if the sources are refused nothing does."""
     tried = (0, b"tried\n")
     room.check(room.answer(CHECK, tools=("bin", "path"))[:2] == tried, "no python3: no first look")
     room.write("tools/unproved.py", PYTHON + "sys.exit(70)\n")
@@ -345,7 +345,7 @@ def check_faults(room):
 
 
 def wait_for(holds):
-    """Waits until something holds, or the limit is over."""
+    """Waits until something holds, or the time limit is over."""
     end = time.monotonic() + LIMIT
     while not holds() and time.monotonic() < end:
         time.sleep(0.02)
@@ -376,7 +376,7 @@ def check_build(room):
 
 
 def check_ended(room):
-    """A build that is ended, by a signal to it alone or by Ctrl-C, ends what it began and leaves no program; none that comes is taken."""
+    """A build that is ended, by a signal to it alone or by Ctrl-C, ends what it began and leaves no program; one that comes late isn't taken."""
     room.write("tools/build.py", PYTHON + WAITS)
     for number, send in ((signal.SIGTERM, os.kill), (signal.SIGHUP, os.kill), (signal.SIGINT, os.killpg)):
         started = room.start(["build"], start_new_session=True)
@@ -394,7 +394,7 @@ def check_ended(room):
 
 
 def check_two(room):
-    """A second build waits for the first, and finds it done."""
+    """A second build waits for the first, and finds the work done."""
     room.write("tools/build.py", PYTHON + WAITS)
     first = room.start(["build"])
     wait_for(lambda: room.is_there(OUT))
@@ -407,7 +407,7 @@ def check_two(room):
 
 
 def check_unwritable(room):
-    """Where a folder can't be written, that is said before anything begins."""
+    """If a folder can't be written, that is said before anything begins."""
     os.makedirs(f"{room.folder}/crates/etcs/out")
     os.makedirs(f"{room.folder}/kept")
     os.chmod(room.folder, 0o755)
@@ -464,7 +464,7 @@ def check_install(room):
 
 
 def check_piped(room):
-    """Where the names that it writes find no reader, the installation is whole all the same."""
+    """If nothing reads the names that it writes, the installation is whole all the same."""
     read, write = os.pipe()
     os.close(read)
     started = room.start(["install", "dist"], stdout=write)
@@ -476,7 +476,7 @@ def check_piped(room):
 
 
 def check_refused(room):
-    """Where something is in the way of an installation, it is named before anything is proved, and nothing is written."""
+    """If something is in the way of an installation, it is named before anything is proved, and nothing is written."""
     room.write("full/in", "")
     other = "is there, and no installation of this wrote it"
     room.write("taken/bin/etcs", "another's")
@@ -508,7 +508,7 @@ def check_refused(room):
 
 
 def check_no_room(room):
-    """Where the disk is full at any point of an installation, nothing of it is left, and an earlier one is as it was."""
+    """If the disk is full at any point of an installation, nothing of it is left, and an earlier one is as it was."""
     room.build()
     room.answer(["install", "--prefix", "earlier"])
     room.write("earlier/lib/other", "kept")

@@ -1,18 +1,18 @@
 #!/usr/bin/env python3
-"""Says which sentence of the program no vector has.
+"""Finds the sentences of the program that no vector has.
 
     tools/sentences.py [--list] PROGRAM [WORD ..]
 
-PROGRAM is `etcs`; the WORDs go before those of each vector, as of tools/vectors.py. The sentences are the string literals of
-crates/etcs_reasons, crates/etcs_explain and crates/etcs_log that have a word and no markup: what `explain` and `log` say, but
-for a few exceptions that have their reason below. The vectors of
-crates/etcs_vectors/stdin that run these commands are answered once. Then of each sentence a word is changed in what the program
-wrote, wherever its fixed words are; what is between them, as a number, may be any text of a line. Words that are part of a
-longer sentence at this place are that one's alone.
+PROGRAM is `etcs`; the WORDs go before those of each vector, as for tools/vectors.py. The sentences are the string literals of
+crates/etcs_reasons, crates/etcs_explain and crates/etcs_log that have a word and no markup: what `explain` and `log` say, except
+for a few that are listed below, each with the reason. The vectors of crates/etcs_vectors/stdin that run these commands are
+answered once. Then a word of each sentence is changed in what the program wrote, wherever the sentence's fixed words are; what is
+between them, such as a number, may be any text of a line. Words that are part of a longer sentence in this place belong to that
+one alone.
 
-Each change that leaves all answers as they were expected is written, with the place of its sentence; with --list the first
-vector that notices each of the others, too. The last line counts. The status is 0 where each change is noticed, 1 where one
-isn't or a vector is answered otherwise, 2 where the words are wrong or the program can't be run.
+Each change that leaves all answers as expected is written, with the place of its sentence; with --list, also the first
+vector that notices each of the other changes. The last line has the counts. The status is 0 if each change is noticed, 1 if one
+isn't or a vector is answered otherwise, and 2 if the words are wrong or the program can't be run.
 """
 
 import os
@@ -72,7 +72,7 @@ Found = namedtuple("Found", "sentence spans")
 
 
 def unescaped(text):
-    """Returns what a literal says."""
+    """Returns the text of a literal."""
 
     def one(found):
         code, byte, _, plain = found.groups()
@@ -122,14 +122,14 @@ def own(found):
 
 
 def changed(text, found):
-    """Returns a text in which a word of a sentence is another."""
+    """Returns a text in which a word of a sentence is changed."""
     spans = [(start + it.start(), start + it.end()) for start, end in found.spans for it in WORD.finditer(text[start:end])]
     start, end = max(spans, key=lambda it: it[1] - it[0])
     return text[:start] + text[start:end].swapcase() + text[end:]
 
 
 def check(program, sheet, jobs, is_listed):
-    """Says which changes aren't noticed: whether there are none, and each vector is answered as expected."""
+    """Says which changes aren't noticed; returns whether there are none, and each vector is answered as expected."""
     asked = [it for it in vectors.vectors_of(sheet) if it[1] in ("program", "bytes") and it[2].split(" ")[1] in COMMANDS]
     patterns = {it: pattern_of(it) for it in sentences()}
     noticed, wrong = {}, 0

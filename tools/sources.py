@@ -1,4 +1,4 @@
-"""What the sources say of variables, packets, messages and crates, as values for other tools."""
+"""What the sources say about variables, packets, messages and crates, as values for other tools."""
 
 import os
 import re
@@ -46,7 +46,7 @@ def found_one(pattern, text, what):
 
 
 def code_variables():
-    """Yields group, variable, name, width and ranges of each line of the table in the code."""
+    """Yields the group, variable, name, width and ranges of each line of the table in the code."""
     table = found_one(r"variables! \{ \$of:\n(.*?)\n        \}", source("etcs_vars/src/tables.rt"), "the table")[1]
     group = ""
     for line in table.split("\n"):
@@ -60,7 +60,7 @@ def code_variables():
 
 
 def spec_variables():
-    """Yields variable, name, width and ranges of each line of the table in the definitions."""
+    """Yields the variable, name, width and ranges of each line of the table in the definitions."""
     line = re.compile(r'^variable Var\.(\w+) = (?:all "(\w+)" (\d+)|only "(\w+)" (\d+) \((.*)\))$', re.M)
     for var, name, width, only, only_width, ranges in line.findall(source("etcs_vars/specs/Vars.antt")):
         pairs = [(int(low), int(high)) for low, high in re.findall(r"\((\d+), (\d+)\)", ranges)]
@@ -159,7 +159,7 @@ def lengths(items, known=()):
 
 @lru_cache(maxsize=None)
 def lengths_of(items, known):
-    """The same, where all that is known is asked for."""
+    """The same, if all that is known is asked for."""
     if not items:
         return 1
     item, rest = items[0], items[1:]
@@ -299,7 +299,7 @@ def number_texts():
 
 
 def with_all(typed, found, what):
-    """Returns the names, among which those of all that is typed have to be."""
+    """Returns the names, which have to include those of all that is typed."""
     if missing := sorted(set(typed) - set(found)):
         raise LookupError(f"crates/etcs_reasons/src/names.rt has no name of {what} {missing[0]}")
     return found

@@ -4,9 +4,9 @@
     tools/stream_test.py PROGRAM
 
 PROGRAM is the built `etcs`. It is run over outputs of little room, inputs that can't be read, a million items and more,
-lines that are long, JSON that is deep or no UTF-8, logs that are no UTF-8, and with few addresses; its own JSON has to be
+long lines, JSON that is deeply nested or not UTF-8, logs that aren't UTF-8, and with few addresses; its own JSON has to be
 read far sooner than the same with a blank; and pages have their words. Expected answers come from docs/FORMAT.md and from
-counting. Each answer that isn't as expected is written; the last line says how many there were. The status is 1 where one
+counting. Each answer that isn't as expected is written; the last line says how many there were. The status is 1 if one
 differs.
 """
 
@@ -75,7 +75,7 @@ AROUND = (b" \t\r \t",)
 NOT_AROUND = (b"\xef\xbb\xbf", b"\xff", b"\x80", b"\x00", b"\x0b", b"\x0c", b"\xc2\xa0")
 
 
-# bytes that aren't UTF-8, and how many characters U+FFFD each are: one for what begins a character, else one a byte
+# bytes that aren't UTF-8, and how many characters U+FFFD they become: one for what begins a character, else one for each byte
 NO_UTF8 = (
     (b"\xff", 1),
     (b"\xff\xfe", 2),
@@ -123,7 +123,7 @@ def shortened(answer):
 
 
 def check_writes(program):
-    """An output with room for n bytes has the first n, and the fault says so."""
+    """Checks that an output with room for n bytes has the first n, and that the fault says so."""
     for words, text in (("check --kind radio", CHECKED), ("convert --kind radio --to json", TO_JSON)):
         for room in range(len(text)):
             with tempfile.TemporaryFile() as output:
@@ -169,7 +169,7 @@ def check_millions(program):
 
 
 def check_json(program, text, line, items, is_read):
-    """Checks that all lines of a text are items, or that this line is the first that is none."""
+    """Checks that all lines of a text are items, or that this line is the first that isn't."""
     status, output, faults = program.call("check --kind radio --from json", text)
     good = items if is_read else line - 1
     wanted = b"".join(b"item %d ok 24 bits\n" % (n + 1) for n in range(good))
@@ -222,7 +222,7 @@ def check_long_lines(program):
 
 
 def check_fronts(program):
-    """What isn't UTF-8 before the digits of a line is U+FFFD in JSON, and the rest is as it is."""
+    """What isn't UTF-8 before the digits of a line is written as U+FFFD in JSON, and the rest as it is."""
     for it, count in NO_UTF8:
         front = "caf\u00e9 ".encode()
         wanted = b'{"line":1,"front":"' + front + "\ufffd".encode() * count + b'","item":' + KEPT + b"}\n"
@@ -231,7 +231,7 @@ def check_fronts(program):
 
 
 def check_pages(program):
-    """A page has its words, and nothing of the input raw."""
+    """A page has its words, and no part of the input raw."""
     for words, given, said in PAGES:
         page = program.call(f"explain --to html {words}", given)[1].decode()
         program.check(f"a page of {given[:30]}", [it for it in (*said, "</script>") if it not in page], [])
@@ -256,7 +256,7 @@ def check_endless_line(program):
 
 
 def seconds(program, words, given):
-    """Returns the status of a command line, and its seconds of processor."""
+    """Returns the status of a command line, and its seconds of processor time."""
     with tempfile.TemporaryFile() as source:
         source.write(given)
         source.seek(0)

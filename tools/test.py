@@ -3,19 +3,19 @@
 
     tools/test.py RT [PART ..]
 
-RT is the path of `rt`. What the parts ask is built first, without a proof, where it isn't there or a source changed
-(tools/unproved.py): in about a minute and a half on 4 cores. Then the parts run side by side, all of them or those named:
+RT is the path of `rt`. The programs that the parts run are built first, without a proof, if they are missing or a source
+changed (tools/unproved.py): in about a minute and a half on 4 cores. Then all parts, or those named, run in parallel:
 
     vectors      every vector, by `etcs_vectors`, and how many there are of each kind
     commands     the vectors that a command line can answer, by `etcs` (tools/vectors.py)
-    stack        the same with 64 KB of stack, or 160 where the program is unproved, since its functions are inlined otherwise
+    stack        the same with 64 KB of stack, or 160 if the program is unproved, since its functions are inlined otherwise
     sentences    whether each sentence of `explain` and `log` is in a vector (tools/sentences.py)
     schema       docs/etcs.schema.json against the tables, the vectors and what the program writes (tools/schema.py)
     documents    the commands and the quoted files of all documents (tools/doc_examples.py)
     script       the script `etcs` (tools/script_test.py)
     streams      streams that fail or have no end (tools/stream_test.py)
-    chance       inputs by chance, for 10 seconds (tools/fuzz.py)
-    found        whether they find out programs that are wrong (tools/fuzz_test.py)
+    chance       random inputs, for 10 seconds (tools/fuzz.py)
+    found        whether these find programs that are wrong (tools/fuzz_test.py)
     tests        the tests of the crates whose names end with `_tests`
     definitions  docs/READ-TO-BELIEVE.md against the definitions (tools/definitions.py)
     hidden       whether that finds a definition that the page hides (tools/definitions_test.py)
@@ -28,11 +28,11 @@ RT is the path of `rt`. What the parts ask is built first, without a proof, wher
     edits        whether each wrong body can be applied (tools/wrong_bodies.py)
     dead         definitions, lemmas and inner items that nothing uses (tools/dead.py)
 
-Where `./etcs build` has built the program and no source is newer, the parts that ask `etcs` ask the proved program too. A line
-says of each part whether it passed, which program it asked, and what it counted; after a part that failed is what it wrote. What
-needs a tool that isn't installed is skipped. The last line is `N passed, N failed`, with `, N skipped` where something was.
+If `./etcs build` has built the program and no source is newer, the parts that run `etcs` run the proved program too. A line
+for each part says whether it passed, which program it ran, and what it counted; if it failed, what it wrote follows. What
+needs a tool that isn't installed is skipped. The last line is `N passed, N failed`, with `, N skipped` if something was.
 
-The status is 0 where all passed, 1 where a part failed or the sources are refused, and 70 where nothing could be tested.
+The status is 0 if all passed, 1 if a part failed or the sources are refused, and 70 if nothing could be tested.
 """
 
 import os
@@ -54,7 +54,7 @@ from unproved import PROGRAM, REFUSED, UNBUILT, NotBuilt, folder_of, kit_of, loc
 
 PASSED, FAILED, SKIPPED = "passed", "FAILED", "skipped"
 LIMIT = 600  # seconds for a part
-LINES = 40  # that are written of a part that failed
+LINES = 40  # that are written for a part that failed
 BUILD_MEMORY = 2_000_000_000  # that the front end takes
 FREE_SPACE = 16_000_000  # that temporary files of the parts take at most
 STACKS = {"unproved": 160, "proved": 64}  # in KB
@@ -85,7 +85,7 @@ SCRIPTS = {
 ASKED = {**PROGRAM_SCRIPTS, **SCRIPTS}
 PARTS = [*PROGRAM_SCRIPTS, "vectors", "tests", *SCRIPTS]
 
-# As many parts run at a time as there are cores, so that none is so slow that a call in it is given up.
+# As many parts run at a time as there are cores, so that none is so slow that a call in it times out.
 PLACES = threading.Semaphore(len(os.sched_getaffinity(0)))
 
 # Something that is run: what its line says, the target that has to be built before it, and a call that answers whether it
@@ -154,7 +154,7 @@ def is_proved(program):
 
 
 def words_of(part, how):
-    """Returns the words of a part that asks the program, before its path."""
+    """Returns the words of a part that runs the program, before its path."""
     return [*PROGRAM_SCRIPTS[part], str(STACKS[how])] if part == "stack" else PROGRAM_SCRIPTS[part]
 
 
@@ -188,7 +188,7 @@ class Report:
         print(f"{how}  {what}", flush=True)
 
     def say_ended(self, label, is_well, said, seconds):
-        """Says whether a part passed, and the last line that it wrote; of one that failed the first lines too."""
+        """Says whether a part passed, and the last line that it wrote; if it failed, the first lines too."""
         *lines, last = said.strip().split("\n")
         for line in [it for it in lines if it.startswith("skipped: ")]:
             self.say(SKIPPED, f"{label}: {line.removeprefix('skipped: ')}")
@@ -208,7 +208,7 @@ class Report:
 
 
 def ended(job, built):
-    """Runs a job once its target is built, and returns whether it passed, what it wrote, and its seconds; none where that isn't built."""
+    """Runs a job once its target is built, and returns whether it passed, what it wrote, and its seconds; none if that isn't built."""
     if job.target and built[job.target.names[0]].exception():
         return None
     with PLACES:
@@ -223,7 +223,7 @@ def ended(job, built):
 
 
 def run_all(rt, jobs, report):
-    """Builds what the jobs need and runs them, as many builds side by side as there is memory for."""
+    """Builds what the jobs need and runs them, with as many builds in parallel as there is memory for."""
     targets = {it.target.names[0]: it.target for it in jobs if it.target}
     fits = sys.modules["rtlib"].fits
     builders = ThreadPoolExecutor(max(it for it in range(1, len(targets) + 2) if it == 1 or fits(*[BUILD_MEMORY] * it)))
@@ -246,7 +246,7 @@ def run_all(rt, jobs, report):
 
 
 def say_built(run, target, report):
-    """Says that the sources of a target are refused; ends where it isn't built for another reason."""
+    """Says that the sources of a target are refused; ends the run if it isn't built for another reason."""
     try:
         run.result()
     except NotBuilt as error:
@@ -256,7 +256,7 @@ def say_built(run, target, report):
 
 
 def check_space():
-    """Stops where there is no room for temporary files."""
+    """Stops if there is no room for temporary files."""
     try:
         with tempfile.TemporaryFile() as file:
             file.write(bytes(FREE_SPACE))
@@ -272,7 +272,7 @@ def test(rt, parts):
     resource.setrlimit(resource.RLIMIT_CORE, (0, 0))
     report = Report()
     with locked(PROGRAM, "test", "tests") as lock, room_noted(lock) as room:
-        # what the parts leave there where they are ended goes with it
+        # what the parts leave there when they are ended is removed with it
         os.environ["TMPDIR"] = room
         run_all(rt, [it for part in parts for it in jobs_of(rt, part)], report)
     return report.end()

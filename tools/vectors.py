@@ -6,11 +6,10 @@
 PROGRAM is `etcs`, or another codec with its command line; the WORDs go before those of each vector, as
 in `tools/vectors.py python3 my_wrapper.py`. The vectors are those of crates/etcs_vectors/stdin, and two
 of a kind `padded`, whose lines are too long for that file; docs/VECTORS.md has their form. Kinds that
-speak of the library's calls alone are passed over. Each vector that isn't answered as expected is
-written with what was answered, and at the end how many there were of each kind. A call has N seconds,
-60 where nothing is said, and N jobs make calls side by side, one for each core where nothing is said.
-The status is 0 where none differs, 1 where one does, and 2 where the words here are wrong or the program
-can't be run.
+are only about the library's calls are passed over. Each vector that isn't answered as expected is
+written with what was answered, and at the end how many there were of each kind. A call has N seconds
+(60), and N jobs make calls in parallel, by default one for each core. The status is 0 if none differs,
+1 if one does, and 2 if the words here are wrong or the program can't be run.
 """
 
 import os
@@ -75,7 +74,7 @@ def number(count):
 
 
 def after_lf(text):
-    """A text after a LF, without the LF at its end; of nothing nothing."""
+    """A text after a LF, without the LF at its end; nothing if there is no text."""
     return b"\n" + text.removesuffix(b"\n") if text else b""
 
 
@@ -85,7 +84,7 @@ def whole(status, output, faults):
 
 
 def shown(program, kind, given):
-    """What is said of the bytes of one item: its text, what is refused, or that more are wanted."""
+    """What is said about the bytes of one item: its text, what is refused, or that more are wanted."""
     status, output, faults = program.run(["show", "--kind", kind], given.hex().upper().encode())
     if status == 0 and not faults:
         return output.removesuffix(b"\n") if given else b"wants more" + after_lf(output)
@@ -126,7 +125,7 @@ def answer_turned(program, _, words):
 
 
 def said_turned(program, kind, given):
-    """What is said of turned bytes; nothing where they are an item."""
+    """What is said about turned bytes; nothing if they are an item."""
     _, output, _ = program.run(["check", "--kind", kind], given.hex().upper().encode())
     found = OK_LINE.match(output)
     if not found:
@@ -180,7 +179,7 @@ def shape(text):
 
 
 def answer_status(program, _, words):
-    """`status LINE`: what a command line over an empty input answers; nothing of one without words."""
+    """`status LINE`: what a command line over an empty input answers; nothing for one without words."""
     if not words:
         return None
     status, output, faults = program.run(words.split(" ")[1:], b"")
@@ -234,7 +233,7 @@ ANSWERS = {
 
 
 def answer(program, vector):
-    """Returns what the program answers to a vector; nothing where no command line can answer it."""
+    """Returns what the program answers to a vector; nothing if no command line can answer it."""
     _, kind, words, _ = vector
     try:
         return ANSWERS[kind](program, kind, words)
@@ -243,7 +242,7 @@ def answer(program, vector):
 
 
 def check(program, vectors, kinds, jobs):
-    """Writes each vector that differs, and the counts: whether none differs."""
+    """Writes each vector that differs, and the counts; returns whether none differs."""
     counts = dict.fromkeys(kinds, 0)
     wrong = 0
     with ThreadPoolExecutor(jobs) as pool:

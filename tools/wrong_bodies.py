@@ -4,17 +4,17 @@
     tools/wrong_bodies.py [NAME | NAME/EDIT | PATH.edit ..]
     tools/wrong_bodies.py --check
 
-They are edits as those of must-fail/, which the gate tries: further ones of a function, and those of inner functions. A
-crate's are in one file, in blocks with an empty line between two of them. A block begins with a line `edit: EDIT`; its
+They are edits like those of must-fail/, which the gate tries: further ones of a function, and those of inner functions. A
+crate's are in one file, in blocks with an empty line between them. A block begins with a line `edit: EDIT`; its
 lines `file:`, `old:` and `new:` are those of an edit in must-fail/.
 
-Run this over a crate whose code or contracts changed. NAME is a crate, all where nothing is given; NAME/EDIT is one of its
-edits, also of those in must-fail/, and PATH.edit is the file of one of these. The crate must be proved (`rt check`), here
+Run this over a crate whose code or contracts changed. NAME is a crate, by default each of them; NAME/EDIT is one of its
+edits, which may be in must-fail/, and PATH.edit is the file of one of those. The crate must be proved (`rt check`), here
 or in another checkout: each edit is tried over what that check kept. Each line says how an edit fared, as `rt must-fail`
-says it; the status is 0 where the prover refused all of them.
+says it; the status is 0 if the prover refused all of them.
 
-With --check nothing is proved: the status is 0 where each edit can be applied, those in must-fail/ too, and no two of a
-crate have one name.
+With --check nothing is proved: the status is 0 if each edit can be applied, those in must-fail/ too, and no two of a
+crate have the same name.
 """
 
 import os
@@ -143,7 +143,7 @@ def is_ready(rt, crate):
 
 
 def name_of(path, crate):
-    """Returns what an edit of must-fail/ is asked for by."""
+    """Returns the word by which an edit of must-fail/ is asked for."""
     return f"{crate.name}/{os.path.basename(path).removesuffix('.edit')}"
 
 

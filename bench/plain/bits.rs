@@ -4,7 +4,7 @@ use crate::values::*;
 use crate::variables::*;
 
 /// Bits of bytes, and how many were read. There are bytes after an item too, so a run may reach past its end;
-/// whether what was taken lies inside is asked at the end of each packet and of the item.
+/// whether what was taken lies inside is checked at the end of each packet and of the item.
 struct Bits<'a> {
     bytes: &'a [u8],
     at: usize,

@@ -19,7 +19,7 @@ const fn digit_values() -> [u8; 256] {
     values
 }
 
-/// The most bytes of a line of digits.
+/// The largest number of bytes in a line of digits.
 const LINE: usize = 2048;
 /// What may be read after an item.
 const SLACK: usize = 64;
@@ -53,7 +53,7 @@ pub struct Input {
     bytes: Vec<u8>,
     start: usize,
     end: usize,
-    /// Lines of digits that were read, of which `text_len` bytes are there.
+    /// Lines of digits that were read: `text_len` bytes of them.
     text: Vec<u8>,
     text_len: usize,
     /// How many bytes of a line of digits that isn't ended yet are after `end`.
@@ -89,7 +89,7 @@ impl Input {
         })
     }
 
-    /// What the next line of JSON says. One that isn't whole may be taken together with bytes that were there before.
+    /// What the next line of JSON says. A line that isn't whole may be read together with bytes that were there before.
     #[inline(always)]
     pub fn next_of_lines(&mut self, kind: Kind) -> io::Result<Next> {
         self.next(|input| match json::item(&input.bytes[input.start..], kind) {
@@ -101,7 +101,7 @@ impl Input {
         })
     }
 
-    /// What is answered of the bytes that are there, as soon as they are enough.
+    /// What is answered to the bytes that are there, as soon as they are enough.
     #[inline(always)]
     fn next(&mut self, answer: impl Fn(&mut Input) -> Option<Next>) -> io::Result<Next> {
         loop {
@@ -148,7 +148,7 @@ impl Input {
         }
     }
 
-    /// Decodes the pairs of digits that are there, for which there is always room. Of a bad line no byte counts.
+    /// Decodes the pairs of digits that are there, for which there is always room. No byte of a bad line counts.
     fn decode(&mut self) {
         let text = &self.text[..self.text_len];
         let mut at = 0;

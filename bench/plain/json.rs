@@ -1,4 +1,4 @@
-//! Items that are read from lines of JSON: from such lines alone as the program writes.
+//! Items that are read from lines of JSON, and only from lines such as the program writes.
 
 use crate::input::DIGITS;
 use crate::values::*;
@@ -20,14 +20,14 @@ struct Pairs<'a> {
     separator: u8,
 }
 
-/// The pairs of a list of which `end` bytes of text come after, or the bits of a packet that is kept.
+/// The pairs of a list, after which `end` bytes of text come, or the bits of a packet that is kept.
 struct Fields<'a> {
     pairs: Pairs<'a>,
     end: usize,
     data: Option<Kept>,
 }
 
-/// The most bytes of a pair with what is after it, of which there are always as many.
+/// The most bytes of a pair with what is after it; there are always that many bytes.
 type Next = [u8; 64];
 
 /// The bits that a packet has besides what is in its pairs or data, to the train and to the track, and a message.
@@ -55,7 +55,7 @@ fn number_of<V: Variable>(text: &[u8]) -> Option<(u64, usize)> {
     let digit_at = |at: usize| Some(text[at].wrapping_sub(b'0')).filter(|digit| *digit < 10);
     let mut number = u64::from(digit_at(0)?);
     let mut len = 1;
-    // a digit after a zero isn't taken, and nothing else that may come next is a digit
+    // a digit after a zero isn't taken; nothing else that may come next is a digit
     if number > 0 {
         while len < const { most_digits(V::WIDTH) } {
             let Some(digit) = digit_at(len) else { break };
@@ -96,7 +96,7 @@ impl<'a> Pairs<'a> {
         }
     }
 
-    /// What comes after the list, where all of them were taken.
+    /// What comes after the list, if all of them were taken.
     #[inline(always)]
     fn after(&self) -> Option<&'a [u8]> {
         (self.separator == b']').then_some(self.text)
@@ -104,7 +104,7 @@ impl<'a> Pairs<'a> {
 }
 
 impl<'a> Fields<'a> {
-    /// How many bits all the pairs have that were taken; none where there is something else.
+    /// How many bits all the pairs that were taken have; none if there is something else.
     #[inline(always)]
     fn bits(&self) -> Option<usize> {
         (self.pairs.after()?.len() == self.end && self.data.is_none()).then_some(self.pairs.bits)
@@ -164,7 +164,7 @@ impl<'a> Source for Fields<'a> {
 
 // ---- Digits and lists.
 
-/// The bits of eight binary digits, and zero where they are such.
+/// The bits of eight binary digits, and zero if they are such digits.
 #[inline(always)]
 fn bits_of(digits: &[u8]) -> (u64, u64) {
     let digits = u64::from_le_bytes(digits.try_into().unwrap());
@@ -172,13 +172,13 @@ fn bits_of(digits: &[u8]) -> (u64, u64) {
     (bits, digits & 0xFEFE_FEFE_FEFE_FEFE ^ 0x3030_3030_3030_3030)
 }
 
-/// What comes after the pairs of a list: up to there no two brackets that close are together.
+/// What comes after the pairs of a list: up to there no two closing brackets are next to each other.
 #[inline(always)]
 fn after_pairs(text: &[u8]) -> Option<&[u8]> {
     let mut at = 0;
     while let Some(chunk) = text.get(at..at + 17) {
         let chunk = chunk.as_ptr();
-        // SAFETY: from here and from the next byte on 16 are there
+        // SAFETY: from here on, and from the next byte on, there are 16 bytes
         let (these, next) = unsafe { (_mm_loadu_si128(chunk.cast()), _mm_loadu_si128(chunk.add(1).cast())) };
         // SAFETY: every x86-64 has SSE2
         let found = unsafe {
@@ -396,7 +396,7 @@ impl<'a> Line<'a> {
     }
 }
 
-/// The item of the line that the text begins with, and how many bytes the line has. There are some more after it.
+/// The item of the line that the text begins with, and how many bytes the line has. There are some more bytes after it.
 #[inline(always)]
 pub fn item(text: &[u8], kind: Kind) -> Option<(Item, usize)> {
     let mut line = Line { text, bits: 0 };

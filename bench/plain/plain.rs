@@ -3,9 +3,9 @@
 //!     plain check|show|convert --kind short|long|radio|train [--from bin|hex|json] [--to bin|hex|json]
 //!
 //! It decodes each item of standard input to values of its own, checks all that the language demands, and
-//! writes of the values what the program writes. Where the input is refused it says `refused`, and stops:
-//! it names no bit and no variable. A packet and a message keep the length that was read beside the rest. Of
-//! JSON it accepts only lines that are as the program writes them.
+//! writes from the values what the program writes. If the input is refused it says `refused`, and stops:
+//! it names no bit and no variable. A packet and a message keep the length that was read besides the rest. It
+//! accepts only lines of JSON that are as the program writes them.
 
 mod bits;
 mod input;
@@ -46,7 +46,7 @@ impl Item {
         }
     }
 
-    /// Writes what the command says of the item of this number.
+    /// Writes what the command says about the item of this number.
     fn write(&self, command: Command, kind: Kind, number: u64, text: &mut Text, spelled: &mut Text) {
         match command {
             Command::Check => text.push_accepted(number, self.bits(kind)),
@@ -73,7 +73,7 @@ impl Item {
     }
 }
 
-/// Writes what the command says of each item that comes, and answers whether all of the input was accepted.
+/// Writes what the command says about each item that comes, and returns whether all of the input was accepted.
 fn run(command: Command, kind: Kind, mut next: impl FnMut() -> io::Result<Next>) -> io::Result<bool> {
     let mut text = Text::new();
     let mut spelled = Text::new();

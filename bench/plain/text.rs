@@ -1,4 +1,4 @@
-//! What is written of values.
+//! What is written for values.
 
 use crate::values::*;
 use crate::variables::*;
@@ -10,7 +10,7 @@ pub struct Text {
     pub len: usize,
 }
 
-/// How much is kept before it is written, and the most that one item takes: of 8,184 bits each is at most
+/// How much is kept before it is written, and the most that one item takes: each of its 8,184 bits is at most
 /// the line of a variable.
 pub const KEPT: usize = 1 << 16;
 pub const MOST: usize = 1 << 19;
@@ -42,7 +42,7 @@ pub const fn binary_digits() -> [[u8; 8]; 256] {
     digits
 }
 
-/// Writes a number below 10,000 at the front of `place`, and answers how many digits it has.
+/// Writes a number below 10,000 at the front of `place`, and returns how many digits it has.
 #[inline(always)]
 pub fn write_short(number: u64, place: &mut [u8]) -> usize {
     let digits = 1 + usize::from(number > 9) + usize::from(number > 99) + usize::from(number > 999);
@@ -149,7 +149,7 @@ impl Text {
         self.len += 2 * bytes.len();
     }
 
-    /// Ends a list of JSON, of which each item has its comma.
+    /// Ends a list of JSON, each item of which has its comma.
     #[inline(always)]
     pub fn end_list(&mut self) {
         if self.bytes[self.len - 1] == b',' {
@@ -414,7 +414,7 @@ impl Spelling<'_> {
         self.word = word;
     }
 
-    /// Writes the bytes that are whole; there is a bit.
+    /// Writes the bytes that are whole; there is at least one bit.
     #[inline(always)]
     pub fn write_bytes(&mut self) {
         let word = self.word << (64 - self.taken);

@@ -1,4 +1,4 @@
-//! What items are made of, and how that is taken from a source and sent to a sink.
+//! What items are made of, and how that is read from a source and sent to a sink.
 
 use crate::variables::*;
 
@@ -9,16 +9,16 @@ pub trait Source: Sized {
     /// The next variables, of 57 bits at most.
     fn run(&self) -> Option<Self::Run>;
 
-    /// Passes over those that a run has taken.
+    /// Passes over the variables that a run has taken.
     fn pass(&mut self, run: Self::Run);
 
     /// The number of NID_RADIO, which is longer than a run.
     fn radio(&mut self) -> Option<u64>;
 
-    /// As many numbers of X_TEXT.
+    /// This many numbers of X_TEXT.
     fn text(&mut self, len: usize) -> Option<Vec<u8>>;
 
-    /// The bits of a packet that is kept, as many as are left of it where its length is known.
+    /// The bits of a packet that is kept, as many as are left of it if its length is known.
     fn kept(&mut self, len: usize) -> Option<Kept>;
 
     /// One number by itself.
@@ -30,7 +30,7 @@ pub trait Source: Sized {
         Some(number)
     }
 
-    /// As many things one after another.
+    /// This many things one after another.
     #[inline(always)]
     fn list<P: Part>(&mut self, count: usize) -> Option<Vec<P>> {
         let mut list = Vec::with_capacity(count);
@@ -40,7 +40,7 @@ pub trait Source: Sized {
         Some(list)
     }
 
-    /// A thing, a count, and as many further ones.
+    /// A thing, a count, and that many further ones.
     #[inline(always)]
     fn chain<P: Part>(&mut self) -> Option<Vec<P>> {
         let first = P::read(self)?;
@@ -58,7 +58,7 @@ pub trait Source: Sized {
 pub trait Run {
     fn take<V: Variable, N: Number>(&mut self, variable: V) -> Option<N>;
 
-    /// What follows a flag where it is 1.
+    /// What follows a flag if it is 1.
     #[inline(always)]
     fn when<V: Variable, T>(&mut self, flag: V, group: impl FnOnce(&mut Self) -> Option<T>) -> Option<Option<T>> {
         if self.take(flag)? {
@@ -160,7 +160,7 @@ impl HeaderNumbers {
     }
 }
 
-/// A balise group, with its country or region where that is another.
+/// A balise group, with its country or region if that differs.
 pub struct Group {
     nid_c: Option<u16>,
     nid_bg: u16,
@@ -397,7 +397,7 @@ impl Part for Authority {
     }
 }
 
-/// A level, with the national system where it is 1, else with 0.
+/// A level, with the national system if it is 1, else with 0.
 #[derive(Clone, Copy)]
 pub struct Level {
     level: u8,
@@ -497,7 +497,7 @@ pub struct Confirmation {
     report: Option<(u8, u16, u16)>,
 }
 
-/// All of a text but what it says.
+/// All of a text except what it says.
 pub struct TextFrame {
     q_scale: u8,
     q_textclass: u8,
@@ -732,7 +732,7 @@ pub enum Body {
 }
 
 impl Body {
-    /// What a packet of this number says, of which `rest` bits come where it is kept.
+    /// What a packet of this number says; if it is kept, `rest` bits come.
     pub fn read(source: &mut impl Source, way: Way, nid: u8, rest: usize) -> Option<Body> {
         if way == Way::ToTrack {
             return Some(match nid {
@@ -934,7 +934,7 @@ impl Kind {
         }
     }
 
-    /// The bytes of an item that begins so; more than are there where that isn't known yet.
+    /// The number of bytes of an item that begins so; more than are there if that isn't known yet.
     #[inline(always)]
     pub fn bytes(self, item: &[u8]) -> usize {
         match self {
@@ -965,7 +965,7 @@ pub enum Head {
     ToTrack { nid_engine: u32 },
 }
 
-/// The variables of a message's own.
+/// The variables that are a message's own.
 pub enum Own {
     Nothing,
     SrAuthorisation(u8, u16),

@@ -1,6 +1,6 @@
-//! Variables, and what is known of them.
+//! Variables, and what is known about them.
 
-/// What is known of a variable at compile time.
+/// What is known about a variable at compile time.
 pub trait Variable: Copy {
     /// How many bits it takes.
     const WIDTH: u32;
@@ -39,7 +39,7 @@ impl Label {
     }
 }
 
-/// Variables with their widths, the numbers that they admit where not all, and texts of numbers.
+/// Variables with their widths, the numbers that they admit if not all, and texts of numbers.
 macro_rules! variables {
     ($($name:ident $width:literal $(($admitted:pat))? $($number:literal $text:literal)*;)*) => { $(
         #[allow(non_camel_case_types)]

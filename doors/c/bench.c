@@ -1,4 +1,4 @@
-/* bench CALL KIND FILE COUNT: nanoseconds of processor an item, over all items of the file COUNT times.
+/* bench CALL KIND FILE COUNT: nanoseconds of processor time for each item, over all items of the file COUNT times.
  * CALL is check, show, to_json, from_json, fields, pack (fields and from_fields), explain or before (of telegrams
  * whose last bit is turned, which is refused), or a number: the reader, fed pieces of that many bytes. */
 #include "etcs_help.h"

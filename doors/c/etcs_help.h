@@ -1,6 +1,6 @@
-/* What callers of etcs.h want besides, in C: statuses in words, look-up of variables, a reader of pieces.
+/* Helpers for callers of etcs.h, in C: statuses in words, look-up of variables, a reader of pieces.
  *
- * It is compiled into the caller, and it isn't proved: what it answers comes from the proved calls.
+ * They are compiled into the caller, and they aren't proved: what they answer comes from the proved calls.
  */
 #ifndef ETCS_HELP_H
 #define ETCS_HELP_H
@@ -35,7 +35,7 @@ static inline const char *etcs_status_text(etcs_status status)
     }
 }
 
-/* The place of the first of these fields from `from` on that is var; count where there is none. */
+/* The place of the first of these fields, from place `from` on, that is var; count if there is none. */
 static inline size_t etcs_find(const etcs_field *fields, size_t count, uint32_t var, size_t from)
 {
     while (from < count && fields[from].var != var)
@@ -43,7 +43,7 @@ static inline size_t etcs_find(const etcs_field *fields, size_t count, uint32_t 
     return from < count ? from : count;
 }
 
-/* The bit where the field at a place begins, from 0; of place count how many bits there are. */
+/* The bit where the field at a place begins, from 0; for place count, how many bits there are. */
 static inline size_t etcs_bit_of(const etcs_field *fields, size_t place)
 {
     size_t bits = 0;
@@ -53,8 +53,8 @@ static inline size_t etcs_bit_of(const etcs_field *fields, size_t place)
 }
 
 /* A reader of items from pieces of any length. It refuses in the piece that brings the first bit after which no item
- * continues. It keeps the bytes of the item that isn't whole and tries them again with each piece: feed pieces of some
- * bytes, and not single bytes, where time counts. One thread at a time.
+ * continues. It keeps the bytes of the item that isn't whole and tries them again with each piece: feed pieces of several
+ * bytes, not single bytes, where time counts. Only one thread at a time may use it.
  *
  *     etcs_reader reader;
  *     etcs_reader_start(&reader, ETCS_RADIO);
@@ -69,9 +69,9 @@ static inline size_t etcs_bit_of(const etcs_field *fields, size_t place)
  */
 typedef struct etcs_reader {
     etcs_kind kind;
-    etcs_status status;    /* ETCS_MORE, or how it failed */
+    etcs_status status;    /* ETCS_MORE, or the status with which it failed */
     size_t len;            /* how many bytes it keeps of an item that isn't whole, or that is refused */
-    etcs_answer failed;    /* what it answered where it failed */
+    etcs_answer failed;    /* what it answered when it failed */
     uint8_t bytes[ETCS_MOST_BYTES];
 } etcs_reader;
 
@@ -82,7 +82,7 @@ static inline void etcs_reader_start(etcs_reader *reader, etcs_kind kind)
     reader->status = ETCS_MORE;
 }
 
-/* Takes bytes up to the end of an item or of the piece; used says how many. A refused bit counts from the item's first. */
+/* Takes bytes up to the end of an item or of the piece; used says how many. A refused bit is counted from the item's first. */
 static inline etcs_status etcs_reader_feed(etcs_reader *reader, const uint8_t *piece, size_t len, size_t *used,
                                            etcs_answer *answer)
 {

@@ -1,4 +1,4 @@
-/* A small `etcs` over the header, with the command line of the program as far as it goes:
+/* A small `etcs` over the header, with a part of the program's command line:
  *
  *     example show|check --kind long|short|radio|train < digits
  *     example convert --kind .. --to json < digits

@@ -1,9 +1,9 @@
-/* What no contract says, tried from C. It says "all is well" or what isn't.
+/* Tests what no contract says, from C. It says "all is well", or what isn't.
  *
  *     test                each refused allocation, buffers that are too short, variables, the reader, deep JSON, threads
  *     test KIND FILE      over the items of a file: a small stack, each call against the others, pieces, turned bits
  *
- * With a word `quick` after them, stacks are left out, which a look from outside spoils under valgrind, and threads.
+ * With a word `quick` after them it leaves out threads, and stacks, which can't be measured under valgrind.
  * Linked with -Wl,--wrap=malloc,--wrap=realloc -pthread. */
 #define _GNU_SOURCE
 #include "etcs_help.h"
@@ -73,7 +73,7 @@ static void refused_memory(void)
     }
 }
 
-/* The same of the calls that say why, of bytes that are refused and of JSON that is wrong. */
+/* The same for the calls that say why, for refused bytes and for JSON that is wrong. */
 static void refused_reasons(void)
 {
     static const char wrong_json[] = "{\"kind\":\"radio\",\"nid\":24,\"header\":[[\"T_TRAIN\",0],[\"M_ACK\",2]]}";
@@ -97,7 +97,7 @@ static void refused_reasons(void)
         }
 }
 
-/* What is said of bytes and lines that are no item, and of those that are. */
+/* What is said about bytes and lines that are no item, and about those that are. */
 static void reasons(void)
 {
     static const char *const why = "message 24 has 10 or 13 to 1023 bytes, not 11";
@@ -127,7 +127,7 @@ static void reasons(void)
     EXPECT(etcs_fields_before(ETCS_RADIO, bytes, len, before, 0, &a) == ETCS_NO_ROOM && a.written == 1 && a.bit == 17 && before[0].width == 0x07070707);
     EXPECT(etcs_fields_before(ETCS_RADIO, bytes, len, before, 8, &a) == ETCS_REFUSED && a.written == 1 && a.bit == 17 && !strcmp(a.var, "L_MESSAGE"));
     EXPECT(before[0].var == ETCS_VAR_NID_MESSAGE && before[0].number == 24 && before[0].width == 8 && before[1].width == 0x07070707);
-    /* JSON: of an item nothing is said; M_ACK, a variable of one bit, has no number 2 */
+    /* JSON: nothing is said about an item; M_ACK, a variable of one bit, has no number 2 */
     len = item(bytes, RADIO);
     EXPECT(etcs_to_json(ETCS_RADIO, bytes, len, (uint8_t *)line, sizeof line, &a) == ETCS_OK);
     size_t line_len = a.written;
@@ -146,7 +146,7 @@ static void reasons(void)
     EXPECT(etcs_explain_json(ETCS_RADIO, (uint8_t *)line, 0, out, sizeof out, &a) == ETCS_BAD_JSON && a.written > 0);
 }
 
-/* Whether these fields' bits are the first of the bytes, and the bit comes after them, in one variable more. */
+/* Whether these fields' bits are the first ones of the bytes, and the bit comes after them, in one more variable. */
 static int are_first(const etcs_field *fields, size_t count, const uint8_t *bytes, size_t bit)
 {
     size_t at = 0;
@@ -284,7 +284,7 @@ static void statuses(void)
     EXPECT(ANSWERS(ETCS_UNKNOWN_KIND, etcs_explain_json(9, JSON(line), out, 256, &a)) && out[0] == 7);
 }
 
-/* The same of the calls over lines of hexadecimal and over numbers, with the words of `explain` and the rule of logs. */
+/* The same for the calls over lines of hexadecimal and over numbers, with the words of `explain` and the rule of logs. */
 static void lines_and_meanings(void)
 {
     static const struct { etcs_kind kind; uint32_t var; uint64_t number; uint32_t scale; const char *name, *text; } means[] = {
@@ -419,7 +419,7 @@ static void groups(void)
     EXPECT(ANSWERS(ETCS_OK, GROUPS(1)) && MISSES(0) && group.is_complete == 1);
 }
 
-/* No pointer to no bytes, no fields and no room. */
+/* Null pointers to no bytes, no fields and no room. */
 static void no_pointers(void)
 {
     uint8_t bytes[64], out[512];
@@ -489,7 +489,7 @@ static void variables(void)
     EXPECT(etcs_from_fields(ETCS_SHORT, many, 70000, out, len, &a) == ETCS_REFUSED && a.bit == 0 && !strcmp(a.var, "Q_UPDOWN"));
     many[69999].width = 65;
     EXPECT(etcs_from_fields(ETCS_SHORT, many, 70000, out, len, &a) == ETCS_BAD_FIELDS);
-    /* one that takes a variable as the header names it */
+    /* a call that takes a variable as the header names it */
     size_t at = etcs_find(sent, count, ETCS_VAR_NID_BG, 0);
     EXPECT(at < count && sent[at].width == 14 && etcs_bit_of(sent, at) == 35 && etcs_bit_of(sent, count) == 216);
     EXPECT(etcs_find(sent, count, ETCS_VAR_D_LINK, 0) == count);
@@ -551,11 +551,11 @@ static void threads(void)
     for (int i = 0; i < 4; i++) { pthread_join(t[i], &said); EXPECT(!said); }
 }
 
-/* How much of a thread's stack the calls touch: painted, and looked at afterwards. */
+/* How much of a thread's stack the calls touch: it is painted before, and looked at afterwards. */
 static size_t file_len;
 static etcs_kind file_kind;
 
-/* Bytes whose refusal took the most stack and instructions of a million that were tried. */
+/* The bytes whose refusal took the most stack and instructions, of a million that were tried. */
 static void dear_refusals(int call)
 {
     static const char *const digits[] = {
@@ -653,7 +653,7 @@ static void *nothing(void *arg)
     return NULL;
 }
 
-/* How many bytes of its stack a thread touches that does this. */
+/* How many bytes of its stack a thread that does this touches. */
 static size_t touched(void *(*does)(void *), void *arg)
 {
     size_t size = 1 << 20, clean = 0;
@@ -685,7 +685,7 @@ static void stack(void)
     }
 }
 
-/* Lists and objects in one another, on the stack that etcs.h asks for. */
+/* Nested lists and objects, on the stack that etcs.h asks for. */
 static void *deep(void *arg)
 {
     static const char *const units[] = {"[", "{\"a\":", "[{\"a\":", "{\"kind\":[", "[[],", "[\"\\u0041\","};
@@ -722,7 +722,7 @@ static void deep_json(void)
     free(room);
 }
 
-/* The digits of bytes in a line of exactly its length, after a time. */
+/* The digits of bytes in a buffer of exactly the line's length, after a time. */
 static void exact_line(const uint8_t *bytes, size_t len)
 {
     etcs_answer a = {0};
@@ -735,7 +735,7 @@ static void exact_line(const uint8_t *bytes, size_t len)
     free(line), free(back);
 }
 
-/* All calls over buffers of exactly their lengths, in which valgrind sees each byte too far. */
+/* All calls over buffers of exactly their lengths, so that valgrind sees each access past the end. */
 static void exact(const uint8_t *bytes, size_t len, size_t taken)
 {
     etcs_answer a = {0};
@@ -766,7 +766,7 @@ static void exact(const uint8_t *bytes, size_t len, size_t taken)
     free(in);
 }
 
-/* Of each item: the calls against each other, pieces, and each bit turned. */
+/* For each item: the calls against each other, pieces, and each bit turned. */
 static void items(void)
 {
     static etcs_field sent[ETCS_MOST_FIELDS];

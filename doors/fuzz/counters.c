@@ -11,11 +11,11 @@
 
 static uint8_t *first, *end;
 
-/* What the library's code calls once. */
+/* The library's code calls this once. */
 void __sanitizer_cov_8bit_counters_init(uint8_t *from, uint8_t *to) { first = from, end = to; }
 void __sanitizer_cov_pcs_init(const uintptr_t *from, const uintptr_t *to) { (void)from, (void)to; }
 
-/* What the mutator calls, which isn't asked for anything here. */
+/* The mutator calls this; here it isn't used. */
 size_t LLVMFuzzerMutate(uint8_t *data, size_t size, size_t most) { (void)data, (void)most; return size; }
 
 static void try_file(const char *folder, const char *name, char *reached)

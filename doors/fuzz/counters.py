@@ -1,12 +1,12 @@
 #!/usr/bin/env python3
-"""Writes what of the library's code the inputs of the fuzz target reach, by function.
+"""Writes which parts of the library's code the inputs of the fuzz target reach, by function.
 
     doors/fuzz/counters.py [RT]
 
-The inputs are those of seeds.py, and what was found in doors/out/fuzz/found. The library is built without a proof and without
-inlining, so that each counter is in the function whose source it is of; copies of a generic function are one. A counter is
-`removed` where each way from it ends in a check that fails, which proofs exclude. It needs what doors/fuzz/unproved.py needs,
-and clang; the library takes some four minutes where it isn't there.
+The inputs are those of seeds.py, and those that were found, in doors/out/fuzz/found. The library is built without a proof and
+without inlining, so that each counter is in the function whose source it belongs to; copies of a generic function count as one.
+A counter is `removed` if each way from it ends in a check that fails, which proofs exclude. It needs what
+doors/fuzz/unproved.py needs, and clang; if the library isn't there, building it takes about four minutes.
 """
 
 import collections
@@ -42,7 +42,7 @@ def read_module(path):
 
 
 def next_of(lines):
-    """Returns the labels of the blocks that may follow a block of these lines; None where it returns."""
+    """Returns the labels of the blocks that may follow a block of these lines; None if it returns."""
     last = next((at for at in range(len(lines) - 1, -1, -1) if re.match(r"(br|switch|ret|unreachable)\b", lines[at])), 0)
     return None if lines[last].startswith("ret") else re.findall(rf"label %{NAME}", " ".join(lines[last:]))
 

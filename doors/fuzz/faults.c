@@ -1,4 +1,4 @@
-/* Faults that the target has to find: doors/fuzz/run --check links it with one after another, by its number FAULT. */
+/* Faults that the target has to find: doors/fuzz/run --check links it with one after another, chosen by its number FAULT. */
 #include "fuzz.h"
 
 #include <stdlib.h>
@@ -19,7 +19,7 @@ etcs_status __wrap_etcs_check(etcs_kind kind, const uint8_t *bytes, size_t len, 
     if (FAULT == 2 && status == ETCS_MORE && len > 2)
         return ETCS_REFUSED;
     if (FAULT == 3)
-        (void)*(const volatile uint8_t *)(bytes + len); /* reads a byte too many */
+        (void)*(const volatile uint8_t *)(bytes + len); /* reads one byte too many */
     return status;
 }
 

@@ -22,7 +22,7 @@ static void failed(const char *condition, int line)
     abort();
 }
 
-/* ---- Chance, which an input decides. */
+/* ---- Random numbers, which an input decides. */
 
 static uint64_t chance_state;
 
@@ -40,7 +40,7 @@ void begin_chance(const uint8_t *data, size_t size, uint64_t seed)
     chance_state |= 1;
 }
 
-/* ---- Memory: what the library takes is counted, and refused where that is tried. */
+/* ---- Memory: what the library takes is counted, and refused when that is tried. */
 
 void *__real_malloc(size_t size);
 void *__real_realloc(void *old, size_t size);
@@ -49,7 +49,7 @@ void __real_free(void *old);
 static int is_inside;
 static size_t live, taken_times, refused_from, refused_to;
 
-/* Which of the allocations are of 512 bytes or more, as those of texts that grow; none is noted while some are refused. */
+/* Which allocations are of 512 bytes or more, as are those of growing texts; none is noted while some are refused. */
 static size_t large[64], larges;
 
 static int refuses(size_t size)
@@ -101,7 +101,7 @@ static void make_areas(void)
     }
 }
 
-/* The last bytes of a buffer, this many; of none it is a null pointer every other time. */
+/* The last bytes of a buffer, this many; if none, it is a null pointer every other time. */
 static uint8_t *area(int which, size_t size)
 {
     HOLDS(size <= AREA);
@@ -151,7 +151,7 @@ static etcs_status call(int which, etcs_kind kind, const uint8_t *in, size_t len
     return status;
 }
 
-/* What a call answered, with what it wrote until the next call of the same name. */
+/* What a call answered, and what it wrote, which is there until the next call of the same name. */
 typedef struct result {
     etcs_status status;
     etcs_answer answer;
@@ -165,7 +165,7 @@ static int is_still(const uint8_t *from, const uint8_t *to)
     return from >= to;
 }
 
-/* Calls with room for this many parts in a buffer that is longer by as many as the other number says. What isn't written has to be as before. */
+/* Calls with room for this many parts, in a buffer that is longer by the other number. What isn't written has to be unchanged. */
 static result call_with(int which, etcs_kind kind, const uint8_t *in, size_t len, size_t room, size_t further)
 {
     result r = {0};
@@ -187,7 +187,7 @@ static result call_with(int which, etcs_kind kind, const uint8_t *in, size_t len
 /* Whether up to 200 allocations of each call are refused, and not 12 of some calls. */
 static int is_starved;
 
-/* Which allocation is refused as number i, of so many: each, or else every other one of the large ones, or by chance. */
+/* Which allocation is refused as number i, of this many: each, or else every other one of the large ones, or a random one. */
 static size_t refused_at(size_t i, size_t most, size_t all)
 {
     if (all <= most)
@@ -213,7 +213,7 @@ static void refuse_memory(int which, etcs_kind kind, const uint8_t *in, size_t l
     }
 }
 
-/* Asks with no room, with too little, and with exactly as much as is wanted; `len` counts bytes or fields. */
+/* Calls with no room, with too little, and with exactly as much as is needed; `len` counts bytes or fields. */
 static result ask(int which, etcs_kind kind, const void *data, size_t len)
 {
     size_t size = len * (which == FROM_FIELDS ? sizeof(etcs_field) : 1);
@@ -247,7 +247,7 @@ static result ask(int which, etcs_kind kind, const void *data, size_t len)
 
 /* ---- Texts. */
 
-/* Takes a character of UTF-8; UINT32_MAX where there is none. */
+/* Takes a UTF-8 character; UINT32_MAX if there is none. */
 static uint32_t take_char(const uint8_t **at, const uint8_t *end)
 {
     uint32_t first = *(*at)++;
@@ -263,7 +263,7 @@ static uint32_t take_char(const uint8_t **at, const uint8_t *end)
     return found;
 }
 
-/* Whether a terminal would obey a character: controls, and what turns the direction of writing. */
+/* Whether a terminal would obey a character: controls, and what changes the direction of writing. */
 static int is_control(uint32_t c)
 {
     return c < 0x20 || (c >= 0x7F && c < 0xA0) || c == 0x200E || c == 0x200F || (c >= 0x202A && c <= 0x202E) || (c >= 0x2066 && c <= 0x2069);
@@ -360,7 +360,7 @@ static int shows(etcs_kind kind, const uint8_t *out, size_t len, const etcs_fiel
     return holds && text.at == text.end;
 }
 
-/* ---- What is asked of an item, of JSON, of fields. */
+/* ---- What is checked for an item, for JSON, for fields. */
 
 static int is_same(const result *a, const result *b)
 {
@@ -370,7 +370,7 @@ static int is_same(const result *a, const result *b)
         : a->status != ETCS_REFUSED || (a->answer.bit == b->answer.bit && !strcmp(a->answer.var, b->answer.var));
 }
 
-/* Fields that are those of an item give it, and no others do. */
+/* The fields of an item give it, and no others do. */
 void try_fields(etcs_kind kind, const etcs_field *fields, size_t count)
 {
     static uint8_t made[ETCS_MOST_BYTES];
@@ -386,7 +386,7 @@ void try_fields(etcs_kind kind, const etcs_field *fields, size_t count)
     HOLDS(memcmp(back.out, fields, count * sizeof *fields) == 0);
 }
 
-/* Writes the same JSON with blanks after some marks, and with some letters and digits of texts as escapes; answers how many bytes. */
+/* Writes the same JSON with blanks after some marks, and some letters and digits of texts as escapes; returns how many bytes. */
 static size_t respell(const uint8_t *line, size_t len, uint8_t *out)
 {
     size_t at = 0, from = 0;
@@ -408,7 +408,7 @@ static size_t respell(const uint8_t *line, size_t len, uint8_t *out)
     return at;
 }
 
-/* JSON in another spelling says the same, and is wrong for the same reason where a column isn't part of that. */
+/* JSON in another spelling says the same, and is wrong for the same reason unless a column is part of that. */
 static void try_respelled(etcs_kind kind, const uint8_t *line, size_t len, const result *wanted, const result *why)
 {
     static uint8_t other[6 * MOST_INPUT], made[ETCS_MOST_BYTES], sentence[1 << 13];
@@ -423,7 +423,7 @@ static void try_respelled(etcs_kind kind, const uint8_t *line, size_t len, const
         HOLDS(reason.answer.written == said && !memcmp(reason.out, sentence, said));
 }
 
-/* Bytes after an item count for nothing: what is written of it stays the same. */
+/* Bytes after an item are ignored: what is written for it stays the same. */
 static void try_followed(etcs_kind kind, const uint8_t *bytes, size_t taken)
 {
     static const int calls[] = {SHOW, TO_JSON, FIELDS};
@@ -478,7 +478,7 @@ static void try_logged(const uint8_t *bytes, size_t taken)
     HOLDS(etcs_line_front((const uint8_t *)line, at) == before);
 }
 
-/* A number of each variable means a text, or nothing, of every kind. */
+/* A number of each variable has a text as its meaning, or none, for every kind. */
 static void try_meanings(etcs_kind kind, const etcs_field *fields, size_t count)
 {
     for (int i = 0; i < 4 && count; i++) {
@@ -507,7 +507,8 @@ static etcs_status assemble(const etcs_telegram *telegrams, size_t count, etcs_g
     return status;
 }
 
-/* The telegrams of a group: the first that isn't held doesn't depend on those after it, nor what they make on their order. */
+/* The telegrams of a group: the first that isn't held doesn't depend on those after it, and what they make together doesn't
+ * depend on their order. */
 static void try_group(etcs_telegram *telegrams, size_t count)
 {
     etcs_group group, other;
@@ -539,7 +540,7 @@ static void try_group(etcs_telegram *telegrams, size_t count)
     }
 }
 
-/* Telegrams made of an item: each N_PIG of its N_TOTAL, and one with a bit turned. */
+/* Telegrams made from an item: one for each N_PIG of its N_TOTAL, and one with a bit turned. */
 static void try_telegrams(etcs_kind kind, const uint8_t *bytes, size_t taken)
 {
     static etcs_telegram telegrams[10];
@@ -592,7 +593,7 @@ static void try_item(etcs_kind kind, const uint8_t *bytes, size_t taken)
     try_fields(kind, fields, count);
 }
 
-/* A refused bit has its reason and the fields before it; the bits after it count for nothing, and turned it isn't refused. */
+/* A refused bit has its reason and the fields before it; the bits after it are ignored, and if it is turned it isn't refused. */
 static void try_refused(etcs_kind kind, const uint8_t *bytes, size_t len, const result *refused)
 {
     static uint8_t turned[MOST_INPUT];
@@ -665,7 +666,7 @@ static void try_bytes(etcs_kind kind, const uint8_t *bytes, size_t len)
         try_pieces(kind, bytes, len);
 }
 
-/* Blanks after a line change nothing, but that why it is no item isn't looked for in one of more than 65,536 bytes. */
+/* Blanks after a line change nothing, except that no reason is looked for in a line of more than 65,536 bytes. */
 static void try_blanks(etcs_kind kind, const uint8_t *line, size_t len, etcs_status wanted)
 {
     static uint8_t longer[80000];
@@ -679,7 +680,7 @@ static void try_blanks(etcs_kind kind, const uint8_t *line, size_t len, etcs_sta
     HOLDS(why.status == wanted && (wanted == ETCS_OK || is_sentence(why.out, why.answer.written)));
 }
 
-/* A line is the JSON of an item, or has a reason why not. */
+/* A line is the JSON of an item, or has a reason why it isn't. */
 static void try_line(etcs_kind kind, const uint8_t *line, size_t len)
 {
     static uint8_t made[ETCS_MOST_BYTES];
@@ -702,7 +703,7 @@ static void try_line(etcs_kind kind, const uint8_t *line, size_t len)
     try_item(kind, made, count);
 }
 
-/* No call knows another kind. */
+/* No call accepts another kind. */
 static void try_unknown(const uint8_t *data, size_t size)
 {
     int which = (int)chance(CALLS);

@@ -1,4 +1,4 @@
-/* The mutator: bits, fields of items with their lengths made anew, words of JSON, and one form made of another. */
+/* The mutator: it changes bits, fields of items, whose lengths it works out again, words of JSON, and one form to another. */
 #include "mutate.h"
 #include "fuzz.h"
 
@@ -29,7 +29,7 @@ static void change_number(etcs_field *field)
     }
 }
 
-/* Copies fields[from] to fields[to - 1] once more, or takes them out. */
+/* Repeats fields[from] to fields[to - 1], or removes them. */
 static void repeat(etcs_field *fields, size_t *count, size_t from, size_t to)
 {
     if (*count + (to - from) > ETCS_MOST_FIELDS)
@@ -111,7 +111,7 @@ static int get(const uint8_t *data, size_t at)
     return data[at / 8] >> (7 - at % 8) & 1;
 }
 
-/* Writes fields with L_PACKET, L_MESSAGE, FILL and padding as they have to be; answers how many bytes. */
+/* Writes fields with L_PACKET, L_MESSAGE, FILL and padding as they have to be; returns how many bytes. */
 static size_t write_fields(etcs_kind kind, const etcs_field *fields, size_t count, uint8_t *out, size_t most)
 {
     size_t at = 0, packet = 0, length = 0, message = 0, user = kind == ETCS_LONG ? 830 : kind == ETCS_SHORT ? 210 : 0;
@@ -178,7 +178,7 @@ static size_t word_end(const uint8_t *line, size_t size, size_t at)
     return to;
 }
 
-/* The place of a word by chance, and its end. */
+/* The place of a random word, and its end. */
 static size_t any_word(const uint8_t *line, size_t size, size_t *to)
 {
     size_t count = 0, place;
@@ -239,7 +239,7 @@ static size_t change_line(uint8_t *line, size_t size, size_t most)
 
 /* ---- All of it. */
 
-/* The item at the front, changed by its fields; as fields or as JSON where the form is another. */
+/* The item at the front, with changed fields; as fields or as JSON if the form is another. */
 static size_t change_item(uint8_t *data, size_t size, size_t most)
 {
     static etcs_field fields[ETCS_MOST_FIELDS];
@@ -264,7 +264,7 @@ static size_t change_item(uint8_t *data, size_t size, size_t most)
     return 1 + len;
 }
 
-/* The item of a line of JSON or of fields, where there is one. */
+/* The item of a line of JSON or of fields, if there is one. */
 static size_t to_item(uint8_t *data, size_t size)
 {
     static etcs_field fields[ETCS_MOST_FIELDS];

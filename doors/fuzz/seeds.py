@@ -19,7 +19,7 @@ KINDS = ("long", "short", "radio", "train")  # by their numbers, from 1
 OTHER_NAMES = {"message": "radio", "train_message": "train"}
 FORMS = ("items", "line", "fields")  # by their numbers, of fuzz.h
 ITEMS, LINE = 0, 1
-STARVED = 32  # what is added to the number of a form where memory is refused often
+STARVED = 32  # what is added to the number of a form if memory is refused often
 
 
 def kind_of(words):
@@ -68,7 +68,7 @@ def long_ones():
 
 
 def item(kind, digits):
-    """Yields the input of hexadecimal digits, where they are bytes."""
+    """Yields the input of hexadecimal digits, if they are bytes."""
     if len(digits) % 2 == 0 and re.fullmatch("[0-9A-Fa-f]+", digits):
         yield kind, ITEMS, bytes.fromhex(digits)
 

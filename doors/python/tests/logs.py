@@ -1,4 +1,4 @@
-"""logs.py PROGRAM: compares `etcs.read_log` and `etcs.groups` with PROGRAM's `log --to json`, what it says of other lines, and
+"""logs.py PROGRAM: compares `etcs.read_log` and `etcs.groups` with PROGRAM's `log --to json`, what it says about other lines, and
 its groups, over lines as FORMAT.md has them, good and bad. The status is 0 where all agree."""
 
 import json
@@ -18,7 +18,7 @@ LINES = 1500
 
 
 def spelled(digits, chance):
-    """A line with these digits, as people have them."""
+    """A line with these digits, as people write them."""
     size = chance.choice([2, 4, 8, 16])
     parts = [digits[at:at + size] for at in range(0, len(digits), size)]
     joint = chance.choice([" ", "  ", "\t", "-", ".", ":", ",", ", ", " 0x"])
@@ -49,7 +49,7 @@ def line_of(items, chance):
 
 
 def said(program, text, kinds):
-    """Returns what the program says of each line by its number, and the groups."""
+    """Returns what the program says about each line, by its number, and the groups."""
     words = [program, "log", "--kind", kinds, "--to", "json", "--groups"]
     ran = subprocess.run(words, input=text, stdout=subprocess.PIPE, stderr=subprocess.PIPE, check=False)
     found, groups = {}, []

@@ -1,7 +1,7 @@
 """meanings.py PROGRAM: compares what `etcs.variables` says numbers mean with what PROGRAM's `explain` prints.
 
-Of items of bench/mix.py, of each packet to begin with, and of the same with one number changed: of each variable each number
-that has a text, the least and the largest, and some between. The status is 0 where all agree, and no text is left out."""
+It takes items of bench/mix.py, items with each packet to begin with, and the same with one number changed: for each variable
+each number that has a text, the least and the largest, and some between. The status is 0 if all agree, and no text is left out."""
 
 import os
 import re

@@ -1,4 +1,4 @@
-"""What no vector says of the module: its values, errors, pieces, threads."""
+"""What no vector says about the module: its values, errors, pieces, threads."""
 
 import copy
 import doctest
@@ -58,7 +58,7 @@ def lists_of(item):
 
 
 def change(item, chance):
-    """Changes something of an item, as nobody should, and says what."""
+    """Changes something in an item, as nobody should, and says what."""
     pairs = chance.choice([each for each in lists_of(item) if each] or [[]])
     place = chance.randrange(len(pairs) or 1)
     one = pairs[place] if pairs else None
@@ -91,7 +91,7 @@ def by_json(item):
 
 
 def answer_of(call):
-    """The bytes, or what was raised: of what isn't even a tree, only that."""
+    """The bytes, or what was raised; for what isn't even a tree, only that it was."""
     try:
         return call()
     except etcs.Refused as fault:
@@ -473,7 +473,7 @@ class Tests(unittest.TestCase):
         self.assertEqual([at for at, _ in etcs.items(SHORT * 4, "short")], [0, 27, 54, 81])
 
     def test_signals(self):
-        """A signal's handler that calls in the middle of a call gets its own answer, and the call that it interrupts keeps its own."""
+        """A signal handler that calls in the middle of a call gets its own answer, and the call that it interrupts keeps its own."""
         long, kept = example("long_line_ahead.hex")[:104], example("radio_kept.hex")
         calls = [
             lambda: etcs.encode(etcs.decode(SHORT, "short")), lambda: etcs.encode(etcs.decode(long, "long")), lambda: etcs.show(long, "long"),

@@ -27,7 +27,7 @@ def text(data: bytes, kind: etcs.Kind) -> str:
 
 
 def wrong() -> None:
-    """What mypy has to refuse: of a line without a fault it says that the comment isn't needed."""
+    """What mypy has to refuse: for a line without a fault it says that the comment isn't needed."""
     telegram.nid  # type: ignore[attr-defined]
     message.header["T_TRAIN"] = "0"  # type: ignore[call-overload]
     etcs.decode(SHORT, "tram")  # type: ignore[call-overload]

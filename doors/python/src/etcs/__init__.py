@@ -27,13 +27,13 @@ An item prints as a tree, and a refusal says why when it is asked:
     ...     print(fault.reason)
     message 6 has 10 or 13 to 1023 bytes, not 11
 
-`decode` and `encode` go between bytes and values, `check` finds where an item ends, `items` and `Reader` read many,
+`decode` and `encode` convert between bytes and values, `check` finds where an item ends, `items` and `Reader` read many,
 `show` gives the program's text, `fields` each variable with its bit. What is accepted, refused and written is the
-library's answer, which is proved; this module carries it over.
+library's answer, which is proved; this module passes it on.
 
-The module keeps nothing between two calls, so threads may call it freely (and run side by side, since ctypes lets go
-of the interpreter's lock), and so may a signal's handler or a finalizer that runs inside a call; a Reader belongs to one
-of them at a time. Bytes are bytes, a bytearray or a memoryview of bytes; of anything else there is a TypeError.
+The module keeps nothing between two calls, so threads may call it freely (and run in parallel, since ctypes releases
+the interpreter's lock), and so may a signal handler or a finalizer that runs inside a call; a Reader belongs to one
+of them at a time. Bytes are bytes, a bytearray or a memoryview of bytes; anything else raises a TypeError.
 """
 
 from __future__ import annotations
@@ -73,12 +73,12 @@ for _public in (
 _LONGEST = {"long": 104, "short": 27, "radio": 1023, "train": 1023}
 _Read = TypeVar("_Read", bound=Item)
 
-#: where a line of JSON most likely says its kind
+#: where a line of JSON most likely gives its kind
 _KIND = re.compile(rb'"kind"[ \t\r\n]*:[ \t\r\n]*"([a-z]+)"')
 
 
 def from_json(line: Union[str, Data]) -> Item:
-    """The item of a line of JSON. Raises NotAnItem and Refused, as the library does of this line."""
+    """The item of a line of JSON. Raises NotAnItem or Refused, as the library judges this line."""
     if isinstance(line, str):
         try:
             line = line.encode()
@@ -98,7 +98,7 @@ def from_json(line: Union[str, Data]) -> Item:
 
 
 def check(data: Data, kind: Kind) -> int:
-    """The number of bytes that the item at the front takes. Raises Refused and Truncated."""
+    """The number of bytes that the item at the front takes. Raises Refused or Truncated."""
     return _library.check(bytes_of(data), kind)
 
 
@@ -116,7 +116,7 @@ def decode(data: Data, kind: Kind) -> Item: ...
 
 
 def decode(data: Data, kind: Kind) -> Item:
-    """The one item that the bytes are. Raises Refused, Truncated, and EtcsError where bytes follow the item."""
+    """The one item that the bytes are. Raises Refused, Truncated, or EtcsError if bytes follow the item."""
     data = bytes_of(data)
     item: Item
     item, taken = _front(data, kind)
@@ -130,7 +130,7 @@ _to_json = json.JSONEncoder(separators=(",", ":"), sort_keys=True).encode
 
 
 def encode(item: Union[Item, Dict[str, Any]]) -> bytes:
-    """The bytes of an item or of its tree. Raises NotAnItem where there is no such item, and Refused where it has bits of
+    """The bytes of an item or of its tree. Raises NotAnItem if there is no such item, and Refused if it has bits of
     packets that are typed by now and no item has these."""
     if not isinstance(item, (Telegram, Message, dict)):
         raise TypeError(f"a Telegram, a Message or a tree is wanted, not {type(item).__name__}")
@@ -168,8 +168,8 @@ def items(data: Data, kind: Kind) -> Iterator[Tuple[int, Item]]:
 
 
 def show(data: Union[Data, Item], kind: Optional[Kind] = None, number: int = 1) -> str:
-    """The text of an item, or of the one at the front of bytes of the kind, as `etcs show` prints it. The text names the
-    item by its number, from 0 to 2**64 - 1; of another there is a ValueError."""
+    """The text of an item, or of the one at the front of bytes of the kind, as `etcs show` prints it. The text gives the
+    item by its number, from 0 to 2**64 - 1; another number raises a ValueError."""
     if isinstance(data, (Telegram, Message)):
         return _library.show(encode(data), data.kind, number)
     return _library.show(bytes_of(data), kind or "", number)
@@ -177,8 +177,8 @@ def show(data: Union[Data, Item], kind: Optional[Kind] = None, number: int = 1) 
 
 def page(data: Union[Data, Item, Iterable[Item]], kind: Optional[Kind] = None) -> str:
     """A page for a browser of an item, of several of a kind, or of bytes of the kind, refused ones too: what the program's
-    `explain --to html` writes. It runs the program, `etcs` on the path or what ETCS_PROGRAM names; no call of the library
-    writes it. Raises FileNotFoundError where there is no program."""
+    `explain --to html` writes. It runs the program, `etcs` on the path or the one that ETCS_PROGRAM names; no call of the library
+    writes it. Raises FileNotFoundError if there is no program."""
     if isinstance(data, (Telegram, Message)):
         data = [data]
     if not isinstance(data, (bytes, bytearray, memoryview)):
@@ -194,7 +194,7 @@ def page(data: Union[Data, Item, Iterable[Item]], kind: Optional[Kind] = None) -
 
 def fields(data: Data, kind: Kind) -> List[Field]:
     """The variables of the item at the front, all of them in the order of sending, from the first of the header to PAD
-    or PADDING. Of FILL, OTHER_DATA, PADDING and PAD up to 64 bits are one field; X_TEXT comes once for each byte."""
+    or PADDING. Up to 64 bits of FILL, OTHER_DATA, PADDING or PAD are one field; X_TEXT comes once for each byte."""
     return _library.placed(_library.fields(bytes_of(data), kind)[0])
 
 
@@ -217,9 +217,9 @@ def variables(data: Union[Data, Item], kind: Optional[Kind] = None) -> List[Vari
 
 
 def from_fields(sent: Iterable[Field], kind: Kind) -> bytes:
-    """The bytes of the item whose fields these are, as `fields` has them. Raises Refused, Truncated and NotAnItem.
+    """The bytes of the item whose fields these are, as `fields` has them. Raises Refused, Truncated or NotAnItem.
 
-    To change one: `sent[12] = sent[12]._replace(number=900)`. Places are made anew, and `bit` counts for nothing.
+    To change one: `sent[12] = sent[12]._replace(number=900)`. Places are worked out anew, and `bit` is ignored.
     """
     return _library.from_fields(_library.pack(list(sent)), kind)
 
@@ -234,7 +234,7 @@ class Reader(Generic[_Read]):
         reader.close()
 
     It refuses in the piece that brings the first bit after which no item continues. It keeps the bytes of the one item
-    that isn't whole, at most 1,023, and tries them again with each piece: feed pieces, and not single bytes, where
+    that isn't whole, at most 1,023, and tries them again with each piece: feed pieces, not single bytes, where
     time counts.
     """
 
@@ -276,7 +276,7 @@ class Reader(Generic[_Read]):
         return found
 
     def close(self) -> None:
-        """Says that no more comes. Raises Truncated inside an item."""
+        """Says that no more bytes come. Raises Truncated inside an item."""
         if self._fault:
             raise self._fault
         if self._held:

@@ -1,10 +1,10 @@
-"""A small `etcs` over the library, with the program's command line as far as it goes.
+"""A small `etcs` over the library, with a part of the program's command line.
 
     python -m etcs show|check --kind long|short|radio [--from hex|bin] < FILE
     python -m etcs convert --kind .. --to json|hex|bin [--from hex|bin|json] < FILE
     python -m etcs fields --kind .. < FILE        each variable with its bit, which the program doesn't print
 
-The program is the proved one: its texts, places and limits are its own. This is for a look from Python's side.
+The program is the proved one, with texts, places and limits of its own. This is for a look from Python.
 """
 
 import argparse
@@ -17,7 +17,7 @@ _BITS = {"short": 210, "long": 830}
 
 
 def _lines(item: bytes, kind: Kind, words: Any, count: int) -> bytes:
-    """What is written of an item."""
+    """What is written for an item."""
     if words.command == "show":
         return show(item, kind, count).encode()
     if words.command == "check":
@@ -30,7 +30,7 @@ def _lines(item: bytes, kind: Kind, words: Any, count: int) -> bytes:
 
 
 def _from_lines(text: bytes, words: Any, out: Callable[[bytes], Any]) -> int:
-    """Lines of JSON to what is asked for."""
+    """Converts lines of JSON to the form that is asked for."""
     for count, line in enumerate(text.splitlines(), 1):
         try:
             out(_lines(_library.from_json(line, words.kind), words.kind, words, count))

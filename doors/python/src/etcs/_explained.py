@@ -24,12 +24,12 @@ class Variable(NamedTuple):
     nid: Optional[int]
 
 
-#: the first variable of each name: M_VERSION is the name of two, which mean the same
+#: the first variable of each name: M_VERSION is the name of two, whose numbers mean the same
 _NUMBERS = {name: place for place, name in reversed(list(enumerate(VARIABLES)))}
 
 
 def meaning(name: str, number: int, scale: Optional[int] = None) -> str:
-    """What a number of the variable stands for, in the words of the program's `explain`; "" where it has no meaning. `scale`
+    """What a number of the variable stands for, in the words of the program's `explain`; "" if it has no meaning. `scale`
     is the Q_SCALE of its packet or message, without which a distance has none.
 
         >>> import etcs

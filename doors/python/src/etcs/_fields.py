@@ -1,7 +1,7 @@
-"""Items of the fields that the library gives, and the fields of items that it takes.
+"""Items from the fields that the library gives, and the fields of items, which it takes.
 
-An item's members are made of its fields when they are read: it keeps what the library wrote (`Later`), and what nobody changed
-is handed back as it came. That, and whole lists at a time, is what makes `decode` and `encode` cheap.
+An item's members are made from its fields when they are read: it keeps what the library wrote (`Later`), and what nobody changed
+is handed back as it came. This, and handling whole lists at a time, makes `decode` and `encode` cheap.
 """
 
 from __future__ import annotations
@@ -22,12 +22,12 @@ _SIZE = 16
 _TYPED: Dict[str, FrozenSet[int]] = {
     way: frozenset(nid for nid, tree in packets.items() if "fields" in json.loads(tree)) for way, packets in PACKETS.items()}
 
-#: of each kind its way, and the variables in front of a message's own
+#: for each kind its way, and the variables in front of a message's own
 _WAYS = {"long": "train", "short": "train", "radio": "train", "train": "track"}
 _HEADS = {"radio": ("T_TRAIN", "M_ACK", "NID_LRBG"), "train": ("T_TRAIN", "NID_ENGINE")}
 
 
-# ---- Items of fields.
+# ---- Items from fields.
 
 
 def item_of(sent: bytes, kind: Any) -> Item:
@@ -104,7 +104,7 @@ _INT = {int}
 
 
 class _Unusual(Exception):
-    """The item isn't as `decode` makes items, so its JSON has to be asked."""
+    """The item isn't as `decode` makes items, so it has to go by its JSON."""
 
 
 def _packed(numbers: List[Any], metas: List[int]) -> bytes:
@@ -117,7 +117,7 @@ def _packed(numbers: List[Any], metas: List[int]) -> bytes:
 
 
 def _kept(owner: Any, member: str) -> Optional[bytes]:
-    """The fields of a member as the library wrote them, where nobody changed it."""
+    """The fields of a member as the library wrote them, if nobody changed it."""
     members = owner.__dict__
     later: Optional[Later] = members.get("_later", {}).get(member)
     if later is None or member in members and not later.is_unchanged(members[member]):
@@ -191,8 +191,8 @@ def _columns(pairs: Any) -> Any:
 
 
 def fields_of(item: Item) -> Optional[bytes]:
-    """The fields of an item, packed; None where it isn't as `decode` makes items, so that its JSON has to be asked. Whether
-    there is such an item the library says; where it does, the item is the one with this JSON."""
+    """The fields of an item, packed; None if it isn't as `decode` makes items, so that it has to go by its JSON. The library
+    says whether there is such an item; if there is, it is the one with this JSON."""
     try:
         return _telegram(item) if isinstance(item, Telegram) else _message(item)
     except (_Unusual, AttributeError, KeyError, OverflowError, TypeError, ValueError):

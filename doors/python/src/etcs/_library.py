@@ -17,14 +17,14 @@ from ._variables import VARIABLES
 KINDS = {"long": 1, "short": 2, "radio": 3, "train": 4}
 
 _OK, _MORE, _REFUSED, _NO_ROOM, _NO_MEMORY, _UNKNOWN_KIND, _BAD_JSON, _BAD_FIELDS = range(8)
-#: why a line of hexadecimal says no bytes
+#: why a line of hexadecimal gives no bytes
 EMPTY_LINE, NO_DIGITS, ODD_DIGITS = 8, 9, 10
 _SENT = attrgetter("number", "var", "width")
 
 #: no item has more bytes
 _LONGEST = 1023
 
-#: what is taken for bytes
+#: what is accepted as bytes
 Data = Union[bytes, bytearray, memoryview]
 
 
@@ -71,13 +71,13 @@ class Refused(EtcsError):
 
     @property
     def fields(self) -> List[Field]:
-        """The variables before the one that holds the bit, as `etcs.fields` has them; of JSON with stored bits that are
-        refused, none."""
+        """The variables before the one that holds the bit, as `etcs.fields` has them; none for JSON
+        with stored bits that are refused."""
         return [] if self._line is not None or not self._kind else fields_before(self._data, self._kind)
 
     @property
     def reason(self) -> str:
-        """Why the bit is refused, in a sentence without a capital and a full stop. The words may change."""
+        """Why the bit is refused, in a sentence without a capital or a full stop. The words may change."""
         if not self._kind:
             return ""
         return explain(self._data, self._kind) if self._line is None else explain_json(self._line, self._kind)
@@ -100,7 +100,7 @@ class Truncated(EtcsError):
 class NotAnItem(EtcsError):
     """No item of the kind has these values.
 
-    `reason` says why, of a tree or JSON with the path of the first part that is wrong. It is worked out when it is asked
+    `reason` says why, for a tree or JSON with the path of the first part that is wrong. It is worked out when it is asked
     for, or when the fault is printed.
 
         >>> import etcs
@@ -119,7 +119,7 @@ class NotAnItem(EtcsError):
 
     @property
     def reason(self) -> str:
-        """Why, in a sentence without a capital and a full stop. The words may change."""
+        """Why, in a sentence without a capital or a full stop. The words may change."""
         return self._text if self._line is None else explain_json(self._line, self._kind)
 
     def __str__(self) -> str:
@@ -161,7 +161,7 @@ for _name, _types in {
 
 
 class _Buffers(threading.local):
-    """A thread's buffers that no call has."""
+    """A thread's buffers that no call is using."""
 
     def __init__(self) -> None:
         self.free: List[ctypes.Array[ctypes.c_char]] = []
@@ -171,7 +171,7 @@ _buffers = _Buffers()
 
 
 def bytes_of(data: Data) -> bytes:
-    """The bytes of what is taken for bytes, and of nothing else: bytes(3) would be three zeros."""
+    """The bytes of what is accepted as bytes, and of nothing else: bytes(3) would be three zeros."""
     if isinstance(data, bytes):
         return data
     if isinstance(data, bytearray) or isinstance(data, memoryview) and data.format in ("B", "b", "c"):
@@ -189,7 +189,7 @@ def kind_number(kind: str) -> int:
 
 
 def _raise(status: int, answer: _Answer, kind: str, data: bytes, line: Optional[bytes] = None) -> NoReturn:
-    """What a status says of bytes of a kind, or of a line of JSON."""
+    """What a status says about bytes of a kind, or about a line of JSON."""
     if status == _MORE:
         raise Truncated(8 * len(data))
     if status == _REFUSED:
@@ -204,10 +204,10 @@ def _raise(status: int, answer: _Answer, kind: str, data: bytes, line: Optional[
 
 
 def _call(call: Any, *before: Any, wide: int = 1, done: Tuple[int, ...] = (_OK,)) -> Tuple[int, _Answer, bytes]:
-    """A call's status and answer, and where the status is one of `done` what it wrote, in parts of `wide` bytes; it is
-    called once more where the buffer has no room.
+    """A call's status and answer, and if the status is one of `done` what it wrote, in parts of `wide` bytes; it is
+    called once more if the buffer has no room.
 
-    Answer and buffer are this call's alone until it returns, so that a signal's handler or a finalizer may call meanwhile.
+    Answer and buffer belong to this call alone until it returns, so that a signal handler or a finalizer may call meanwhile.
     """
     answer, free = _Answer(), _buffers.free
     try:
@@ -276,7 +276,7 @@ def placed(sent: bytes) -> List[Field]:
     """Fields with the bits where they begin."""
     numbers, sent_vars, widths = columns(sent)
     rows = zip(map(VARIABLES.__getitem__, sent_vars), numbers, accumulate([0, *widths]), widths, sent_vars)
-    # as Field(*row) of each, without a call of Python's for each
+    # the same as Field(*row) for each, without a Python call for each
     return list(map(tuple.__new__, repeat(Field), rows))  # type: ignore[arg-type]
 
 
@@ -318,7 +318,7 @@ def if_item(packed: bytes, kind: str) -> Optional[bytes]:
 
 
 def explain(data: bytes, kind: str) -> str:
-    """Why a bit of the bytes is refused; "" where none is."""
+    """Why a bit of the bytes is refused; "" if none is."""
     status, answer, text = _call(_lib.etcs_explain, kind_number(kind), data, len(data), done=(_REFUSED,))
     if status not in (_OK, _MORE, _REFUSED):
         _raise(status, answer, kind, data)
@@ -326,7 +326,7 @@ def explain(data: bytes, kind: str) -> str:
 
 
 def fields_before(data: bytes, kind: str) -> List[Field]:
-    """The fields before a refused bit; none where no bit is refused."""
+    """The fields before a refused bit; none if no bit is refused."""
     status, answer, sent = _call(_lib.etcs_fields_before, kind_number(kind), data, len(data), wide=16, done=(_REFUSED,))
     if status not in (_OK, _MORE, _REFUSED):
         _raise(status, answer, kind, data)
@@ -334,7 +334,7 @@ def fields_before(data: bytes, kind: str) -> List[Field]:
 
 
 def explain_json(line: bytes, kind: str) -> str:
-    """Why a line is the JSON of no item; "" where it is that of one."""
+    """Why a line is the JSON of no item; "" if it is that of one."""
     status, answer, text = _call(_lib.etcs_explain_json, kind_number(kind), line, len(line), done=(_REFUSED, _BAD_JSON))
     if status not in (_OK, _REFUSED, _BAD_JSON):
         _raise(status, answer, kind, b"", line)
@@ -343,7 +343,7 @@ def explain_json(line: bytes, kind: str) -> str:
 
 @lru_cache(maxsize=8192)
 def meaning(kind: str, var: int, number: int, scale: Optional[int]) -> str:
-    """What a number of a variable of an item of the kind means; "" where it has no meaning."""
+    """What a number of a variable of an item of the kind means; "" if it has no meaning."""
     status, answer, text = _call(_lib.etcs_meaning, KINDS[kind], var, number, scale if scale in (0, 1, 2) else 3)
     if status:
         _raise(status, answer, kind, b"")
@@ -351,7 +351,7 @@ def meaning(kind: str, var: int, number: int, scale: Optional[int]) -> str:
 
 
 def line_bytes(line: bytes) -> Tuple[int, bytes, int]:
-    """0 and the bytes that the digits of a line say; or why it says none, and how many digits it has if their number is odd."""
+    """0 and the bytes that the digits of a line stand for; or why there are none, and how many digits it has if their number is odd."""
     status, answer, data = _call(_lib.etcs_line_bytes, line, len(line))
     if status not in (_OK, EMPTY_LINE, NO_DIGITS, ODD_DIGITS):
         _raise(status, answer, "", b"")

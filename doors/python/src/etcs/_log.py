@@ -16,11 +16,11 @@ _BITS = {"long": 830, "short": 210}
 
 
 class BadLine(EtcsError):
-    """A line that says no bytes, or whose bytes are as many as no item of the kinds has."""
+    """A line without bytes, or with a number of bytes that no item of the kinds has."""
 
 
 class OtherKind(EtcsError):
-    """A line with as many bytes as an item of a kind has that isn't asked for, and no item of the others."""
+    """A line with as many bytes as an item has of a kind that isn't asked for, but no item of the kinds that are."""
 
 
 class LogLine(NamedTuple):
@@ -28,16 +28,16 @@ class LogLine(NamedTuple):
 
     #: from 1; blank lines and comments count too
     number: int
-    #: what is before its digits, as a time
+    #: what is before its digits, such as a time
     front: str
     kind: Optional[Kind]
     item: Optional[Item]
-    #: Refused, BadLine or OtherKind, where it is no item
+    #: Refused, BadLine or OtherKind, if it is no item
     fault: Optional[EtcsError]
 
     @property
     def note(self) -> str:
-        """What `etcs log` says of a line that is no item, without its number; "" of an item."""
+        """What `etcs log` says about a line that is no item, without its number; "" for an item."""
         if self.fault is None:
             return ""
         return f"{self.fault}: {self.fault.reason}" if isinstance(self.fault, Refused) else str(self.fault)
@@ -68,7 +68,7 @@ def _says_length(data: bytes) -> bool:
 
 
 def _way(data: bytes, kinds: Sequence[Kind]) -> Kind:
-    """The kind of a message: of both ways, that of its number."""
+    """The kind of a message: if both ways are asked for, that of its number."""
     return "train" if "train" in kinds and ("radio" not in kinds or 129 <= data[0] <= 159) else "radio"
 
 
@@ -136,7 +136,7 @@ def _count_fault(data: bytes, kinds: Sequence[Kind], messages: bool) -> str:
 
 
 def _line(number: int, raw: bytes, kinds: Sequence[Kind]) -> Optional[LogLine]:
-    """What a line is; None where it is blank or a comment."""
+    """What a line is; None if it is blank or a comment."""
     status, data, count = _library.line_bytes(raw)
     if status == _library.EMPTY_LINE:
         return None
@@ -155,8 +155,8 @@ def _line(number: int, raw: bytes, kinds: Sequence[Kind]) -> Optional[LogLine]:
 
 def read_log(lines: Iterable[Union[str, bytes]], kinds: Union[str, Iterable[Kind]]) -> Iterator[LogLine]:
     """Reads lines as the program's `log` does, each by itself: yields an item or a fault for each, with its number and what is
-    before its digits, and nothing for blank lines and comments. `kinds` is one kind or several, also with commas. Lines are
-    those of a file, of text or of bytes, or a list.
+    before its digits, and nothing for blank lines and comments. `kinds` is one kind or several, also with commas. The lines
+    are a file of text or of bytes, or a list.
 
         >>> import etcs
         >>> log = ["12:00:03 A1 13 14 0C 40 FF C1 40 27 A1 27 23 18 40 08 C0 7F FF FF FF FF FF FF FF FF FF C0", "# noon", "12:00:04 A2"]
@@ -189,12 +189,12 @@ def _length(line: Union[str, bytes]) -> int:
 
 
 def _agree(one: int, two: int) -> bool:
-    """Whether two values of M_MCOUNT do."""
+    """Whether two values of M_MCOUNT agree."""
     return 254 not in (one, two) and (one == two or 255 in (one, two))
 
 
 class Group:
-    """A balise group: the telegrams that are held of it, at most one for each position, and how many clashed with them."""
+    """A balise group: its telegrams that are held, at most one for each position, and how many clashed with them."""
 
     def __init__(self, nid_c: int, nid_bg: int) -> None:
         self.nid_c, self.nid_bg = nid_c, nid_bg
@@ -203,7 +203,7 @@ class Group:
         self.clashes = 0
 
     def _clash(self, telegram: Telegram) -> bool:
-        """Whether a telegram doesn't belong to those that are held (SUBSET-026, 3.16.2.4)."""
+        """Whether a telegram doesn't belong with those that are held (SUBSET-026, 3.16.2.4)."""
         header = telegram.header
         place, last, duplicate = header["N_PIG"], header["N_TOTAL"], header["M_DUP"]
         if place > last or (place, duplicate) == (0, 2) or place == last and duplicate == 1:
@@ -217,7 +217,7 @@ class Group:
         return False
 
     def add(self, telegram: Telegram) -> bool:
-        """Holds a telegram of the group, or counts it as a clash; whether it is held."""
+        """Holds a telegram of the group, or counts it as a clash; returns whether it is held."""
         if self._clash(telegram):
             self.clashes += 1
             return False
@@ -226,7 +226,7 @@ class Group:
 
     @property
     def missing(self) -> List[int]:
-        """The positions that are held neither themselves nor by a duplicate; none where nothing is held."""
+        """The positions that are held neither themselves nor by a duplicate; none if nothing is held."""
         duplicates = {place: held.header["M_DUP"] for place, held in self.telegrams.items()}
         total = max((held.header["N_TOTAL"] for held in self.telegrams.values()), default=-1)
         return [it for it in range(total + 1) if it not in duplicates and duplicates.get(it - 1) != 1 and duplicates.get(it + 1) != 2]

@@ -1,6 +1,6 @@
-"""Pages for a browser. No call of the library writes them: the program does, where it is at hand.
+"""Pages for a browser. No call of the library writes them: the program does, if it is at hand.
 
-What runs it is imported where it is asked for: it would take a third of the module's start.
+What runs it is imported only when it is needed: it would take a third of the module's start.
 """
 
 from __future__ import annotations
@@ -19,7 +19,7 @@ def program() -> Optional[str]:
 
 
 def written_page(data: bytes, kind: str) -> Optional[str]:
-    """What `etcs explain --to html` writes of the bytes of items; None where there is no program, or it fails."""
+    """What `etcs explain --to html` writes for the bytes of items; None if there is no program, or it fails."""
     import subprocess
     path = program()
     if path is None:
@@ -34,8 +34,8 @@ def written_page(data: bytes, kind: str) -> Optional[str]:
 
 
 def frame_of(item: Any) -> Optional[str]:
-    """The page of an item in a frame of its own, so that its style and its script are those of no other; None of what is no
-    item, and where there is no program."""
+    """The page of an item in a frame of its own, so that its style and its script affect no other; None for what is no
+    item, and if there is no program."""
     import html
 
     from . import EtcsError, encode

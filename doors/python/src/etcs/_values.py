@@ -1,4 +1,4 @@
-"""What items are made of: variables, packets, telegrams and messages; and their trees of JSON."""
+"""What items are made of: variables, packets, telegrams and messages; and their JSON trees."""
 
 from __future__ import annotations
 
@@ -21,7 +21,7 @@ TelegramKind = Literal["long", "short"]
 MessageKind = Literal["radio", "train"]
 Kind = Literal["long", "short", "radio", "train"]
 
-#: variables as they are taken: pairs of name and number in the order of sending, or a mapping
+#: variables as they are accepted: pairs of name and number in the order of sending, or a mapping
 Pairs = Union[Mapping[str, int], Iterable[Tuple[str, int]]]
 
 #: the kinds of items: balise telegrams of 830 and of 210 user bits, radio messages to the train and to the track
@@ -41,7 +41,7 @@ class Variables(List[Tuple[str, int]]):
     def __getitem__(self, key: slice) -> List[Tuple[str, int]]: ...
 
     def __getitem__(self, key: Union[str, SupportsIndex, slice]) -> Any:
-        """By a name the number of the first variable of that name; by a place the pair."""
+        """With a name the number of the first variable of that name; with a place the pair."""
         if isinstance(key, str):
             for name, number in self:
                 if name == key:
@@ -57,7 +57,7 @@ class Variables(List[Tuple[str, int]]):
     def __setitem__(self, key: slice, number: Iterable[Tuple[str, int]]) -> None: ...
 
     def __setitem__(self, key: Any, number: Any) -> None:
-        """By a name that comes once; by a place where it comes more often."""
+        """With a name that comes once; with a place if it comes more often."""
         if isinstance(key, str):
             places = [place for place, (name, _) in enumerate(self) if name == key]
             if not places:
@@ -116,7 +116,7 @@ class Later:
         return self.made
 
     def is_unchanged(self, value: Any) -> bool:
-        """Whether a member is what was made: the very same objects, since others may be equal and not admitted."""
+        """Whether a member is what was made: the very same objects, since equal ones may not be admitted."""
         if type(value) is Variables and type(self.made) is tuple:
             return len(value) == len(self.made) and all(map(is_, value, self.made))
         return value is not None and value is self.made
@@ -172,7 +172,7 @@ def _indented(tree: str) -> str:
 
 
 def _digits(bits: str) -> str:
-    """Bits, of many the first ones alone, or of many alike how many they are."""
+    """Bits; if there are many, only the first ones, or how many there are if all are alike."""
     if not isinstance(bits, str) or len(bits) <= 32:
         return bits
     if bits == len(bits) * bits[0]:
@@ -195,7 +195,7 @@ def _tree(head: str, *parts: Union[str, Variables, List[Packet]]) -> str:
 
 @dataclass(repr=False, init=False)
 class Packet(_Named):
-    """A packet: of a typed one its variables after L_PACKET, of another its bits as digits in `data`."""
+    """A packet: a typed one has its variables after L_PACKET, another its bits as digits in `data`."""
 
     nid: int
     dir: Optional[int]
@@ -248,7 +248,7 @@ class Telegram(_Made):
     def build(cls, header: Pairs, packets: Iterable[Packet], kind: Optional[TelegramKind] = None) -> Telegram:
         """The telegram of these packets, with ones in FILL for the bits that are left. Variables of the header may come in
         any order, and those that aren't named have their least number. Without a kind it is a short one, or a long one
-        where the packets need that. Raises NotAnItem where they have no room, or there is no such variable.
+        if the packets need that. Raises NotAnItem if they have no room, or there is no such variable.
 
             >>> header = {"M_VERSION": 33, "M_MCOUNT": 255, "NID_C": 98, "NID_BG": 600, "Q_LINK": 1}
             >>> telegram = Telegram.build(header, [Packet(137, 1, [("Q_SRSTOP", 1)])])
@@ -333,8 +333,8 @@ Item = Union[Telegram, Message]
 
 
 def blank(nid: int, kind: Kind = "radio") -> Packet:
-    """A packet of this number to fill in, for items of the kind: with the least numbers, Q_SCALE 1 and no entries. Where a
-    count or a flag is changed its group has to follow. One that isn't typed has no bits after its length.
+    """A packet of this number to fill in, for items of the kind: with the least numbers, Q_SCALE 1 and no entries. If a
+    count or a flag is changed, its group has to follow. One that isn't typed has no bits after its length.
 
         >>> packet = blank(16)
         >>> packet["L_SECTION"] = 500
@@ -353,7 +353,7 @@ def blank(nid: int, kind: Kind = "radio") -> Packet:
 
 
 def _pairs(variables: Iterable[Tuple[str, int]]) -> List[List[Any]]:
-    # JSON has the 64 bits of NID_RADIO as digits, since not each reader of JSON has whole numbers so large
+    # JSON has the 64 bits of NID_RADIO as digits, since not every reader of JSON has such large whole numbers
     return [[name, _radio_digits(number) if name == "NID_RADIO" else number] for name, number in variables]
 
 
@@ -395,7 +395,7 @@ def _check_members(tree: Dict[str, Any], *members: str) -> None:
 
 
 def from_dict(tree: Dict[str, Any]) -> Item:
-    """The item of a tree of JSON, as to_dict gives it. Whether there is such an item `encode` says."""
+    """The item of a JSON tree, as to_dict gives it. `encode` says whether there is such an item."""
     try:
         item = _item(tree)
         if isinstance(item, Telegram):

@@ -6,6 +6,7 @@ mod Copies
 pub mod Steps
 pub mod Views
 pub mod Owned
+pub mod Inline
 pub mod Words
 pub mod WordWrites
 mod Kept

@@ -1,7 +1,7 @@
 -- The first bits of a word.
 use Rattle.std.proofs.Common.{◌≡◌, ℕ, zero, suc, ◌+◌, ◌-◌, ◌*◌, ◌/◌, ◌%◌, ◌^◌, ◌<◌, ◌≤◌, Bool, true, false, List, [], ◌∷◌, ◌++◌, length, take, drop, replicate, get_or, Some, None, leb, refl, sym, ap, subst, ◌∙◌, append_assoc, arith}
 use Rattle.std.proofs.lemmas.Bool.{le-leb}
-use Rattle.std.proofs.lemmas.List.{length-append, length-drop, length-take, length-replicate, take_all, take_at, drop_at, take_more, take-take, take-append-le, take-append-drop, take-replicate, append-nil}
+use Rattle.std.proofs.lemmas.List.{length-append, length-drop, length-take, length-replicate, take_all, take_at, take_more, take-take, take-append-le, take-append-drop, take-replicate, append-nil}
 use Rattle.std.proofs.lemmas.Nat.{mod_low, pow_pos, shl_whole, shl-shr}
 use Rattle.std.proofs.Math.Nat.{mod-eq_of_lt}
 use Rattle.std.proofs.Math.Pow.{pow_mono}
@@ -10,7 +10,7 @@ use Rattle.etcs_bits.specs.Bits.{num, value, bits, part, number_at}
 use Rattle.etcs_bits.proofs.ByteBits.{bits-append, num_low}
 use Rattle.etcs_bits.proofs.Copies.{number_of_part}
 use Rattle.etcs_bits.proofs.Kept.{front}
-use Rattle.etcs_bits.proofs.Lists.{length-part, value-part_add}
+use Rattle.etcs_bits.proofs.Lists.{value-part_add}
 use Rattle.etcs_bits.proofs.Numbers.{length-num, num-add, num-value, value-append, value-num_low, value_below, value_same}
 use Rattle.etcs_bits.proofs.Owned.{Packed}
 use Rattle.etcs_bits.proofs.Positions.{length-bits}
@@ -134,7 +134,6 @@ filled_packed bytes seen len z size short e =
       record {
         inside = omega (arith, total);
         short = omega (arith, total, short);
-        clear = ap (λ l. value (drop len l)) e ∙ ap value (drop_at seen (replicate z false) len size) ∙ value-falses z;
       },
       ap (take len) e ∙ take_at seen (replicate z false) len size,
     )

@@ -1,33 +1,44 @@
 //! An owned list of bits.
 
-ghost use Rattle.std.specs.Prelude.{◌≡◌, ℕ, ◌+◌, ◌*◌, ◌^◌, ◌<◌, ◌≤◌, ◌==◌, nat_eq, [], ◌∷◌, ◌++◌, length, take, OnOk, OnErr, IfOk};
-ghost use Rattle.etcs_bits.specs.Bits.{num, bits};
-ghost use Rattle.std.specs.Bool.{Decides};
-ghost use Rattle.std.specs.Prelude.{vec_len, vec_capacity};
-ghost use Rattle.std.specs.Cmp.Lexicographic.{pointwise};
+ghost use Rattle.std.specs.Prelude.{◌≡◌, ◌+◌, ◌^◌, ◌<◌, ◌≤◌, ◌==◌, [], ◌∷◌, ◌++◌, length, take, OnOk, OnErr, IfOk};
+ghost use Rattle.etcs_bits.specs.Bits.{num};
 
-use super::inner;
+use super::few::Few;
+use super::many::Many;
 use super::slice::BitSlice;
 use std::alloc::{AllocError, Global};
 use std::marker::Model;
 
-/// An owned list of bits. Two of them are equal where they have the same bits.
+/// An owned list of bits. Up to 56 of them lie in the value itself, and more in an allocation. Two lists are equal where they
+/// have the same bits.
 #[derive(Debug, Drop)]
 pub struct Bits {
-    /// As few bytes as hold the bits; the bits after the last are 0.
-    bytes: Vec<u8>,
-    len: usize,
+    /// None where there are more of them.
+    few: Few,
+    many: Many,
 }
 
 impl Model for Bits {
-    ghost use Rattle.std.specs.Prelude.{◌≡◌, ◌+◌, ◌*◌, ◌<◌, ◌≤◌, Bool, List, length, take, drop};
-    ghost use Rattle.etcs_bits.specs.Bits.{bits, value};
+    ghost use Rattle.std.specs.Prelude.{◌≡◌, ◌<◌, [], ◌++◌, Bool, List, length};
 
     ghost Value = { List Bool };
 
-    ghost view = { λ b. take b.len (bits b.bytes.items) };
+    ghost view = { λ b. b.few ++ b.many };
 
-    ghost invariant = { λ b. (b.len ≤ 8 * length b.bytes.items) × (8 * length b.bytes.items < b.len + 8) × (value (drop b.len (bits b.bytes.items)) ≡ 0) };
+    ghost invariant = { λ b. 0 < length b.many → b.few ≡ [] };
+}
+
+/// Moves all bits to the allocation. On a refusal they stay as they were.
+#[cold]
+#[inline(never)]
+fn spill(few: &mut Few, many: &mut Many) -> Result<(), AllocError>
+    requires { many.old ≡ [] }
+    ensures ok { OnOk result ((few.new ≡ []) × (many.new ≡ few.old)) }
+    ensures err { OnErr result ((few.new ≡ few.old) × (many.new ≡ many.old)) }
+{
+    many.push_slice(&few.as_slice())?;
+    *few = Few::new();
+    Ok(())
 }
 
 impl Bits {
@@ -36,8 +47,8 @@ impl Bits {
         ensures { result ≡ [] }
     {
         Bits {
-            bytes: Vec::new(alloc),
-            len: 0,
+            few: Few::new(),
+            many: Many::new(alloc),
         }
     }
 
@@ -45,12 +56,12 @@ impl Bits {
     ///
     /// # Errors
     ///
-    /// `AllocError` where there is no memory.
+    /// `AllocError` if memory is refused.
     pub fn from_slice(alloc: Global, slice: BitSlice<'_>) -> Result<Bits, AllocError>
         ensures { IfOk result (λ b. b ≡ slice.entry) }
     {
         let mut bits = Bits::new(alloc);
-        inner::append(&mut bits, &slice)?;
+        bits.push_slice(&slice)?;
         Ok(bits)
     }
 
@@ -58,7 +69,7 @@ impl Bits {
     ///
     /// # Errors
     ///
-    /// `AllocError` where there is no memory.
+    /// `AllocError` if memory is refused.
     pub fn try_clone(&self, alloc: Global) -> Result<Bits, AllocError>
         ensures { IfOk result (λ b. b ≡ self.now) }
     {
@@ -69,7 +80,7 @@ impl Bits {
     ///
     /// # Errors
     ///
-    /// `AllocError` where there is no memory. The bits then stay as they were.
+    /// `AllocError` if memory is refused. The bits then stay as they were.
     pub fn push(&mut self, bit: bool) -> Result<(), AllocError>
         requires { length self.old + 1 < 2 ^ 64 }
         ensures ok { OnOk result (self.new ≡ self.old ++ bit ∷ []) }
@@ -82,7 +93,7 @@ impl Bits {
     ///
     /// # Errors
     ///
-    /// `AllocError` where there is no memory. The bits then stay as they were.
+    /// `AllocError` if memory is refused. The bits then stay as they were.
     pub fn push_number(&mut self, width: usize, value: u64) -> Result<(), AllocError>
         requires width { width ≤ 64 }
         requires fits { value < 2 ^ width }
@@ -90,11 +101,14 @@ impl Bits {
         ensures ok { OnOk result (self.new ≡ self.old ++ num width value) }
         ensures err { OnErr result (self.new ≡ self.old) }
     {
-        let len = self.len + width;
-        self.bytes.resize(len.div_ceil(8), 0)?;
-        inner::write(self.bytes.as_mut_slice(), self.len, width, value);
-        self.len = len;
-        Ok(())
+        if self.many.is_empty() && self.few.has_room(width) {
+            self.few.push_number(width, value);
+            return Ok(());
+        }
+        if !self.few.is_empty() {
+            spill(&mut self.few, &mut self.many)?;
+        }
+        self.many.push_number(width, value)
     }
 
     /// Adds the bits of `slice` at the end. On a refusal the bits stay as they were.
@@ -103,34 +117,14 @@ impl Bits {
         ensures ok { OnOk result (self.new ≡ self.old ++ slice.now) }
         ensures err { OnErr result (self.new ≡ self.old) }
     {
-        if self.len == 0 {
-            return self.fill(slice);
+        if self.many.is_empty() && self.few.has_room(slice.len()) {
+            self.few.push_slice(slice);
+            return Ok(());
         }
-        let len = self.len + slice.len();
-        self.bytes.resize(len.div_ceil(8), 0)?;
-        inner::write_slice(self.bytes.as_mut_slice(), self.len, slice);
-        self.len = len;
-        Ok(())
-    }
-
-    /// Takes the bits of `slice` where there are none yet. On a refusal there are none.
-    fn fill(&mut self, slice: &BitSlice<'_>) -> Result<(), AllocError>
-        requires { self.old ≡ [] }
-        ensures ok { OnOk result (self.new ≡ slice.now) }
-        ensures err { OnErr result (self.new ≡ []) }
-    {
-        let len = slice.len();
-        self.bytes.reserve(len.div_ceil(8))?;
-        let mut left = len;
-        while left >= 64 {
-            push_bytes(&mut self.bytes, slice.word(len - left), 8);
-            left -= 64;
+        if !self.few.is_empty() {
+            spill(&mut self.few, &mut self.many)?;
         }
-        if left > 0 {
-            push_bytes(&mut self.bytes, slice.word(len - left), left.div_ceil(8));
-        }
-        self.len = len;
-        Ok(())
+        self.many.push_slice(slice)
     }
 
     /// Keeps the first `len` bits.
@@ -138,30 +132,36 @@ impl Bits {
         requires { len ≤ length self.old }
         ensures { self.new ≡ take len self.old }
     {
-        self.bytes.truncate(len.div_ceil(8));
-        inner::write(self.bytes.as_mut_slice(), len, (8 - len % 8) % 8, 0);
-        self.len = len;
+        if self.many.is_empty() {
+            self.few.truncate(len);
+        } else {
+            self.many.truncate(len);
+        }
     }
 
     /// How many bits these are.
     pub fn len(&self) -> usize
         ensures { result ≡ length self.now }
     {
-        self.len
+        self.few.len() + self.many.len()
     }
 
     /// Whether these are no bits.
     pub fn is_empty(&self) -> bool
         ensures { result ≡ (length self.now == 0) }
     {
-        self.len == 0
+        self.len() == 0
     }
 
     /// All bits as a slice.
     pub fn as_slice(&self) -> BitSlice<'_>
         ensures { result ≡ self.now }
     {
-        BitSlice::whole(self.bytes.as_slice(), self.len)
+        if self.many.is_empty() {
+            self.few.as_slice()
+        } else {
+            self.many.as_slice()
+        }
     }
 }
 
@@ -176,7 +176,7 @@ impl PartialEq for Bits {
     ghost laws = { lists_per (partial_equiv_from_equiv bool_eq_equiv) };
 
     fn eq(&self, other: &Bits) -> bool {
-        self.len == other.len && same_bits(self.bytes.as_slice(), other.bytes.as_slice())
+        self.as_slice() == other.as_slice()
     }
 }
 
@@ -185,33 +185,4 @@ impl Eq for Bits {
     ghost use Rattle.std.specs.Cmp.Lexicographic.{lists_equiv};
 
     ghost laws = { lists_equiv bool_eq_equiv };
-}
-
-/// Adds the first bytes of a word, for which there is room.
-#[inline(always)]
-fn push_bytes(bytes: &mut Vec<u8>, word: u64, count: usize)
-    requires count { count ≤ 8 }
-    requires room { vec_len bytes.old + count ≤ vec_capacity bytes.old }
-    ensures bits { bits bytes.new.items ≡ bits bytes.old.items ++ take (8 * count) (num 64 word) }
-    ensures len { vec_len bytes.new ≡ vec_len bytes.old + count }
-    ensures capacity { vec_capacity bytes.old ≤ vec_capacity bytes.new }
-{
-    match bytes.extend_from_slice(&word.to_be_bytes()[..count]) {
-        Ok(()) => {}
-        Err(_) => unreachable!(),
-    }
-}
-
-/// Whether two lists of bytes have the same bits.
-fn same_bits(left: &[u8], right: &[u8]) -> bool
-    ensures { Decides result (bits left.now ≡ bits right.now) }
-{
-    same_bytes(left, right)
-}
-
-/// Whether two lists of bytes are equal.
-fn same_bytes(left: &[u8], right: &[u8]) -> bool
-    ensures { result ≡ pointwise nat_eq left.now right.now }
-{
-    left == right
 }

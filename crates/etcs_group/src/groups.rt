@@ -49,7 +49,7 @@ impl Group {
     }
 }
 
-/// Balise groups by NID_C and NID_BG, in the order in which they began. A group takes 656 bytes, up to twice that when
+/// Balise groups by NID_C and NID_BG, in the order in which they began. A group takes 720 bytes, up to twice that when
 /// the list has spare room, some 25 bytes for its place, and the memory of its telegrams, at most eight.
 #[derive(Debug, Drop)]
 pub struct Groups {
@@ -143,7 +143,7 @@ impl Groups {
         }
     }
 
-    /// Begins the group of these numbers, and answers its place.
+    /// Begins the group of these numbers, and returns its place.
     fn begin(&mut self, nid_c: u16, nid_bg: u16) -> Result<usize, AllocError>
         requires { HasNone self.old nid_c nid_bg }
         ensures place { IfOk result (λ place. place ≡ length self.old) }

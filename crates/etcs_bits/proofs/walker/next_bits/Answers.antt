@@ -1,7 +1,6 @@
 use Rattle.std.proofs.Common.{◌+◌, ◌-◌, ◌*◌, ◌/◌, ◌%◌, ◌^◌, ◌≤◌, length, take, drop, refl, ap, ◌∙◌, arith}
 use Rattle.std.proofs.lemmas.List.{length-take, length-drop}
 use Rattle.etcs_bits.specs.Bits.{value, bits}
-use Rattle.etcs_bits.proofs.Positions.{length-bits}
 use Rattle.etcs_bits.proofs.Steps.{part-rest}
 use Rattle.etcs_bits.proofs.Words.{word_read}
 use Rattle.etcs_bits.proofs.NextWords.{word_num}

@@ -1,6 +1,6 @@
 use Rattle.std.proofs.Common.{◌≡◌, ◌-◌, ◌+◌, ◌*◌, ◌≤◌, take}
 use Rattle.etcs_bits.specs.Bits.{bits}
-use Rattle.etcs_bits.proofs.bits.Bits.fill.Given as goal
+use Rattle.etcs_bits.proofs.many.Many.fill.Given as goal
 
 abbrev pub invariant-loop-left : goal.invariant-loop-left
 invariant-loop-left l =

@@ -1,10 +1,8 @@
 use Rattle.std.proofs.Common.{◌++◌, sym, ap, ◌∙◌, arith}
 use Rattle.std.proofs.lemmas.List.{with_items_is}
-use Rattle.etcs_bits.specs.Bits.{bits}
 use Rattle.etcs_bits.proofs.Positions.{length-bits}
 use Rattle.etcs_bits.proofs.Owned.{length-owned, grown, pushed}
-use Rattle.std.specs.Vec.{with_items}
-use Rattle.etcs_bits.proofs.bits.Bits.push_slice.Goals as goal
+use Rattle.etcs_bits.proofs.many.Many.push_slice.Goals as goal
 
 pub overflow_add-len : goal.overflow_add-len
 overflow_add-len c = omega (arith, length-owned c.self.inside.bytes.items _ c.self.inside.len c.self.view_is c.self.invariant.0)

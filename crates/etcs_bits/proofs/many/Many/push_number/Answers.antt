@@ -1,11 +1,10 @@
 use Rattle.std.proofs.Common.{◌++◌, ap, ◌∙◌, arith}
 use Rattle.std.proofs.lemmas.List.{with_items_is}
-use Rattle.etcs_bits.specs.Bits.{bits, num}
+use Rattle.etcs_bits.specs.Bits.{num}
 use Rattle.etcs_bits.proofs.Numbers.{length-num}
 use Rattle.etcs_bits.proofs.Positions.{length-bits}
 use Rattle.etcs_bits.proofs.Owned.{length-owned, grown, pushed}
-use Rattle.std.specs.Vec.{with_items}
-use Rattle.etcs_bits.proofs.bits.Bits.push_number.Goals as goal
+use Rattle.etcs_bits.proofs.many.Many.push_number.Goals as goal
 
 pub overflow_add-len : goal.overflow_add-len
 overflow_add-len c = omega (arith, length-owned c.self.inside.bytes.items _ c.self.inside.len c.self.view_is c.self.invariant.0)

@@ -1,10 +1,10 @@
-use Rattle.std.proofs.Common.{◌≡◌, ◌*◌, ◌++◌, length, take, ap, ◌∙◌, arith}
+use Rattle.std.proofs.Common.{◌≡◌, ◌*◌, ◌++◌, take, ap, ◌∙◌, arith}
 use Rattle.std.specs.Int.{to_be_bytes, w64}
-use Rattle.etcs_bits.specs.Bits.{num, bits}
+use Rattle.etcs_bits.specs.Bits.{bits}
 use Rattle.etcs_bits.proofs.ByteBits.{bits-append}
 use Rattle.etcs_bits.proofs.Owned.{bits-take}
 use Rattle.etcs_bits.proofs.WordWrites.{bits-word}
-use Rattle.etcs_bits.proofs.bits.push_bytes.Goals as goal
+use Rattle.etcs_bits.proofs.many.push_bytes.Goals as goal
 
 pub returns-clause-bits : goal.returns-clause-bits
 returns-clause-bits c =

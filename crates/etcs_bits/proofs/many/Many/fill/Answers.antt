@@ -1,11 +1,11 @@
-use Rattle.std.proofs.Common.{◌≡◌, ◌+◌, ◌-◌, ◌*◌, ◌≤◌, ◌<◌, length, take, sym, ap, ◌∙◌, arith}
+use Rattle.std.proofs.Common.{◌≡◌, ◌-◌, ◌*◌, ◌≤◌, ◌<◌, length, take, sym, ap, ◌∙◌, arith}
 use Rattle.std.proofs.lemmas.List.{length-take}
 use Rattle.etcs_bits.specs.Bits.{bits}
 use Rattle.etcs_bits.proofs.Owned.{length-owned, Packed}
 use Rattle.etcs_bits.proofs.Positions.{length-bits}
 use Rattle.etcs_bits.proofs.NextWords.{filled_none, filled_more, filled_last, filled_packed, filled_whole}
-use Rattle.etcs_bits.proofs.bits.Bits.fill.Goals as goal
-use Rattle.etcs_bits.proofs.bits.Bits.fill.Goals.{then-left-gt0, else-left-gt0}
+use Rattle.etcs_bits.proofs.many.Many.fill.Goals as goal
+use Rattle.etcs_bits.proofs.many.Many.fill.Goals.{then-left-gt0, else-left-gt0}
 
 pub loop-left-init : goal.loop-left-init
 loop-left-init c =
@@ -68,7 +68,7 @@ invariant_of-self-2 c =
           rw w.self-inside-is (filled_packed w.push_bytes-then-left-gt0.new.bytes.items seen len (8 * k - left) size close (filled_last seen (bits v.items) (bits w.push_bytes-then-left-gt0.new.bytes.items) (len - left) left k w.word-then-left-gt0.result (omega (arith, i.within, size)) enough most i.filled w.word-then-left-gt0.ensures w.push_bytes-then-left-gt0.ensures.bits)))
       | else-left-gt0 w ↦ rw w.self-inside-is (filled_whole v.items seen len left size (omega (arith, w.if-left-gt0.false)) i.filled)
     ] in
-    (both.0.inside, both.0.short, both.0.clear)
+    (both.0.inside, both.0.short)
 
 pub returns-clause-ok : goal.returns-clause-ok
 returns-clause-ok c =

@@ -176,7 +176,7 @@ pub viable_none : (L : Reading → Type 0) (number taken : ℕ) (xs : List Bool)
 unfolding num
 viable_none L number taken xs le v = let none : taken ≡ 0 = omega arith in rw none v
 
--- what a reader says of the variable that comes next
+-- what a reader says about the variable that comes next
 pub unfinished_owner : (L : Reading → Type 0) → Regular L → (next : Option Var) → ((x : Var) → next ≡ Some x → BeginsWith L x) → (number taken : ℕ) → Unfinished L next number taken → (x : Var) → next ≡ Some x → Owner L (num taken number) x
 unfinished_owner L regular next begins number taken u x e = let (lt, s) = u.inside x e in starts_owner L regular x (begins x e) taken number lt s
 

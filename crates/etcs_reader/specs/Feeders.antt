@@ -20,7 +20,7 @@ abbrev pub all_of : {R : Type 0} → R → FeederValue R
 all_of s = record { rest = s; part = []; count = 0; stop = None }
 
 -- the new bits xs are taken, all or up to the language's end; or the first with which nothing continues is refused, and
--- those in front of it are taken; or memory is refused, and nothing is said of what is left
+-- those before it are taken; or memory is refused, and no clause says what is left
 abbrev pub Feeds : (R : Type 0) → (R → Reading → Type 0) → (R → Option Var) → (R → Reading → R → Type 0) → (R → Type 0) → FeederValue R → List Bool → Result ℕ Stop → FeederValue R → Type 0
 Feeds R left next follows fails old xs (Ok n) new = (new.stop ≡ None) × (new.count ≡ old.count + n) × Takes R left next follows old.rest old.part xs n new.rest new.part
 Feeds R left next follows fails old xs (Err (Refused i x)) new = (new.stop ≡ Some (Refused i x)) × (new.count ≡ i) × (n : ℕ) × (i ≡ old.count + n) × RefusesAt R left follows old.rest old.part xs n x new.rest new.part

@@ -26,10 +26,10 @@ pub enum Stop {
 /// Reads a language from pieces of any length. It keeps none of the bytes: only what is left, with what
 /// that keeps of the variables that were read, and the bits of one unfinished variable.
 ///
-/// After a refused bit it is where the bits in front of that one lead, as if no more had been fed: its
-/// count, its part and what is left speak of these, and the next bit is the refused one. After refused
-/// memory nothing is said of what is left, since a variable may be kept by half; the count is of bits that
-/// continue with the next one. Both answer each later piece alike.
+/// After a refused bit it is in the state after the bits before that one, as if no more had been fed: its
+/// count, its part and what is left are those of these bits, and the next bit is the refused one. After
+/// refused memory no clause says what is left, since a variable may be kept by half; the count is of bits
+/// that continue with the next one. After either, each later piece gets the same result.
 #[derive(Drop)]
 pub struct Feeder<R: Rest> {
     reader: Reader<R>,
@@ -80,7 +80,11 @@ impl<R: Rest> Feeder<R> {
     }
 
     /// A reader that has taken the first `at` bits of a piece, after which this is left, and takes the others; and what
-    /// [`Feeder::feed`] answers of the piece.
+    /// [`Feeder::feed`] answers to the piece.
+    ///
+    /// # Errors
+    ///
+    /// As of [`Feeder::feed`].
     pub fn after(rest: R, at: usize, piece: &[u8]) -> (Feeder<R>, Result<usize, Stop>)
         requires goes { Goes (R.left rest) }
         requires inside { at ≤ length (bits piece.now) }
@@ -172,8 +176,8 @@ impl<R: Rest> Feeder<R> {
         }
     }
 
-    /// How many bits were taken, over all pieces. Where a bit is refused, these are the bits in front of
-    /// it; where memory is, those in front of what couldn't be kept.
+    /// How many bits were taken, over all pieces. If a bit was refused, these are the bits before
+    /// it; if memory was, those before what couldn't be kept.
     pub fn count(&self) -> usize
         ensures { result ≡ self.now.count }
     {

@@ -7,8 +7,8 @@ ghost use Rattle.etcs_reader.specs.Rests.{Goes, LeapsBy};
 use crate::reader::number_at;
 use crate::rest::Rest;
 
-/// Passes the variables whose bits are the first `end` of a piece, one by one, and says whether there are such. Where
-/// there are none, and where memory is refused, nothing is said of what is left.
+/// Passes the variables whose bits are the first `end` of a piece, one by one, and returns whether there are such.
+/// If there are none or memory is refused, it returns false, and no clause says what is left then.
 pub fn pass_front<R: Rest>(rest: &mut R, piece: &[u8], end: usize) -> bool
     requires goes { Goes (R.left rest.old) }
     requires some { 0 < end }

@@ -1,4 +1,4 @@
-//! What a feeder's answers say of all bits that were fed.
+//! What a feeder's answers mean for all bits that were fed.
 
 ghost use Rattle.etcs_reader.specs.Feeders.{FedFrom};
 

@@ -75,7 +75,7 @@ impl<R: Rest> Reader<R> {
         }
     }
 
-    /// How many of `count` bits more are in front of the first with which no number continues, and the
+    /// How many of the next `count` bits come before the first one with which no number continues, and the
     /// number of all bits up to there.
     #[cold]
     #[inline(never)]
@@ -195,8 +195,8 @@ impl<R: Rest> Reader<R> {
     ///
     /// # Errors
     ///
-    /// `Refused` with the first bit with which nothing continues; those in front of it are taken. `Memory`
-    /// with a bit that continues; nothing is said then of what is left.
+    /// `Refused` with the first bit with which nothing continues; those before it are taken. `Memory`
+    /// with a bit that continues; no clause says what is left then.
     pub(crate) fn push(&mut self, piece: &[u8], at: usize) -> Result<usize, Halt>
         requires reader { IsReader R R.left R.next self.old }
         requires inside { at ≤ length (bits piece.now) }

@@ -48,7 +48,7 @@ pub trait Rest {
     ///
     /// # Errors
     ///
-    /// `AllocError` where there is no memory. Nothing is said then of what is left.
+    /// `AllocError` where there is no memory. No clause says what is left then.
     fn pass(&mut self, var: Var, number: u64) -> Result<(), AllocError>
         requires next { next self.old ≡ Some var }
         requires goes { Starts (left self.old) var 0 number }
@@ -62,7 +62,7 @@ pub trait Rest {
     ///
     /// `AllocError` where there is no memory. Something continues with the bit at `at` then, so that a reader
     /// never answers refused memory at a refused bit; no more is asked, since what runs out of memory
-    /// inside of a packet doesn't know its last bits. Nothing is said of what is left.
+    /// inside of a packet doesn't know its last bits. No clause says what is left then.
     fn leap(&mut self, piece: &[u8], at: usize) -> Result<Option<usize>, AllocError>
         requires inside { at < length (bits piece.now) }
         requires small { length (bits piece.now) < 2 ^ 64 }

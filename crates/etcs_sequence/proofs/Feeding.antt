@@ -1,4 +1,4 @@
--- What a reader of any language of values answers.
+-- What a reader of any language of values returns.
 use Rattle.std.proofs.Common.{◌≡◌, ℕ, ◌+◌, ◌-◌, ◌*◌, ◌/◌, ◌%◌, ◌<◌, ◌≤◌, Bool, true, false, List, [], ◌∷◌, ◌++◌, length, take, drop, min, Some, None, Ok, Err, refl, sym, ap, subst, ◌∙◌, arith, append_assoc}
 use Rattle.std.specs.Prelude.{Option, Result, IsTrue, IfSome, IsNone, is_some}
 use Rattle.std.proofs.lemmas.List.{append-nil, length-append, take-append-drop, take_at, take_all, length-take-le, take-take}
@@ -334,7 +334,7 @@ module _ {R V W P : Type 0} {left : R → Reading → Type 0} {next : R → Opti
           );
         }
 
-    -- ---- By what a feeder answers.
+    -- ---- By what a feeder returns.
 
     stops : (stop : Stop) → feeders.Feeds R left next follows fails old xs (Err stop) new → Answer old new piece (Err (fault_by stop))
     stops (Refused i x) (stop, count, n, e, h) = refuses i n x stop count e h

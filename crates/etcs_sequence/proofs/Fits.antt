@@ -75,7 +75,7 @@ run_left (Message way) room (v ∷ vs) r run =
 
 -- ---- Lengths and numbers.
 
--- with no numbers in front
+-- with no numbers before
 pub front_none : (r rest : Reading) (row : Layout) → numbers r ≡ [] → Reads row [] (r ++ rest) → Reads row [] rest
 front_none [] rest row e reads = reads
 front_none (p ∷ r) rest row e reads = absurd cc

@@ -1,4 +1,4 @@
--- What the bits of a packet say of its kind.
+-- The kind of a packet, by its bits.
 use Rattle.std.proofs.Common.{◌≡◌, ℕ, ◌+◌, ◌-◌, ◌≤◌, Bool, List, [], ◌++◌, length, Option, Some, None, refl, sym, ap, subst, ◌∙◌, arith, append-nil}
 use Rattle.std.specs.Prelude.{IsTrue, IfOk, Result, Ok, Err}
 use Rattle.etcs_bits.specs.Bits.{num, value, part}

@@ -40,7 +40,7 @@ ends_then P Q b at mid end x y =
           ∙ ap (λ (t : List Bool). t ++ spelled y.reading) x.bits ∙ ap (λ (t : List Bool). part at m b ++ t) behind ∙ sym (part-add at m n b) ∙ ap (λ k. part at k b) (sym both);
     }
 
--- a variable in front
+-- a variable before
 pub ends_one : (v : Var) (rest : Layout) (before n : ℕ) (b : List Bool) (at end : ℕ) → number_at at (width v) b ≡ Some n → IsTrue (admits v n) → EndsAt (ReadsBy rest n) b (at + width v) end → EndsAt (ReadsBy (one v rest) before) b at end
 ends_one v rest before n b at end found ok y =
     let m = length (spelled y.reading) in
@@ -54,7 +54,7 @@ ends_one v rest before n b at end found ok y =
       bits = ap (λ (t : List Bool). t ++ spelled y.reading) first ∙ ap (λ (t : List Bool). part at (width v) b ++ t) y.bits ∙ sym (part-add at (width v) m b) ∙ ap (λ k. part at k b) (sym both);
     }
 
--- a group in front
+-- a group before
 pub ends_passed : (row group rest : Layout) (g : Guard) (before : ℕ) (b : List Bool) (at mid end : ℕ) → row ≡ guarded g group rest → passes g.test before ≡ true → EndsAt (ReadsBy group before) b at mid → EndsAt (ReadsBy rest before) b mid end → EndsAt (ReadsBy row before) b at end
 ends_passed row group rest g before b at mid end is passed x y =
     let t = ends_then (ReadsBy group before) (ReadsBy rest before) b at mid end x y in

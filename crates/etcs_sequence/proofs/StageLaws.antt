@@ -48,7 +48,7 @@ length_room : (way : Way) (nid room : ℕ) (r : Reading) → LengthLeft (Message
 length_room way nid room r (l, rest, e, (least, most, le, (a, b, f, body, run))) =
     omega (arith, least, le, frame_is way, body_length way nid (l - frame_bits way) a body, run_room way (room - l) b run, ap (λ (t : Reading). length (spelled t)) e, length-sent L_PACKET l rest, ap (λ (t : Reading). length (spelled t)) f, both_length a b)
 
--- in front of L_PACKET are NID_PACKET and, where it is sent, Q_DIR
+-- before L_PACKET are NID_PACKET and, where it is sent, Q_DIR
 direction_room : (way : Way) (nid room : ℕ) (r : Reading) → DirectionLeft (Message way) nid room r → room ≤ length (spelled r) + 15
 direction_room ToTrack nid room r (dir, rest, e, (a, h)) = absurd cc
 direction_room ToTrain nid room r (dir, rest, e, (a, h)) = omega (arith, length_room ToTrain nid room rest h, ap (λ (t : Reading). length (spelled t)) e, length-sent Q_DIR dir rest)

@@ -23,7 +23,7 @@ here_of c (Row nid dir row) f k = row_so_far (way_of c) (row_to (way_of c) nid) 
 here_of c (Kept nid dir left) f k = in_frame (way_of c) nid dir (length k + left) (kept OTHER_DATA k)
 here_of c Closed f k = closing c
 
--- and those of the packets in front
+-- and those of the packets before
 abbrev pub packets_so_far : {P : Type 0} → (P → Form) → Carrier → Stage → List P → List ℕ → List Bool → Reading
 packets_so_far form c s ps f k = readings_to (way_of c) (map (λ p. (form p).value) ps) ++ here_of c s f k
 

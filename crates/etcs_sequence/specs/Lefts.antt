@@ -170,7 +170,7 @@ HoldsAt c s holds q = (vs : List PacketValue) × (f : List ℕ) × (k : List Boo
 
 -- ---- A packet that is whole.
 
--- what an event says of the packet that is being read, of which H holds so much
+-- H holds as much of the packet that is being read as there is after an event
 abbrev pub MayFinish : Way → Holds → Event → Type 0
 MayFinish way H e = (c : Carrier) × (s : Stage) × (vs : List PacketValue) × (f : List ℕ) × (k : List Bool) × (h : Reading) × (way_of c ≡ way) × H vs f k × After c s f k h e
 

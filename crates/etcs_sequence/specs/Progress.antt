@@ -1,4 +1,4 @@
--- What a reader of a language of values stands for, and what a feed answers.
+-- What a reader of a language of values stands for, and what a feed returns.
 use Rattle.std.specs.Prelude.{◌≡◌, ℕ, ◌+◌, ◌*◌, ◌%◌, ◌<◌, ◌≤◌, Bool, true, false, List, ◌++◌, length, take, Option, Some, None, is_some, Result, Ok, Err, IsTrue, if◌then◌else◌}
 use Rattle.etcs_vars.specs.declared.var.Var.{Var}
 use Rattle.etcs_vars.specs.declared.var.Var.TheVariants.{NID_MESSAGE, L_MESSAGE, T_TRAIN, M_ACK, NID_LRBG, NID_ENGINE, NID_EM, Q_ORIENTATION, D_SR, D_REF, Q_STATUS, Q_DIR, PAD, PADDING}
@@ -32,7 +32,7 @@ IsReading (finished v) = ⊥
 IsReading (stopped i x) = ⊥
 IsReading (starved n) = ⊥
 
--- what each later feed answers
+-- what each later feed returns
 abbrev pub fault_of : {V : Type 0} → Progress V → ReadFault
 fault_of (reading b) = Ended
 fault_of (finished v) = Ended
@@ -94,7 +94,7 @@ pub record Reached (L left holds : Reading → Type 0) (far : Reading) (part : L
   pub counted : count ≡ length (spelled far ++ part)
   pub bytes : count % 8 ≡ 0
 
--- between two pieces the bytes are whole; after a refused bit it has counted those in front
+-- between two pieces the bytes are whole; after a refused bit it has counted those before it
 abbrev pub IsReader : (L left holds : Reading → Type 0) → Reading → List Bool → ℕ → Option Stop → Type 0
 IsReader L left holds far part count None = Reached L left holds far part count
 IsReader L left holds far part count (Some (stop.Refused i x)) = count ≡ i

@@ -74,7 +74,7 @@ IsDone IsValue size (Some d) s = IsValue d.0 × (size d.0 ≡ 8 * d.1) × (8 * d
 abbrev pub IsPart : {R W : Type 0} → (R → Reading → Type 0) → (R → Reading → R → Type 0) → (R → Reading → Type 0) → (W → Reading → Type 0) → ℕ → List Bool → R → ℕ → Type 0
 IsPart {R} left follows holds Reads most xs rest n = (n ≤ 8 * most) × (start : R) × Same (left start) (readings_of Reads) × holds start [] × LeapsBy (left rest) (λ p. follows start p rest) xs 0 n
 
--- ---- What a feeder's answer says of an item.
+-- ---- What a feed of an item returns, by the feeder's result.
 
 -- by the variable that comes next
 abbrev pub IsFedTo : {R : Type 0} → (R → Reading → Type 0) → FeederValue R → ℕ → Option Var → Result Fed ReadFault → Type 0

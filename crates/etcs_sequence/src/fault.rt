@@ -1,4 +1,4 @@
-//! What a reader answers where no more is taken.
+//! What a reader returns where no more is taken.
 
 ghost use Rattle.std.specs.Prelude.{◌≡◌};
 ghost use Rattle.etcs_sequence.specs.Progress.{fault_by};
@@ -6,7 +6,7 @@ ghost use Rattle.etcs_sequence.specs.Progress.{fault_by};
 use etcs_reader::Stop;
 use etcs_vars::ReadFault;
 
-/// The fault that a feed answers.
+/// The fault that a feed returns.
 pub fn fault_by(stop: Stop) -> ReadFault
     ensures { result ≡ fault_by stop }
 {

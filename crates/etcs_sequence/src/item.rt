@@ -119,7 +119,8 @@ pub struct ItemReader<R: ItemRest> {
     done: Option<(R::Item, usize)>,
     /// Room for the next item.
     room: Room<R::Packet>,
-    /// What one pass leaves of the first piece, after how many bits: none but while it is fed.
+    /// What is left of the item after one pass over the first piece, and how many bits of the piece the pass took. `None`
+    /// except while that piece is fed.
     part: Option<(R, usize)>,
 }
 
@@ -134,7 +135,7 @@ impl<R: ItemRest> Model for ItemReader<R> {
     ghost invariant = { λ r. IsItemReader R R.Item R.Shown R.Packet R.left R.next R.follows R.fails R.far (R.holds r.size) (R.Reads r.size) R.value R.IsValue R.bits R.made R.store R.Members (R.most r.size) R.least r.feeder × IsDone R.IsValue R.bits r.done (progress_at R.next R.far R.made r.feeder) × (r.part ≡ None) };
 }
 
-/// What a feeder's answer says of an item, which it has whole where nothing is left.
+/// What a feed of the item returns, given the feeder's result: the item is whole where nothing is left.
 fn fed<R: Rest>(feeder: &Feeder<R>, answer: Result<usize, Stop>) -> Result<Fed, ReadFault>
     ensures { IsFed R.left R.next feeder.now answer result }
 {
@@ -147,7 +148,7 @@ fn fed<R: Rest>(feeder: &Feeder<R>, answer: Result<usize, Stop>) -> Result<Fed, 
     }
 }
 
-/// Takes the first piece variable by variable, from where one pass came to.
+/// Takes the first piece variable by variable, from where one pass came to, or from its first bit if `part` is `None`.
 #[cold]
 #[inline(never)]
 fn feed_part<R: ItemRest>(
@@ -173,7 +174,8 @@ fn feed_part<R: ItemRest>(
     }
 }
 
-/// A reader that takes a first piece variable by variable from this bit on, after which this is left, and what it answers.
+/// A reader that has taken the first `at` bits of a first piece, after which `rest` is left, and takes the others variable by
+/// variable; and what it returns for the whole piece.
 fn feed_after<R: ItemRest>(
     size: R::Size,
     rest: R,
@@ -246,7 +248,7 @@ impl<R: ItemRest> ItemReader<R> {
     ///
     /// `Refused` with the first bit, counted from 0 over all pieces, with which no item continues, and the
     /// variable that holds it; `Memory` where memory is refused at a bit with which an item continues; `Ended`
-    /// where the item was whole before. The reader then answers the same to each later piece.
+    /// where the item was whole before. The reader then returns the same for each later piece.
     pub fn feed(&mut self, piece: &[u8]) -> Result<Fed, ReadFault>
         ensures answer { (seen : List Bool) → self.old.progress ≡ reading seen → Feeds (R.Reads self.old.size) R.value R.IsValue R.least seen (bits piece.now) result self.new.progress }
         ensures after { (IsReading self.old.progress → ⊥) → (self.new ≡ self.old) × (result ≡ Err (fault_of self.old.progress)) }

@@ -3,7 +3,7 @@
 //! [`PacketsRest`] is what is left of packets in a room. What is read goes into a [`PacketStore`]:
 //! [`PacketList`] makes packets of it, [`PacketCount`] counts them and takes no memory. [`Packets`] are
 //! those in bytes of the caller's, which aren't copied. `specs/Progress.antt` and `proofs/Feeding.antt` say
-//! what a reader of any such language is and answers.
+//! what a reader of any such language is and returns.
 #![tactic(auto)]
 
 mod count;
@@ -26,7 +26,6 @@ mod run;
 mod stage;
 mod state;
 mod store;
-mod whole;
 
 pub use count::PacketCount;
 pub use etcs_bits::BitSlice;

@@ -18,15 +18,14 @@ ghost use Rattle.etcs_sequence.specs.laws.LeftLaws.{left_regular, left_begins, l
 ghost use Rattle.etcs_sequence.specs.laws.Leaps.{follows_none, follows_along};
 
 use crate::inner::{bits_at, number_at, run_at};
-use crate::run::put_packet;
+use crate::run::take_framed;
 use crate::stage::{Event, Keep, Stage};
 use crate::state::PacketsState;
 use crate::store::PacketStore;
-use crate::whole::{direction_at, length_at};
-use etcs_bits::BitSlice;
+use etcs_bits::next_bits;
 use etcs_reader::Rest;
 use etcs_rows::inner::{Carrier, RowRun};
-use etcs_tables::{CLOSING, CLOSING_BITS, frame_bits};
+use etcs_tables::{CLOSING, CLOSING_BITS};
 use etcs_vars::Var;
 use std::alloc::AllocError;
 
@@ -126,7 +125,7 @@ impl<S: PacketStore> PacketsRest<S> {
         self.left = PacketsState::new(carrier, room);
     }
 
-    /// Takes packet 255, where the piece has it and it may come next, and says how many bits it was.
+    /// Takes packet 255, if the piece has it and it may come next, and returns how many bits it has.
     #[inline]
     fn leap_closing(&mut self, piece: &[u8], at: usize) -> Option<usize>
         requires stage { self.old.left.stage ≡ Stage.Number }
@@ -149,7 +148,12 @@ impl<S: PacketStore> PacketsRest<S> {
         Some(CLOSING_BITS)
     }
 
-    /// Takes the packet that begins at `at`, where it lies whole in the piece, and says how many bits it was.
+    /// Takes the packet with a frame that begins at `at`, if it lies whole in the piece, and returns how many bits it has. It
+    /// may always return `None`.
+    ///
+    /// # Errors
+    ///
+    /// If memory is refused. Nothing more is wanted then, and no clause says what the store holds.
     fn leap_packet(&mut self, piece: &[u8], at: usize) -> Result<Option<usize>, AllocError>
         requires stage { self.old.left.stage ≡ Stage.Number }
         requires inside { at < length (bits piece.now) }
@@ -159,24 +163,55 @@ impl<S: PacketStore> PacketsRest<S> {
         ensures err { OnErr result S.fails }
         ensures viable { OnErr result (Viable (left_of self.old.left.carrier self.old.left.room self.old.left.stage) (part at 1 (bits piece.now))) }
     {
-        let Some(len) = length_at(self.left.carrier, self.left.room, piece, at) else {
+        let word = next_bits(piece, at);
+        let (carrier, room) = (self.left.carrier, self.left.room);
+        let count = piece.len() * 8 - at;
+        let taken = stored!(
+            self,
+            take_framed(&mut self.store, carrier, room, count, piece, at, word)
+        );
+        let Some(len) = taken else {
             return Ok(None);
         };
-        let way = self.left.carrier.way();
-        let frame = frame_bits(way);
-        let nid = number_at(piece, at, 8) as u8;
-        let dir = direction_at(way, piece, at);
-        let body = bits_at(piece, at + frame, len - frame);
-        let put = stored!(self, put_packet(&mut self.store, way, nid, dir, body));
-        if !put {
-            return Ok(None);
-        }
         self.left.skip(len);
         Ok(Some(len))
     }
 
-    /// Takes the next variables of a row as far as the piece has them whole, where the row can end in its bits after them,
-    /// and says how many bits they were.
+    /// Takes packets from `at` on, one after another, up to the first that [`PacketsRest::leap_packet`] doesn't take, and
+    /// returns how many bits they have; `None` if it takes none.
+    ///
+    /// # Errors
+    ///
+    /// As of [`PacketsRest::leap_packet`].
+    fn leap_packets(&mut self, piece: &[u8], at: usize) -> Result<Option<usize>, AllocError>
+        requires stage { self.old.left.stage ≡ Stage.Number }
+        requires inside { at < length (bits piece.now) }
+        requires small { length (bits piece.now) < 2 ^ 64 }
+        ensures none { IfOk result (λ o. IsNone o → self.new ≡ self.old) }
+        ensures some { IfOk result (λ o. IfSome o (λ n. Leaps self.old.left (S.holds self.old.store) self.new.left (S.holds self.new.store) (bits piece.now) at n)) }
+        ensures err { OnErr result S.fails }
+        ensures viable { OnErr result (Viable (left_of self.old.left.carrier self.old.left.room self.old.left.stage) (part at 1 (bits piece.now))) }
+    {
+        let end = piece.len() * 8;
+        let mut place = at;
+        while place < end && self.left.is_at_number() {
+            match self.leap_packet(piece, place)? {
+                Some(count) => place += count,
+                None => break,
+            }
+        }
+        if place == at {
+            return Ok(None);
+        }
+        Ok(Some(place - at))
+    }
+
+    /// Takes the next variables of a row as far as the piece has them whole, if the row can end in its bits after them, and
+    /// returns how many bits they have.
+    ///
+    /// # Errors
+    ///
+    /// If memory is refused. Nothing more is wanted then, and no clause says what the store holds.
     #[inline(never)]
     fn leap_row(
         &mut self,
@@ -210,7 +245,11 @@ impl<S: PacketStore> PacketsRest<S> {
         Ok(Some(taken))
     }
 
-    /// Takes a run of OTHER_DATA, of which `left` bits are wanted, and says how many bits it was.
+    /// Takes a run of OTHER_DATA, of which `left` bits are wanted, and returns how many bits it took.
+    ///
+    /// # Errors
+    ///
+    /// If memory is refused. Nothing more is wanted then, and no clause says what the store holds.
     fn leap_kept(
         &mut self,
         nid: u8,
@@ -286,7 +325,7 @@ impl<S: PacketStore> Rest for PacketsRest<S> {
         match &self.left.stage {
             Stage::Number => match self.leap_closing(piece, at) {
                 Some(count) => Ok(Some(count)),
-                None => self.leap_packet(piece, at),
+                None => self.leap_packets(piece, at),
             },
             Stage::Kept(nid, dir, left) => {
                 let (nid, dir, left) = (*nid, *dir, *left);

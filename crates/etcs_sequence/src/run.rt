@@ -1,10 +1,10 @@
-//! All packets of a room, in one pass over a piece that holds them.
+//! Packets that lie whole in a piece, and all packets of a room in one pass.
 
-ghost use Rattle.std.specs.Prelude.{◌≡◌, ◌≤◌, ◌<◌, ◌+◌, ◌-◌, ◌^◌, [], None, ℕ, Bool, false, List, length, IsTrue, IfOk, IfSome, IsNone, OnErr};
+ghost use Rattle.std.specs.Prelude.{◌≡◌, ◌≤◌, ◌<◌, ◌+◌, ◌-◌, ◌^◌, [], None, ℕ, Bool, false, List, length, IsTrue, IfOk, IfSome, IsNone, OnOk, OnErr};
 ghost use Rattle.etcs_bits.specs.Bits.{bits};
 ghost use Rattle.etcs_bits.specs.NextBits.{AreNext};
 ghost use Rattle.etcs_vars.specs.Reading.{spelled};
-ghost use Rattle.etcs_tables.specs.Frames.{kept_limit};
+ghost use Rattle.etcs_tables.specs.Frames.{frame_bits, kept_limit};
 ghost use Rattle.etcs_tables.specs.declared.row.Way.TheVariants.{ToTrain};
 ghost use Rattle.etcs_rows.specs.declared.frames.Carrier.TheVariants.{Telegram};
 ghost use Rattle.etcs_rows.specs.Frames.{way_of, may_be_left};
@@ -14,14 +14,13 @@ ghost use Rattle.etcs_sequence.specs.AtOnce.{IsFrameIn, IsPut, WholeAt, RunIs, C
 
 use crate::inner::bits_at;
 use crate::store::PacketStore;
-use crate::whole::may_be_left;
 use etcs_bits::{BitSlice, next_bits};
 use etcs_flat::inner::check_other;
 use etcs_rows::inner::{Carrier, MOST_PADDING};
 use etcs_tables::{CLOSING, CLOSING_BITS, MARKER_BITS, Way, frame_bits};
 use std::alloc::AllocError;
 
-/// What is in front of a packet's variables or kept bits: its number, its direction, which is 0 to the track, and how
+/// What comes before a packet's variables or kept bits: its number, its direction, which is 0 to the track, and how
 /// many bits it has.
 #[derive(Clone, Copy)]
 struct Frame {
@@ -73,12 +72,30 @@ fn closes(carrier: Carrier, left: usize, word: u64) -> bool
     }
 }
 
+/// Keeps the bits after L_PACKET, if there are any.
+///
+/// # Errors
+///
+/// If memory is refused. No clause says what the store holds then.
+#[inline(always)]
+fn keep_bits<S: PacketStore>(store: &mut S, body: &BitSlice<'_>) -> Result<(), AllocError>
+    requires small { length body.now ≤ 8191 }
+    requires held { ∥ ((vs : List PacketValue) × S.holds store.old vs [] []) ∥₁ }
+    ensures ok { OnOk result ((vs : List PacketValue) → S.holds store.old vs [] [] → S.holds store.new vs [] body.now) }
+    ensures err { OnErr result S.fails }
+{
+    if body.is_empty() {
+        return Ok(());
+    }
+    store.bits(body)
+}
+
 /// Keeps the packet of this number and direction with these bits after L_PACKET, where it isn't typed, and says whether it
 /// may be kept. Where it may not, the store stays as it was.
 ///
 /// # Errors
 ///
-/// Where memory is refused. Nothing is said of what the store holds then.
+/// If memory is refused. No clause says what the store holds then.
 #[inline(never)]
 fn keep_packet<S: PacketStore>(
     store: &mut S,
@@ -97,7 +114,7 @@ fn keep_packet<S: PacketStore>(
         Ok(()) => {}
         Err(_) => return Ok(false),
     }
-    store.bits(body)?;
+    keep_bits(store, body)?;
     store.kept(nid, dir)?;
     Ok(true)
 }
@@ -107,9 +124,9 @@ fn keep_packet<S: PacketStore>(
 ///
 /// # Errors
 ///
-/// Where memory is refused. Nothing is said of what the store holds then.
+/// If memory is refused. No clause says what the store holds then.
 #[inline(always)]
-pub(crate) fn put_packet<S: PacketStore>(
+fn put_packet<S: PacketStore>(
     store: &mut S,
     way: Way,
     nid: u8,
@@ -135,7 +152,7 @@ pub(crate) fn put_packet<S: PacketStore>(
 ///
 /// # Errors
 ///
-/// Where memory is refused. Nothing is said of what the store holds then.
+/// If memory is refused. No clause says what the store holds then.
 #[inline(never)]
 fn take_marker<S: PacketStore>(
     store: &mut S,
@@ -157,6 +174,17 @@ fn take_marker<S: PacketStore>(
     Ok(Some(MARKER_BITS))
 }
 
+/// Whether this many bits may be left after a packet.
+#[inline(always)]
+fn may_be_left(carrier: Carrier, left: usize) -> bool
+    ensures { result ≡ may_be_left carrier left }
+{
+    match carrier {
+        Carrier::Telegram => left >= CLOSING_BITS,
+        Carrier::Message(way) => left <= MOST_PADDING || left >= frame_bits(way),
+    }
+}
+
 /// Whether a packet of this many bits lies in the room and leaves what may be left of it.
 #[inline(always)]
 fn fits(carrier: Carrier, room: usize, len: usize) -> bool
@@ -170,12 +198,56 @@ fn fits(carrier: Carrier, room: usize, len: usize) -> bool
     }
 }
 
+/// Takes the packet with a frame that begins at `at`, where it lies whole in this many bits of the piece, and in the room,
+/// and leaves what may be left of that; and says how many bits it has. The word has its first bits. It may always return
+/// `None`, and then the store stays as it was.
+///
+/// # Errors
+///
+/// If memory is refused. No clause says what the store holds then.
+#[inline(always)]
+pub(crate) fn take_framed<S: PacketStore>(
+    store: &mut S,
+    carrier: Carrier,
+    room: usize,
+    count: usize,
+    piece: &[u8],
+    at: usize,
+    word: u64,
+) -> Result<Option<usize>, AllocError>
+    requires way { way_of carrier ≡ S.WAY }
+    requires inside { at + count ≤ length (bits piece.now) }
+    requires small { length (bits piece.now) < 2 ^ 64 }
+    requires room { room ≤ 8191 }
+    requires word { AreNext word (bits piece.now) at }
+    requires held { ∥ ((vs : List PacketValue) × S.holds store.old vs [] []) ∥₁ }
+    ensures within { IfOk result (λ o. IfSome o (λ n. (0 < n) × (n ≤ room) × (n ≤ count))) }
+    ensures left { IfOk result (λ o. IfSome o (λ n. IsTrue (may_be_left carrier (room - n)))) }
+    ensures whole { IfOk result (λ o. IfSome o (λ n. WholeAt carrier (S.holds store.old) (S.holds store.new) (bits piece.now) at n)) }
+    ensures none { IfOk result (λ o. IsNone o → store.new ≡ store.old) }
+    ensures err { OnErr result S.fails }
+    ensures viable { OnErr result ((len : ℕ) × (frame_bits (way_of carrier) ≤ len) × (len ≤ room) × IsTrue (may_be_left carrier (room - len))) }
+{
+    let way = carrier.way();
+    let Frame { nid, dir, len } = frame_in(way, word);
+    let front = frame_bits(way);
+    if len < front || len > count || !fits(carrier, room, len) {
+        return Ok(None);
+    }
+    let body = bits_at(piece, at + front, len - front);
+    let put = put_packet(store, way, nid, dir, body)?;
+    if put {
+        return Ok(Some(len));
+    }
+    Ok(None)
+}
+
 /// Takes the packet that begins at `at`, where it lies whole in the room and leaves what may be left of it, and says how many
 /// bits it has. The word has its first bits. It may always return `None`, and then the store stays as it was.
 ///
 /// # Errors
 ///
-/// Where memory is refused. Nothing is said of what the store holds then.
+/// If memory is refused. No clause says what the store holds then.
 #[inline(always)]
 fn take_packet<S: PacketStore>(
     store: &mut S,
@@ -197,21 +269,9 @@ fn take_packet<S: PacketStore>(
     ensures none { IfOk result (λ o. IsNone o → store.new ≡ store.old) }
 {
     match carrier {
-        Carrier::Telegram if word >> 56 == 0 => return take_marker(store, room, word),
-        _ => {}
+        Carrier::Telegram if word >> 56 == 0 => take_marker(store, room, word),
+        _ => take_framed(store, carrier, room, room, piece, at, word),
     }
-    let way = carrier.way();
-    let Frame { nid, dir, len } = frame_in(way, word);
-    let front = frame_bits(way);
-    if len < front || !fits(carrier, room, len) {
-        return Ok(None);
-    }
-    let body = bits_at(piece, at + front, len - front);
-    let put = put_packet(store, way, nid, dir, body)?;
-    if put {
-        return Ok(Some(len));
-    }
-    Ok(None)
 }
 
 /// How far packets were taken in one pass.
@@ -224,8 +284,8 @@ pub enum Run {
 }
 
 /// Takes the packets of a room, which begins at `at`, with what closes them, and says how far it came. It may always return
-/// `None`, and then nothing is said of what the store holds: as where the first bits aren't those of a packet, and where
-/// memory is refused.
+/// `None`, and then no clause says what the store holds: as where the first bits aren't those of a packet, and where memory is
+/// refused.
 pub fn take_run<S: PacketStore>(
     store: &mut S,
     carrier: Carrier,

@@ -98,6 +98,17 @@ impl PacketsState {
         }
     }
 
+    /// Whether NID_PACKET comes next.
+    #[inline]
+    pub(crate) fn is_at_number(&self) -> bool
+        ensures { IsTrue result ↔ (self.now.stage ≡ Stage.Number) }
+    {
+        match &self.stage {
+            Stage::Number => true,
+            _ => false,
+        }
+    }
+
     /// Where the number of the variable that comes next is kept.
     pub(crate) fn keeps(&self) -> Keep
         ensures { result ≡ keeps_at self.now.stage }

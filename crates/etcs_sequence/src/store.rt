@@ -13,7 +13,7 @@ use etcs_bits::BitSlice;
 use std::alloc::AllocError;
 
 /// Where packets go as they are read: first the numbers of a typed packet's row, or the bits of one that is
-/// kept, and then the packet that they make. Where memory is refused, nothing is said of what it holds.
+/// kept, and then the packet that they make. If memory is refused, no clause says what it holds.
 pub trait PacketStore {
     ghost use Rattle.etcs_tables.specs.declared.row.Way.{Way};
 

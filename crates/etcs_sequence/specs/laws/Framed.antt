@@ -50,7 +50,7 @@ pub frame_between : (way : Way) → (21 ≤ frame_bits way) × (frame_bits way �
 frame_between ToTrain = (omega arith, omega arith)
 frame_between ToTrack = (omega arith, omega arith)
 
--- NID_PACKET is in front of L_PACKET
+-- NID_PACKET comes before L_PACKET
 pub frame_head : (way : Way) → 8 ≤ head_bits way
 frame_head ToTrain = omega arith
 frame_head ToTrack = omega arith

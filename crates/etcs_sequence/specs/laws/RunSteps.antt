@@ -40,7 +40,7 @@ fills_before (Message way) room l m le h = (omega (arith, le, h.0), omega (arith
 
 -- ---- NID_PACKET.
 
--- one packet in front of a run
+-- one packet before a run
 pub in_front : (c : Carrier) (room l : ℕ) (v : PacketValue) (q : Reading) → Carries c v → length (spelled (reading_to (way_of c) v)) ≡ l → l ≤ room → PacketsIn c (room - l) q → PacketsIn c room (reading_to (way_of c) v ++ q)
 in_front c room l v q carried len le (vs, run) = (
   v ∷ vs,
@@ -68,7 +68,7 @@ pub framed_carried : (c : Carrier) (v : PacketValue) → IsPacketTo (way_of c) v
 framed_carried Telegram v h f = h
 framed_carried (Message way) v h f = (h, framed_unmarked way (nid_of v) f)
 
--- a typed packet, or one that is kept, in front of a run, is a frame and what is after it
+-- a typed packet, or one that is kept, before a run, is a frame and what is after it
 framed_opens : (c : Carrier) (room nid dir bits : ℕ) (body r q : Reading) → IsTrue (is_framed (way_of c) nid) → IsTrue (is_direction (way_of c) dir) → bits ≤ kept_limit (way_of c) → BodyIn (way_of c) nid bits body → frame_bits (way_of c) + bits ≤ room → PacketsIn c (room - (frame_bits (way_of c) + bits)) q → r ≡ in_frame (way_of c) nid dir bits body ++ q
     → (n : ℕ) × (r' : Reading) × (r ≡ (NID_PACKET, n) ∷ r') × (n < 2 ^ 8) × AfterNumber c room n r'
 framed_opens c room nid dir bits body r q framed a short b le run e =

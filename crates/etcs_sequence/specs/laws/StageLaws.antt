@@ -1,4 +1,4 @@
--- What the stage of packets says of what is left of them.
+-- What is left of packets, by their stage.
 use Rattle.std.proofs.Common.{◌≡◌, ℕ, true, false, Some, None}
 use Rattle.std.specs.Prelude.{IsTrue, Option, is_some, ◌&&◌}
 use Rattle.std.proofs.lemmas.Bool.{and_parts}

@@ -1,1 +1,0 @@
-use Rattle.etcs_reader.proofs.stored.send_bits.Goals as goal

@@ -1,18 +1,10 @@
-use Rattle.std.proofs.Common.{◌≡◌, ℕ, ap, ◌∙◌, ◌++◌, Bool, List, [], None, take, subst}
-use Rattle.std.specs.Prelude.{Option}
+use Rattle.std.proofs.Common.{◌∙◌, ◌++◌, Bool, List, [], take, subst}
 use Rattle.std.proofs.lemmas.List.{append-nil}
 use Rattle.etcs_bits.specs.Bits.{bits}
-use Rattle.etcs_reader.specs.declared.feeder.Stop.{Stop}
 use Rattle.etcs_reader.specs.Readers.{Passed}
-use Rattle.etcs_reader.specs.Feeders.{FeederValue, Feeds, all_of}
+use Rattle.etcs_reader.specs.Feeders.{FeederValue, Feeds}
+use Rattle.etcs_reader.proofs.Leaping.{all_by}
 use Rattle.etcs_reader.proofs.feeder.Feeder.after.Goals as goal
-
-all_by : {R : Type 0} (v : FeederValue R) (r : R) → v.rest ≡ r → v.part ≡ [] → v.count ≡ 0 → v.stop ≡ None → v ≡ all_of r
-all_by {R} v r rest part count stop =
-    ap (λ (x : R). record v { rest = x }) rest
-    ∙ ap (λ (b : List Bool). record v { rest = r; part = b }) part
-    ∙ ap (λ (n : ℕ). record v { rest = r; part = []; count = n }) count
-    ∙ ap (λ (o : Option Stop). record { rest = r; part = []; count = 0; stop = o }) stop
 
 pub returns : goal.returns
 returns g c s l =

@@ -6,7 +6,7 @@ use Rattle.etcs_tables.specs.Frames.{frame_bits, kept_limit}
 use Rattle.etcs_rows.specs.Frames.{way_of}
 use Rattle.etcs_sequence.specs.AtOnce.{FrameAt, IsFrameIn}
 use Rattle.etcs_sequence.proofs.RunLemmas.{word_frame, frame_short}
-use Rattle.etcs_sequence.proofs.run.take_packet.Goals as goal
+use Rattle.etcs_sequence.proofs.run.take_framed.Goals as goal
 
 pub fits-requires : goal.fits-requires
 fits-requires g c = frame_short c.way-way.result c.args.word c.frame_in-nid.result c.frame_in-nid.ensures

@@ -1,3 +1,4 @@
+mod ByteBits
 pub mod Leaving
 pub mod PacketBits
 pub mod PacketLists

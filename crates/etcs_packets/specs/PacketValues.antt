@@ -1,5 +1,5 @@
 -- What a packet stands for: its number, its direction, and its variables or the bits that are kept; and what its own type
--- says of it.
+-- guarantees about it.
 use Rattle.std.specs.Prelude.{◌≡◌, ℕ, ◌+◌, Bool, List, [], ◌∷◌, length, Option, Some, None, IsTrue}
 use Rattle.etcs_vars.specs.declared.var.Var.TheVariants.{NID_VBCMK}
 use Rattle.etcs_vars.specs.Vars.{admits}
@@ -28,7 +28,7 @@ pub data PacketValue : Type 0 where
   typed : ℕ → ℕ → Reading → PacketValue
   kept : ℕ → ℕ → List Bool → PacketValue
 
--- what a packet stands for, and what its own type says of it
+-- the value that a packet stands for, and what its own type guarantees about it
 pub record Form : Type 1 where
   pub value : PacketValue
   pub made : Type 0

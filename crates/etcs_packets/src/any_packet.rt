@@ -28,7 +28,7 @@ pub trait AnyPacket: Sized + Drop {
 
     ghost WAY: { Way };
 
-    /// What it stands for, and what its own type says of it.
+    /// The value that it stands for, and what its own type guarantees about it.
     ghost form: { Self → Form };
 
     /// The packet is one that its own type admits, and stands for a packet.

@@ -19,7 +19,7 @@ pub type Made<P> = Result<Option<P>, AllocError>;
 pub trait Formed {
     ghost use Rattle.etcs_packets.specs.PacketValues.{Form};
 
-    /// What it stands for, and what its own type says of it.
+    /// The value that it stands for, and what its own type guarantees about it.
     ghost form: { Self → Form };
 }
 
@@ -62,7 +62,7 @@ impl<'a> Source for BitSlice<'a> {
     }
 }
 
-/// Says of a typed packet that its variables are its row's.
+/// Shows that the variables of a typed packet are its row's.
 pub fn hold<P: Framed>(packet: &P)
     ensures made { P.is_value packet.now }
     ensures framed { IsFramed P.WAY P.NID (P.direction packet.now) (P.reading_of packet.now) }

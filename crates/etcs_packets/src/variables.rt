@@ -1,7 +1,8 @@
 //! The variables of packets with their numbers: those after the frame, and all with it.
 #![tactic(auto, using(std::proofs::Common::append_assoc))]
 
-ghost use Rattle.std.specs.Prelude.{◌≡◌, ◌∷◌, [], OnOk, OnErr, IfOk, map};
+ghost use Rattle.std.specs.Prelude.{◌≡◌, ◌∷◌, [], OnOk, OnErr, IfOk, map, take};
+ghost use Rattle.etcs_bits.specs.Bits.{num};
 ghost use Rattle.etcs_vars.specs.declared.var.Var.TheVariants.{NID_PACKET, L_PACKET};
 ghost use Rattle.etcs_vars.specs.Reading.{kept};
 ghost use Rattle.etcs_tables.specs.Frames.{directed};
@@ -51,6 +52,43 @@ impl Variables for Packet {
     }
 }
 
+/// The bits of a byte, each as the variable.
+#[inline(always)]
+fn of_byte(var: Var, byte: u64) -> [(Var, u64); 8]
+    ensures { result ≡ kept var (num 8 byte) }
+{
+    [
+        (var, (byte >> 7) % 2),
+        (var, (byte >> 6) % 2),
+        (var, (byte >> 5) % 2),
+        (var, (byte >> 4) % 2),
+        (var, (byte >> 3) % 2),
+        (var, (byte >> 2) % 2),
+        (var, (byte >> 1) % 2),
+        (var, byte % 2),
+    ]
+}
+
+/// Sends eight bits at a time, each as the variable, as long as there are as many, and returns how many it sent.
+///
+/// # Errors
+///
+/// That of the sink.
+fn send_bytes<S: VarSink>(var: Var, bits: &BitSlice<'_>, out: &mut S) -> Result<usize, AllocError>
+    ensures ok { IfOk result (λ n. out.new ≡ S.with out.old (kept var (take n bits.now))) }
+    ensures err { OnErr result (S.failed out.old out.new) }
+{
+    let mut from = 0;
+    while bits.len() - from >= 8 {
+        let Some(byte) = bits.number(from, 8) else {
+            break;
+        };
+        out.send(&of_byte(var, byte))?;
+        from += 8;
+    }
+    Ok(from)
+}
+
 /// Sends bits that are kept, each as the variable.
 ///
 /// # Errors
@@ -60,7 +98,8 @@ pub fn send_bits<S: VarSink>(var: Var, bits: &BitSlice<'_>, out: &mut S) -> Resu
     ensures ok { OnOk result (out.new ≡ S.with out.old (kept var bits.now)) }
     ensures err { OnErr result (S.failed out.old out.new) }
 {
-    for place in 0..bits.len() {
+    let from = send_bytes(var, bits, out)?;
+    for place in from..bits.len() {
         let number = u64::from(bits.bit(place) == Some(true));
         out.send(&[(var, number)])?;
     }

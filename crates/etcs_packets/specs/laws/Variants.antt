@@ -1,4 +1,4 @@
--- Packets of an enum that says of each variant which value it stands for: values that are told apart by their variants.
+-- Packets of an enum that gives for each variant the value that it stands for: values that differ by their variants.
 use Rattle.std.proofs.Common.{◌≡◌, ℕ, zero, suc, ◌==◌, List, [], ◌∷◌, Option, sym, ap, ◌∙◌, arith, inl, inr}
 use Rattle.std.specs.Prelude.{if◌then◌else◌}
 use denote.Struct.Field.{Field}

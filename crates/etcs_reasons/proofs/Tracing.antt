@@ -1,4 +1,4 @@
--- What a reader answers that keeps each variable that it reads.
+-- What a reader returns that keeps each variable that it reads.
 use Rattle.std.proofs.Common.{◌≡◌, ℕ, Bool, List, [], ◌++◌, length, None, refl, ap, subst, ◌∙◌, arith}
 use Rattle.std.specs.Prelude.{Option, Result, ⊤}
 use Rattle.etcs_bits.proofs.Lists.{length-part}
@@ -9,15 +9,8 @@ use Rattle.etcs_reader.specs.declared.feeder.Stop.{Stop}
 use Rattle.etcs_reader.specs.declared.stored.Stored.{Stored}
 use Rattle.etcs_reader.specs.Rests.{LeapsBy}
 use Rattle.etcs_reader.specs.Feeders.{FeederValue, Feeds, all_of}
+use Rattle.etcs_reader.proofs.Leaping.{all_by}
 use Rattle.etcs_reasons.specs.Traces.{Fed}
-
--- a reader that has taken nothing
-all_by : {S : Type 0} (v : FeederValue S) (s : S) → v.rest ≡ s → v.part ≡ [] → v.count ≡ 0 → v.stop ≡ None → v ≡ all_of s
-all_by {S} v s rest part count stop =
-    ap (λ (x : S). record v { rest = x }) rest
-    ∙ ap (λ (b : List Bool). record v { rest = s; part = b }) part
-    ∙ ap (λ (n : ℕ). record v { rest = s; part = []; count = n }) count
-    ∙ ap (λ (o : Option Stop). record { rest = s; part = []; count = 0; stop = o }) stop
 
 module _ {R : Type 0} (left : R → Reading → Type 0) (next : R → Option Var) (follows : R → Reading → R → Type 0) (L : Reading → Type 0) (xs : List Bool) (answer : Result ℕ Stop) (new : FeederValue (Stored R Reading)) where
   abbrev pub FedTo : FeederValue (Stored R Reading) → Type 0
@@ -32,7 +25,7 @@ module _ {R : Type 0} (left : R → Reading → Type 0) (next : R → Option Var
     feeds = subst FedTo (all_by old (record { rest = s; store = r }) rest part count stop) feeds;
   }
 
-  -- from the bit at on, where the variables in front of it were kept
+  -- from the bit at on, where the variables before it were kept
   pub fed_after : (start rest : R) (kept : Reading) (at : ℕ) (leap : LeapsBy (left rest) (λ p. follows start p rest) xs 0 at) → Same (left start) L → kept ≡ leap.whole → ((s : Stored R Reading) → LeapsBy (left rest) (λ p. follows s.rest p rest × (kept ≡ s.store ++ p)) xs 0 at → FedTo (all_of s)) → Fed R left next follows L xs answer new
   fed_after start rest kept at leap same is feeds = record {
     start = record { rest = start; store = [] };
@@ -41,6 +34,6 @@ module _ {R : Type 0} (left : R → Reading → Type 0) (next : R → Option Var
     feeds = feeds (record { rest = start; store = [] }) (record { some = leap.some; inside = leap.inside; goes = leap.goes; whole = leap.whole; follows = (leap.follows, is); bits = leap.bits });
   }
 
--- the variables of the first n bits have so many
+-- the variables of the first n bits have n bits
 pub leapt_length : (Left Follows : Reading → Type 0) (xs : List Bool) (n : ℕ) (leap : LeapsBy Left Follows xs 0 n) → length (spelled leap.whole) ≡ n
 leapt_length Left Follows xs n leap = ap length leap.bits ∙ length-part 0 n xs (omega (arith, leap.inside))

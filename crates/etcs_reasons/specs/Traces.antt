@@ -1,4 +1,4 @@
--- What a reader answers that keeps each variable that it reads.
+-- What a reader returns that keeps each variable that it reads.
 use Rattle.std.specs.Prelude.{◌≡◌, ℕ, Bool, List, [], ◌++◌, Option, Result, ⊤}
 use Rattle.etcs_vars.specs.declared.var.Var.{Var}
 use Rattle.etcs_vars.specs.Reading.{Reading}

@@ -103,13 +103,13 @@ impl VarSink for Trace {
 
 /// What is left of an item, which can send the variables that were read.
 trait Traced: ItemRest {
-    /// How many bits are in front of the packets of an item that these bytes begin with. `None` where it has no packets, and
+    /// How many bits come before the packets of an item that these bytes begin with. `None` where it has no packets, and
     /// where the bytes don't have them all.
     fn front(bytes: &[u8]) -> Option<usize>
         requires { length bytes.now ≤ 1023 }
         ensures { IfSome result (λ n. (0 < n) × (n ≤ 8 * length bytes.now)) };
 
-    /// Sends the variables that were read, which take this many bits; or answers false.
+    /// Sends the variables that were read, which take this many bits; or returns false.
     ///
     /// # Errors
     ///
@@ -152,7 +152,8 @@ impl<H: Head, B: Own<Front = H>> Traced for MessageRest<H, B> {
     ghost held = { λ size s t p q h k. (h.same ∙ k.0, h.held q k.1) };
 }
 
-/// A reader of the bytes that keeps each variable, and what it answers of them: an item of this size from its first bit.
+/// Feeds the bytes to a reader of an item of this size, which keeps each variable, from the first bit on. Returns the reader
+/// and the result.
 fn fed_first<R: ItemRest>(
     alloc: Global,
     size: R::Size,
@@ -172,11 +173,12 @@ fn fed_first<R: ItemRest>(
     (feeder, fed)
 }
 
-/// Takes whole packets from the bit `at` on, as far as the bytes have such, and what closes them, and says up to which bit.
+/// Takes whole packets from the bit `at` on, as far as [`Rest::leap`] takes them, and what closes them, and returns the bit
+/// after them.
 ///
 /// # Errors
 ///
-/// If memory is refused. Nothing is said of what is left then.
+/// If memory is refused. No clause says what is left then.
 fn leap_packets<R: Rest>(rest: &mut R, bytes: &[u8], at: usize) -> Result<usize, AllocError>
     requires goes { Goes (R.left rest.old) }
     requires inside { at ≤ length (bits bytes.now) }
@@ -194,8 +196,8 @@ fn leap_packets<R: Rest>(rest: &mut R, bytes: &[u8], at: usize) -> Result<usize,
     Ok(at)
 }
 
-/// What is left of an item of this size after its front and the whole packets that the bytes have, and after how many bits.
-/// `None` where the bytes don't begin with all of a front.
+/// What is left of an item of this size after the variables before the packets and the whole packets that the bytes have, and
+/// after how many bits. `None` if the bytes don't have all variables before the packets.
 ///
 /// # Errors
 ///
@@ -220,7 +222,11 @@ fn packets_of<R: Traced>(
     Ok(Some((rest, at)))
 }
 
-/// As [`fed_first`], from the bit on up to which the bytes have whole packets.
+/// As [`fed_first`], but the variables before the packets and the whole packets are taken at once if they can be.
+///
+/// # Errors
+///
+/// If memory is refused before a reader is made.
 fn fed_all<R: Traced>(
     alloc: Global,
     size: R::Size,
@@ -242,6 +248,10 @@ fn fed_all<R: Traced>(
 }
 
 /// The account of the bytes that such a reader took.
+///
+/// # Errors
+///
+/// If memory is refused.
 fn account_by<R: ItemRest>(
     feeder: Feeder<Stored<R, Trace>>,
     fed: Result<usize, Stop>,
@@ -262,6 +272,10 @@ fn account_by<R: ItemRest>(
 }
 
 /// The account of the item of this size that the bytes begin with.
+///
+/// # Errors
+///
+/// If memory is refused.
 fn account_of<R: Traced>(alloc: Global, size: R::Size, bytes: &[u8]) -> Result<Account, AllocError>
     requires goes { Goes (readings_of (R.Reads size)) }
     requires short { length bytes.now ≤ 1023 }

@@ -26,11 +26,11 @@ pub(crate) struct Front {
 }
 
 impl Front {
-    /// What is known after these variables.
-    pub(crate) fn new(kind: Kind, fields: &[(Var, u64)]) -> Front {
+    /// What is known after these variables, which have this many bits.
+    pub(crate) fn new(kind: Kind, fields: &[(Var, u64)], bit: usize) -> Front {
         let mut front = Front {
             kind,
-            bit: 0,
+            bit,
             end: user_bits(kind),
             message: 0,
             packet: 0,
@@ -38,20 +38,41 @@ impl Front {
             length: 0,
             place: None,
         };
-        // L_PACKET of the last packet, where it is there.
-        let mut length = None;
-        for (at, (var, number)) in fields.iter().enumerate() {
-            front.pass(*var, *number);
+        for (var, number) in fields.iter().take(2) {
             match *var {
-                Var::NID_PACKET => length = None,
-                Var::L_PACKET => length = Some(at),
+                Var::NID_MESSAGE => front.message = low_byte(*number),
+                Var::L_MESSAGE => front.end = (*number & 1023) as usize * 8,
                 _ => {}
             }
         }
-        if let Some(at) = length {
-            front.place = front.place_after(fields, at.saturating_add(1));
+        let last = fields
+            .iter()
+            .rev()
+            .take_while(|field| field.0 != Var::NID_PACKET)
+            .count();
+        let (before, packet) = fields.split_at(fields.len().saturating_sub(last));
+        if let Some((Var::NID_PACKET, number)) = before.last() {
+            front.pass_packet(low_byte(*number), packet);
         }
         front
+    }
+
+    /// What is known after the last NID_PACKET, which has this number, and the variables after it.
+    fn pass_packet(&mut self, packet: u8, fields: &[(Var, u64)]) {
+        self.packet = packet;
+        let mut bits = Var::NID_PACKET.width();
+        let mut length = None;
+        for (at, (var, number)) in fields.iter().enumerate() {
+            bits = bits.saturating_add(var.width());
+            if *var == Var::L_PACKET {
+                self.length = (*number & 8191) as usize;
+                length = Some(at);
+            }
+        }
+        self.start = self.bit.saturating_sub(bits);
+        if let Some(at) = length {
+            self.place = self.place_after(fields, at.saturating_add(1));
+        }
     }
 
     /// What is left of the last packet's row after the numbers of the fields from this one on, where it is typed.
@@ -63,20 +84,5 @@ impl Front {
             }
         }
         Some(place)
-    }
-
-    /// What is known after one more variable.
-    fn pass(&mut self, var: Var, number: u64) {
-        match var {
-            Var::NID_MESSAGE => self.message = low_byte(number),
-            Var::L_MESSAGE => self.end = (number & 1023) as usize * 8,
-            Var::NID_PACKET => {
-                self.packet = low_byte(number);
-                self.start = self.bit;
-            }
-            Var::L_PACKET => self.length = (number & 8191) as usize,
-            _ => {}
-        }
-        self.bit = self.bit.saturating_add(var.width());
     }
 }

@@ -3,7 +3,7 @@
 use crate::account::End;
 use crate::text::Text;
 
-/// What is in front of the first item.
+/// What comes before the first item.
 pub static HEAD: &str = "<!doctype html>
 <html lang=en><meta charset=utf-8><meta name=viewport content='width=device-width'><title>etcs explain: balise telegrams and radio messages</title>
 <style>

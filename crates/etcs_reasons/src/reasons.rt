@@ -133,7 +133,7 @@ fn write_no_packet_begins(kind: Kind, room: usize, out: &mut Text)
     }
 }
 
-/// Appends how many bits a packet of this number has, and answers the least.
+/// Appends how many bits a packet of this number has, and returns the least.
 fn write_least(way: Way, nid: u8, out: &mut Text) -> usize {
     let frame = frame_bits(way);
     write!(out, "packet {nid} has ");
@@ -328,7 +328,7 @@ fn is_begun(bytes: &[u8], start: usize, var: Var, count: usize) -> bool {
     }
 }
 
-/// Appends why a bit of the variable is refused after the variables in front; these bits of the variable come before it. The
+/// Appends why a bit of the variable is refused after the variables before it; these bits of the variable come before it. The
 /// sentence has no capital and no full stop.
 pub(crate) fn write_reason(front: &Front, bytes: &[u8], part: Part, out: &mut Text)
     ensures { IsWritten out.new }

@@ -102,7 +102,7 @@ fn write_open(kind: Kind, bytes: &[u8], out: &mut Text) {
     write!(out, " {} here", is_or_are(count));
 }
 
-/// Appends why the bytes of an account are no item of the kind, and answers what this most often comes of in such a kind.
+/// Appends why the bytes of an account are no item of the kind, and returns what this most often comes of in such a kind.
 fn write_end(kind: Kind, bytes: &[u8], account: &Account, out: &mut Text) -> Option<&'static str>
     ensures { (bit : ℕ) (part : Part) → account.now.end ≡ End.Refused bit part → IsWritten out.new }
 {
@@ -112,16 +112,17 @@ fn write_end(kind: Kind, bytes: &[u8], account: &Account, out: &mut Text) -> Opt
             write_open(kind, bytes, out);
             None
         }
-        End::Refused(_, part) => {
-            let front = Front::new(kind, account.fields.as_slice());
+        End::Refused(bit, part) => {
+            let before = bit.saturating_sub(part.count);
+            let front = Front::new(kind, account.fields.as_slice(), before);
             write_reason(&front, bytes, part, out);
             often(kind, bytes, part.var)
         }
     }
 }
 
-/// Appends why the bytes of an account are no item, and answers what this most often comes of. Of an item nothing is
-/// appended, and the answer is what it most often is where it is kept as bits.
+/// Appends why the bytes of an account are no item, and returns what this most often comes of. Of an item nothing is
+/// appended, and the result is what it most often is where it is kept as bits.
 ///
 /// # Errors
 ///

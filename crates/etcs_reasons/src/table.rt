@@ -36,7 +36,7 @@ fn is_padding(var: Var) -> bool {
     matches!(var, Var::FILL | Var::PADDING | Var::PAD)
 }
 
-/// What the variables in front of the packets are, of an item that begins with this variable.
+/// What the variables before the packets are, of an item that begins with this variable.
 fn header_of(way: Way, first: Option<Var>) -> &'static str {
     match (way, first) {
         (Way::ToTrain, Some(Var::NID_MESSAGE)) => "header of a message to the train",
@@ -107,7 +107,7 @@ impl<'a> Table<'a> {
         }
     }
 
-    /// Passes this many variables with this many bits, and answers the first and the last of the bits.
+    /// Passes this many variables with this many bits, and returns the first and the last of the bits.
     fn pass(&mut self, count: usize, bits: usize) -> (usize, usize) {
         let first = self.bit;
         self.at = self.at.saturating_add(count);

@@ -1,7 +1,7 @@
 use Rattle.std.proofs.Common.{arith}
 use Rattle.etcs_bits.specs.Bits.{bits}
 use Rattle.etcs_bits.proofs.Positions.{length-bits}
-use Rattle.etcs_messages.proofs.Parts.{leaps_both}
+use Rattle.etcs_reader.proofs.Leaping.{leaps_both}
 use Rattle.etcs_reasons.proofs.account.leap_packets.Goals as goal
 
 pub overflow_mul-end : goal.overflow_mul-end

@@ -39,13 +39,15 @@ static size_t item(uint8_t *bytes, const char *digits)
 /* message 24 with packet 137; a short telegram with packet 44; message 136 with packet 0 */
 static const char *RADIO = "18034000000000080031280620", *SHORT = "A0007F802000CB200C7FFFFFFFFFFFFFFFFFFFFFFFFFFFFFFFFFC0";
 static const char *TRAIN = "8806800078900001348001028C610000FA5000A0015028061060";
+/* a short telegram with packet 44 of 57 kept bits, which lie in an allocation, and 72 bits of FILL */
+static const char *KEPT = "A0007F802000CB20287FFFFFFFFFFFFFFFFFFFFFFFFFFFFFFFFFC0";
 
 static void refused_memory(void)
 {
     uint8_t bytes[64], before[8192];
     _Alignas(16) uint8_t out[8192];
     for (int kind = ETCS_SHORT; kind <= ETCS_TRAIN; kind++) {
-        size_t len = item(bytes, kind == ETCS_TRAIN ? TRAIN : kind == ETCS_RADIO ? RADIO : SHORT);
+        size_t len = item(bytes, kind == ETCS_TRAIN ? TRAIN : kind == ETCS_RADIO ? RADIO : KEPT);
         for (int call = 0; call < 6; call++) {
             etcs_answer a = {0};
             char line[8192];

@@ -99,7 +99,7 @@ fn blocks(alloc: Global) -> Result<(Vec<Vec<u8>>, Vec<Vec<u8>>), AllocError> {
     Ok((given, kept))
 }
 
-/// What a call answers with memory, and then with each room. The addresses are used up once; each time a block of its own
+/// What a call returns with memory, and then with each room. The addresses are used up once; each time a block of its own
 /// is given in part, and what the call leaves of it is taken again. The first call makes the stack as large as it must be.
 fn each_refused<C: Call>(alloc: Global, call: &mut C) -> Result<Found, AllocError> {
     let mut found = Found {

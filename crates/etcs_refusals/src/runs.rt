@@ -20,7 +20,7 @@ struct Runs<'a> {
     written: Vec<u8>,
 }
 
-/// What a run answers, and what it writes. It isn't asked for groups of messages.
+/// What a run returns, and what it writes. It isn't asked for groups of messages.
 fn ran(
     alloc: Global,
     job: Job,

@@ -7,7 +7,7 @@ use etcs_reader::{Feeder, Fields, Rest, Stop, Stored};
 use etcs_vars::Var;
 use std::alloc::Global;
 
-/// The variables in front of a telegram's packets, of 50 bits.
+/// The variables before a telegram's packets, of 50 bits.
 const HEADER: [Var; 10] = [
     Var::Q_UPDOWN,
     Var::M_VERSION_HEADER,

@@ -1,4 +1,4 @@
-//! What a group answers only to its caller: a telegram that is handed back, telegrams of both sizes, and refused memory; and
+//! What a group returns only to its caller: a telegram that is handed back, telegrams of both sizes, and refused memory; and
 //! the texts of its faults.
 
 use etcs_bits::{BitSlice, Bits};

@@ -124,9 +124,9 @@ fn seen(alloc: Global, bytes: &[u8; 27]) -> Option<(u8, bool)> {
     Some((packet.nid(), made.is_ok()))
 }
 
-/// What is seen of a kept packet, packet 0, packet 137 and packet 5.
+/// What is seen of packet 44, which has 80 bits, of which 57 are kept, and of packet 0, packet 137 and packet 5.
 fn seen_all(alloc: Global) -> [Option<(u8, bool)>; 4] {
-    let kept = short([0xCB, 0x20, 0x0C, 0x7F]);
+    let kept = short([0xCB, 0x20, 0x28, 0x7F]);
     let marker = short([0xC0, 0x03, 0xFF, 0xFF]);
     let typed = short([0xE2, 0x50, 0x0C, 0x7F]);
     [
@@ -137,8 +137,8 @@ fn seen_all(alloc: Global) -> [Option<(u8, bool)>; 4] {
     ]
 }
 
-/// A view and its packets take no memory. To make a packet of kept bits or with a list takes some, to make one of a few
-/// numbers doesn't.
+/// A view and its packets take no memory. To make a packet of more than 56 kept bits or with a list takes some, to make one
+/// of a few numbers doesn't.
 #[test]
 fn views_without_memory(rt: HostRuntime) -> Result<(), AllocError> {
     let (checks, alloc) = (&mut Checks::new(), rt.alloc());

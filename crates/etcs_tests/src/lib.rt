@@ -1,6 +1,6 @@
 //! Tests of what no vector can express: the one reader over variables, rows and packets, from pieces; a packet and sinks
 //! used through their bounds; calls that take no memory or hand back what they were lent, which the program `etcs_refusals`
-//! doesn't test; what a group answers only to its caller; and texts of faults.
+//! doesn't test; what a group returns only to its caller; and texts of faults.
 #![tactic(auto)]
 
 #[cfg(test)]

@@ -15,18 +15,18 @@ use etcs_vars::Var;
 use std::alloc::Global;
 use std::test::Fail;
 
-/// Packet 136 of group 5 in country 7, in 48 bits, packet 44 with twelve bits after L_PACKET, in 35, and five bits of
-/// padding.
-const BOTH: [u8; 11] = [
-    0x88, 0x40, 0x61, 0x01, 0xC0, 0x05, 0x2C, 0x80, 0x47, 0x4B, 0x40,
+/// Packet 136 of group 5 in country 7, in 48 bits, packet 44 with 60 bits after L_PACKET, in 83, and five bits of padding.
+const BOTH: [u8; 17] = [
+    0x88, 0x40, 0x61, 0x01, 0xC0, 0x05, 0x2C, 0x80, 0xA7, 0x4B, 0x40, 0x24, 0x68, 0xAC, 0xF1, 0x37,
+    0x80,
 ];
 
-/// A reader of the packets of a message of 88 bits.
+/// A reader of the packets of a message of 136 bits.
 fn reader_of<S: PacketStore>(store: S) -> Feeder<PacketsRest<S>>
     requires way { ToTrain ≡ S.WAY }
     requires none { S.holds store [] [] [] }
 {
-    let rest = PacketsRest::new(Carrier::Message(Way::ToTrain), 88, store);
+    let rest = PacketsRest::new(Carrier::Message(Way::ToTrain), 136, store);
     Feeder::new(rest)
 }
 
@@ -47,8 +47,8 @@ fn are_both(packets: &[Packet]) -> bool {
     };
     let body = other.body();
     let infilled = (infill.dir(), infill.nid_c(), infill.nid_bg()) == (1, Some(7), 5);
-    let kept = (other.nid(), other.dir(), body.len()) == (44, 2, 12);
-    infilled & kept & (body.number(0, 12) == Some(0b101001011010))
+    let kept = (other.nid(), other.dir(), body.len()) == (44, 2, 60);
+    infilled & kept & (body.number(0, 60) == Some(0xA5A_0123_4567_89BC))
 }
 
 /// Checks that the packets of `BOTH` are made.
@@ -56,7 +56,7 @@ fn check_made(checks: &mut Checks, alloc: Global, singly: bool) {
     let mut list = listed(alloc);
     feed(&mut list, &BOTH, singly);
     checks.check(
-        list.count() == 83 && list.stop().is_none(),
+        list.count() == 131 && list.stop().is_none(),
         "not all is read",
     );
     checks.check(
@@ -95,18 +95,24 @@ fn byte_by_byte(rt: HostRuntime) {
                 (0x05, 8, Some(Var::NID_PACKET), (0, 0)),
                 (0x2C, 8, Some(Var::Q_DIR), (0, 0)),
                 (0x80, 8, Some(Var::L_PACKET), (0, 6)),
-                (0x47, 8, Some(Var::OTHER_DATA), (0, 0)),
+                (0xA7, 8, Some(Var::OTHER_DATA), (0, 0)),
                 (0x4B, 8, Some(Var::OTHER_DATA), (0, 0)),
+                (0x40, 8, Some(Var::OTHER_DATA), (0, 0)),
+                (0x24, 8, Some(Var::OTHER_DATA), (0, 0)),
+                (0x68, 8, Some(Var::OTHER_DATA), (0, 0)),
+                (0xAC, 8, Some(Var::OTHER_DATA), (0, 0)),
+                (0xF1, 8, Some(Var::OTHER_DATA), (0, 0)),
+                (0x37, 8, Some(Var::OTHER_DATA), (0, 0)),
             ]
             .as_slice(),
             1,
         ),
-        ([(0x40, 3, None, (0, 0))].as_slice(), 2),
+        ([(0x80, 3, None, (0, 0))].as_slice(), 2),
     ] {
         check_bytes(&mut checks, &mut count, bytes);
         checks.check(count.rest().store.packets == whole, "other packets");
     }
-    check_end(&mut checks, &mut count, 83);
+    check_end(&mut checks, &mut count, 131);
     assert_eq!(rt; checks.wrong(), None);
 }
 
@@ -116,14 +122,27 @@ fn byte_by_byte(rt: HostRuntime) {
 fn refused_bits(rt: HostRuntime) {
     let mut checks = Checks::new();
     for (bytes, bit, part, whole) in [
-        ([0x00; 7], 7, (0, 7), 0),
-        ([0xFF; 7], 7, (127, 7), 0),
-        ([0x88, 0x40, 0x61, 0x01, 0xC0, 0x05, 0x00], 55, (0, 7), 1),
-        ([0x88, 0x40, 0x61, 0x01, 0xC0, 0x05, 0xFF], 54, (63, 6), 1),
+        ([0u8; 7].as_slice(), 7, (0, 7), 0),
+        ([0xFFu8; 7].as_slice(), 7, (127, 7), 0),
+        (
+            [0x88, 0x40, 0x61, 0x01, 0xC0, 0x05, 0x00].as_slice(),
+            55,
+            (0, 7),
+            1,
+        ),
+        (
+            [
+                0x88, 0x40, 0x61, 0x01, 0xC0, 0x05, 0x88, 0x40, 0x61, 0x01, 0xC0, 0x05, 0xFF,
+            ]
+            .as_slice(),
+            102,
+            (63, 6),
+            2,
+        ),
     ] {
         for singly in [false, true] {
             let mut count = counted();
-            feed(&mut count, &bytes, singly);
+            feed(&mut count, bytes, singly);
             check_refused(&mut checks, &mut count, (bit, Var::NID_PACKET, part));
             checks.check(count.rest().store.packets == whole, "other packets");
         }
@@ -143,9 +162,9 @@ fn check_starved(checks: &mut Checks, alloc: Global, front: &[u8], back: &[u8], 
     checks.check(list.stop() == Some(Stop::Memory), "another stop");
 }
 
-/// A packet that lies whole in the piece, the first number of its row after its frame, one that is kept and lies whole in it,
-/// and the bits of one after its frame. Counting takes no memory. Before the addresses are used up the stack becomes as
-/// large as it must be, since it can't grow later.
+/// A packet that lies whole in the piece, the first number of its row after its frame, one of more than 56 kept bits that
+/// lies whole in it, and the bits of one after its frame. Counting takes no memory. Before the addresses are used up the
+/// stack becomes as large as it must be, since it can't grow later.
 #[test]
 fn packets_without_memory(rt: HostRuntime) -> Result<(), Fail> {
     let mut checks = Checks::new();

@@ -1,4 +1,4 @@
-//! What a reader of any kind answers to pieces.
+//! What a reader of any kind returns for pieces.
 
 use etcs_fakes::Checks;
 use etcs_reader::{Feeder, Rest, Stop};
@@ -10,7 +10,7 @@ pub(crate) type After = (u8, usize, Option<Var>, (u64, usize));
 /// A refused bit, its variable, and this one's bits so far.
 pub(crate) type Refused = (usize, Var, (u64, usize));
 
-/// What a reader of a few bytes answers to a piece.
+/// What a reader of a few bytes returns for a piece.
 pub(crate) fn fed<R: Rest>(feeder: &mut Feeder<R>, piece: &[u8]) -> Result<usize, Stop> {
     if feeder.count() > 1000 || piece.len() > 1000 {
         return Ok(usize::MAX);
@@ -39,7 +39,7 @@ pub(crate) fn check_bytes<R: Rest>(checks: &mut Checks, feeder: &mut Feeder<R>, 
     }
 }
 
-/// Checks that a reader is in front of a refused bit, and answers it again to each further piece.
+/// Checks that a reader stopped before a refused bit, and reports it again for each further piece.
 pub(crate) fn check_refused<R: Rest>(
     checks: &mut Checks,
     feeder: &mut Feeder<R>,

@@ -20,7 +20,7 @@ const LINKS: [u8; 11] = [
     0x41, 0xF4, 0x00, 0x05, 0x26, 0x04, 0x3E, 0x80, 0x00, 0x6C, 0x78,
 ];
 
-/// Checks what a reader answers to the links, in one piece and byte by byte.
+/// Checks what a reader returns for the links, in one piece and byte by byte.
 fn check_links(checks: &mut Checks, whole: &mut Feeder<RowRest>, bitten: &mut Feeder<RowRest>) {
     checks.check(whole.var() == Some(Var::Q_SCALE), "the first variable");
     checks.check(fed(whole, &LINKS) == Ok(85), "the row");

@@ -5,4 +5,4 @@ use Rattle.etcs_sequence.proofs.Fits.{run_some}
 use Rattle.etcs_tests.proofs.packet_tests.reader_of.Goals as goal
 
 pub new-requires : goal.new-requires
-new-requires g c = let some = run_some (Message ToTrain) 88 (lit≤ tt) refl in (some.0, (c.new-rest.ensures.left some.0).1 some.1)
+new-requires g c = let some = run_some (Message ToTrain) 136 (lit≤ tt) refl in (some.0, (c.new-rest.ensures.left some.0).1 some.1)

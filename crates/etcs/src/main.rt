@@ -20,7 +20,7 @@ fn words(rt: &HostRuntime) -> io::Result<Vec<String>> {
     Ok(words)
 }
 
-/// Says why there are no words, and answers the status.
+/// Says why there are no words, and returns the status.
 fn refused_words(kind: ErrorKind, faults: &mut impl Write) -> u8 {
     if kind == ErrorKind::OutOfMemory {
         let _ = faults.write_all(b"etcs: out of memory\n");

@@ -1,4 +1,4 @@
--- A format: a run of variables of a row as a value, said once. All else that is said of such values is read off it.
+-- A format: a run of variables of a row as a value, given once. Everything else about such values is derived from it.
 use Rattle.std.proofs.Common.{◌≡◌, ℕ, ◌+◌, ◌-◌, ◌*◌, ◌^◌, ◌&&◌, Bool, true, false, List, [], ◌∷◌, length, Option, None, nat_eq, nat_le, ◌⊎◌, inl, inr}
 use Rattle.std.specs.Prelude.{All, if◌then◌else◌}
 use Rattle.std.specs.Bool.{beq}

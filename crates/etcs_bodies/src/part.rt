@@ -45,7 +45,7 @@ pub trait Part: Variables + Sized {
     ghost codes: { Codes row is_part Self.reading_of read_from };
 }
 
-/// Says of each of them that it is a part.
+/// Shows that each of them is a part.
 pub fn hold_all<P: Part>(parts: &[P])
     ensures { All P.is_part parts.now }
 {
@@ -54,7 +54,11 @@ pub fn hold_all<P: Part>(parts: &[P])
     }
 }
 
-/// Equal parts.
+/// Copies of the parts, in order.
+///
+/// # Errors
+///
+/// If memory is refused.
 pub fn clone_all<P: Part + Drop>(alloc: Global, parts: &[P]) -> Result<Vec<P>, AllocError>
     ensures { IfOk result (λ ps. ps.items ≡ parts.now) }
 {
@@ -86,7 +90,11 @@ fn take_all<P: Part + Drop, L: Numbers>(
     Ok(Some(parts))
 }
 
-/// Takes a list of parts after its count.
+/// Takes a list of parts after its count, if the numbers begin with one.
+///
+/// # Errors
+///
+/// If memory is refused. No clause says what the numbers have left then, nor after `None`.
 #[tactic(auto, using(crate::specs::laws::Repeats::list_is, crate::specs::laws::Repeats::list_missing, crate::specs::laws::Repeats::list_uncounted, crate::specs::laws::Takes::counted_is))]
 pub fn take_list<P: Part + Drop, L: Numbers>(
     alloc: Global,

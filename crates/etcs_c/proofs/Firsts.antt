@@ -1,4 +1,4 @@
--- What a first feed of the reader of a kind says of an item, and that it says of other answers.
+-- What a first feed of the reader of a kind returns for an item, and for other bits.
 use Rattle.std.proofs.Common.{◌≡◌, ℕ, ◌+◌, ◌*◌, Bool, List, [], Result, Ok, Err, ap, refl, sym, subst, ◌∙◌, arith}
 use Rattle.etcs_vars.specs.declared.var.Var.{Var}
 use Rattle.etcs_vars.specs.declared.feed.Fed.{Fed}

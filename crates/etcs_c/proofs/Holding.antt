@@ -24,7 +24,7 @@ one_more rs i d t old new lt is (good, fits) adds (ts, are, none, held) =
     let last : reverse (take (i + 1) rs) ≡ get_or rs i d ∷ reverse (take i rs) = ap (λ (l : List EtcsTelegram). reverse l) (take_more rs i d lt) ∙ reverse-append (take i rs) (get_or rs i d ∷ []) in
     (t ∷ ts, rw last (is, are), (joins, none), adds ts held)
 
--- what is said of bytes that no telegram begins with, which isn't that all is done
+-- the answer for bytes that no telegram begins with, whose status isn't 0
 pub said_none : (found : Found) → ((e : Entry) (k : ℕ) → found ≡ Whole e k → ⊥) → (s : ℕ) (a : EtcsAnswer) → Says found s a → SaysNone found s a × (s ≡ 0 → ⊥)
 said_none (Whole e k) not s a says = absurd (not e k refl)
 said_none More not s a says = (says, λ z. omega (arith, z, says))

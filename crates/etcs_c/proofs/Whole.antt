@@ -100,7 +100,7 @@ other_none kind fs e n q (le, p, reads, bits) h not e' (r, h', is) =
 pub found_reads : (kind : Kind) (b : List Bool) (e : EntryValue) (n : ℕ) (q : Reading) → IsOutcome (EntryReads kind) b (done e n) → Spells e q → EntryReads kind e q
 found_reads kind b e n q (le, p, reads, bits) h = (reads.0, h)
 
--- ---- What is said of each found.
+-- ---- The status and the text, by what was found.
 
 pub built_said : {V E : Type 0} (items : V → List ℕ) (kind : Kind) (fs : List EtcsField) (e : EntryValue) (n : ℕ) (q : Reading) → IsOutcome (EntryReads kind) (whole_bytes (packed fs)) (done e n) → Spells e q → fs ≡ fields_of q → (old new : List ℕ) (s : ℕ) (a : EtcsAnswer) (made : Result V E) → IfOk made (λ v. IsEncoded e (items v)) → MatchResult made (λ v. Writes (items v) old new s a) (λ x. Starves old new s) → IsBuilt kind fs old new s a
 built_said items kind fs e n q o h is old new s a made made_is writes = inl (e, (q, found_reads kind (whole_bytes (packed fs)) e n q o h, is), encoding_said items e old new s a made made_is writes)

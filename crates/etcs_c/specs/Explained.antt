@@ -1,4 +1,4 @@
--- What is said of bytes that no item begins with, and of lines that say none.
+-- The answer for bytes that no item begins with, and for lines that say none.
 use Rattle.std.specs.Prelude.{◌≡◌, ◌<◌, ℕ, ◌⊎◌, Bool, List, length, take}
 use Rattle.etcs_vars.specs.Vars.{width}
 use Rattle.etcs_vars.specs.declared.var.Var.{Var}
@@ -40,7 +40,7 @@ SaysBefore kind b More old new s a = Says More s a × (a.written ≡ 0) × (new 
 SaysBefore kind b (Refused i x) old new s a = (a.bit ≡ i) × (a.var ≡ name_field x) × (((fs : List EtcsField) × AreBefore kind b i x fs × WritesAs 2 fs old new s a) ⊎ Starves old new s)
 SaysBefore kind b Memory old new s a = Says Memory s a × (a.written ≡ 0) × (new ≡ old)
 
--- of a line that says no item words, with what is said of it where an item's encoding is wanted; of one that says an item
--- nothing is written
+-- of a line that says no item words, with the answer as where an item's encoding is wanted; of one that says an item nothing
+-- is written
 abbrev pub SaysLineWhy : Kind → List ℕ → List ℕ → List ℕ → ℕ → EtcsAnswer → Type 0
 SaysLineWhy kind line old new s a = ((e : EntryValue) × SaysItem kind line e × (s ≡ 0) × (a.written ≡ 0) × (new ≡ old)) ⊎ (((i : ℕ) × (x : Var) × SaysRefused kind line i x × (a.bit ≡ i) × (a.var ≡ name_field x) × Words 2 old new s a) ⊎ ((((e : EntryValue) → IsLoose kind e → OfLine (λ d. IsTreeOf e d) line → ⊥) × Words 6 old new s a) ⊎ Starves old new s))

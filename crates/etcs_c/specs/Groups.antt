@@ -51,7 +51,7 @@ flag false = 0
 abbrev pub IsState : List (Option TelegramContent) → EtcsGroup → Type 0
 IsState slots g = ((m : List Bool) × (g.missing ≡ map flag m) × ((p : ℕ) → (slice_get m p ≡ Some true) ↔ IsMissing slots p)) × ((whole : Bool) × (g.is_complete ≡ flag whole) × ((whole ≡ true) ↔ IsWhole slots))
 
--- what is said of bytes that begin with no telegram
+-- the answer for bytes that begin with no telegram
 abbrev pub SaysNone : Found → ℕ → EtcsAnswer → Type 0
 SaysNone (Whole e k) s a = ⊥
 SaysNone More s a = s ≡ 1

@@ -1,4 +1,4 @@
--- The bits of fields, and what a call answers of an item's.
+-- The bits of fields, and what a call returns for an item's.
 use Rattle.std.specs.Prelude.{◌≡◌, ℕ, ◌*◌, ◌/◌, ◌^◌, ◌<◌, ◌≤◌, All, flat_map, length, take, Bool, List, ◌⊎◌}
 use Rattle.etcs_bits.specs.Bits.{num}
 use Rattle.etcs_vars.specs.Reading.{Reading}
@@ -28,7 +28,7 @@ AreFit fs = All IsFit fs
 abbrev pub whole_bytes : List Bool → List Bool
 whole_bytes b = take (8 * (length b / 8)) b
 
--- ---- What a call answers.
+-- ---- What a call returns.
 
 -- of an item its bytes and its fields; else as a check, and nothing is written
 abbrev pub SaysFields : Found → List EtcsField → List EtcsField → ℕ → EtcsAnswer → Type 0

@@ -1,4 +1,4 @@
--- What is said of a number of a variable.
+-- The meaning of a number of a variable.
 use Rattle.std.specs.Prelude.{◌≡◌, ℕ, ◌⊎◌, List, Some}
 use Rattle.etcs_vars.specs.declared.var.Var.{Var}
 use Rattle.etcs_vars.specs.Vars.{special}
@@ -6,7 +6,7 @@ use Rattle.etcs_c.specs.declared.answer.EtcsAnswer.{EtcsAnswer}
 use Rattle.etcs_c.specs.Writes.{Starves, Writes, name_field}
 use Rattle.etcs_c.specs.Fields.{var_number}
 
--- of a number that is no measure what it stands for; what is said of any other has no definition
+-- of a number that is no measure what it stands for; the text for any other has no definition
 abbrev pub IsMeaning : Var → ℕ → List ℕ → Type 0
 IsMeaning x number text = (t : List ℕ) → special x number ≡ Some t → text ≡ t
 

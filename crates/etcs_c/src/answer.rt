@@ -1,4 +1,4 @@
-//! What a call answers.
+//! What a call returns.
 
 ghost use Rattle.std.specs.Prelude.{◌≡◌, MatchResult};
 ghost use Rattle.etcs_c.specs.Writes.{Starves, WritesAs, name_field};
@@ -42,7 +42,7 @@ pub const CLASH_COUNTER: u32 = 15;
 /// Another telegram is at its position.
 pub const CLASH_DIFFERS: u32 = 16;
 
-/// What a call answers beside its status.
+/// What a call returns beside its status.
 #[repr(C)]
 #[derive(Drop)]
 pub struct EtcsAnswer {

@@ -243,7 +243,7 @@ static OF_GROUPS: &[OfGroups] = &[
     ),
 ];
 
-/// Numbers that no call answers here.
+/// Numbers that no call returns here.
 fn unanswered() -> EtcsAnswer {
     EtcsAnswer {
         taken: 99,
@@ -360,7 +360,7 @@ fn ask_group(
     etcs_assemble(alloc, &telegrams[..case.0.len().min(2)], group, answer)
 }
 
-/// The first of these calls over bytes that answers something else.
+/// The first of these calls over bytes that returns something else.
 fn wrong_of_bytes(alloc: Global, cases: &[OfBytes]) -> Option<usize> {
     for (i, case) in cases.iter().enumerate() {
         let answer = &mut unanswered();
@@ -372,7 +372,7 @@ fn wrong_of_bytes(alloc: Global, cases: &[OfBytes]) -> Option<usize> {
     None
 }
 
-/// The first of these calls over lines that answers something else.
+/// The first of these calls over lines that returns something else.
 fn wrong_of_lines(alloc: Global, cases: &[OfLines]) -> Option<usize> {
     for (i, case) in cases.iter().enumerate() {
         let answer = &mut unanswered();
@@ -384,7 +384,7 @@ fn wrong_of_lines(alloc: Global, cases: &[OfLines]) -> Option<usize> {
     None
 }
 
-/// The first of these calls over fields that answers something else.
+/// The first of these calls over fields that returns something else.
 fn wrong_of_fields(alloc: Global, cases: &[OfFields]) -> Option<usize> {
     for (i, case) in cases.iter().enumerate() {
         let answer = &mut unanswered();
@@ -464,7 +464,7 @@ fn each_status(rt: HostRuntime) -> Result<(), Fail> {
     Ok(())
 }
 
-/// How many characters are in front of the digits.
+/// How many bytes come before the digits.
 #[test]
 fn fronts(rt: HostRuntime) -> Result<(), Fail> {
     assert_eq!(rt; etcs_line_front(b"12:00:03 A113"), 8);

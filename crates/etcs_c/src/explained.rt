@@ -40,7 +40,7 @@ fn fields_before(alloc: Global, kind: Kind, bytes: &[u8]) -> Result<Vec<EtcsFiel
     fields_in(alloc, account.fields.as_slice())
 }
 
-/// Answers what was found, and writes why a bit is refused.
+/// Returns what was found, and writes why a bit is refused.
 fn say_why(
     alloc: Global,
     kind: Kind,
@@ -62,7 +62,7 @@ fn say_why(
     }
 }
 
-/// Answers what was found, and writes the fields before a refused bit.
+/// Returns what was found, and writes the fields before a refused bit.
 fn say_before(
     alloc: Global,
     kind: Kind,
@@ -84,7 +84,7 @@ fn say_before(
     }
 }
 
-/// Answers what the bytes begin with, and writes why a bit is refused.
+/// Returns what the bytes begin with, and writes why a bit is refused.
 pub(crate) fn write_why(
     alloc: Global,
     kind: Kind,
@@ -97,7 +97,7 @@ pub(crate) fn write_why(
     say_why(alloc, kind, bytes, &find(alloc, kind, bytes), out, answer)
 }
 
-/// Answers what the bytes begin with, and writes the fields before a refused bit.
+/// Returns what the bytes begin with, and writes the fields before a refused bit.
 pub(crate) fn write_before(
     alloc: Global,
     kind: Kind,

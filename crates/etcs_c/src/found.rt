@@ -91,7 +91,7 @@ fn find_message<H: Head, B: Own<Front = H>>(
     }
 }
 
-/// Answers what was found.
+/// Returns what was found.
 pub(crate) fn say(found: &Found, answer: &mut EtcsAnswer) -> u32
     ensures { Says found.now result answer.new }
 {

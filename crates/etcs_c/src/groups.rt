@@ -77,7 +77,7 @@ fn hold(telegram: Telegram, assembly: &mut Assembly) -> u32
     }
 }
 
-/// Holds the telegram that the bytes are if it fits those that are held, or answers why it isn't held.
+/// Holds the telegram that the bytes are if it fits those that are held, or returns why it isn't held.
 fn add(
     alloc: Global,
     telegram: &EtcsTelegram,

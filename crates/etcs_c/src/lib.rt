@@ -2,7 +2,7 @@
 //!
 //! In C a slice is a pointer followed by its length, and `alloc` is no parameter. Nothing is kept between two calls.
 //!
-//! Each call but [`etcs_line_front`] returns a status. Beside those that a call's comment names there are `ETCS_OK` if it
+//! Each call but [`etcs_line_front`] returns a status. In addition to those that a call's comment names there are `ETCS_OK` if it
 //! did what it is for, `ETCS_NO_ROOM` if `out` is shorter than `written` of the answer, `ETCS_NO_MEMORY` if memory was
 //! refused, and `ETCS_UNKNOWN_KIND` if no kind has the number `kind`. After the last three `out` is as before.
 #![tactic(auto)]
@@ -214,7 +214,7 @@ pub extern "C" fn etcs_explain_json(
     }
 }
 
-/// Writes what a number of a variable means in an item of the kind, in the words of `explain`; answers the variable's name.
+/// Writes what a number of a variable means in an item of the kind, in the words of `explain`; returns the variable's name.
 /// A distance is in the unit that `scale`, a number of Q_SCALE, gives, and has no meaning if that is none of 0, 1 and 2.
 /// `ETCS_BAD_FIELDS` if no variable has the number `var`.
 #[unsafe(no_mangle)]
@@ -267,7 +267,7 @@ pub extern "C" fn etcs_line_front(line: &[u8]) -> usize
 }
 
 /// Puts the telegrams of a balise group together (SUBSET-026, 3.16.2.4), and writes which positions are missing and whether
-/// the group is complete. If one doesn't fit those before it, answers its index, and as status its first clash;
+/// the group is complete. If one doesn't fit those before it, returns its index, and as status its first clash;
 /// `ETCS_REFUSED` if no telegram begins with its bytes, `ETCS_UNKNOWN_KIND` if its kind is not that of a telegram. The
 /// group is then as before.
 #[unsafe(no_mangle)]

@@ -45,7 +45,7 @@ fn meaning_of(alloc: Global, var: Var, asked: Asked) -> Result<Vec<u8>, AllocErr
     Ok(text.into_string()?.into_bytes())
 }
 
-/// Answers the name of the variable, and writes what its number means.
+/// Returns the name of the variable, and writes what its number means.
 pub(crate) fn print_meaning(
     alloc: Global,
     asked: Asked,

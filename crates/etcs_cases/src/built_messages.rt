@@ -1,5 +1,5 @@
 //! Vectors of messages to the track that are built of their parts: T_TRAIN, NID_ENGINE, and `plain NID`, `time NID T_TRAIN` or
-//! `status Q_STATUS`. Packets are `NID NUMBERS` after L_PACKET or `NID bDIGITS` for kept bits, with ` ; ` in front of each.
+//! `status Q_STATUS`. Packets are `NID NUMBERS` after L_PACKET or `NID bDIGITS` for kept bits, with ` ; ` before each.
 
 use crate::builds::{FAULTS, say_back};
 use crate::built::first_bits;

@@ -70,7 +70,7 @@ fn line_words(case: &mut Case, line: &str) -> Vec<String> {
     words
 }
 
-/// A command line; the LFs in front of its input, each of which is a read; the input, and how many bytes a read gives; how
+/// A command line; the LFs before its input, each of which is a read; the input, and how many bytes a read gives; how
 /// that fails after its last byte; and the room for what is written.
 #[derive(Clone, Copy)]
 pub(crate) struct Asked<'a> {

@@ -108,7 +108,7 @@ impl<'a> Case<'a> {
         rest
     }
 
-    /// Leaves the words before a mark, or all where it isn't there, and answers those after it.
+    /// Leaves the words before a mark, or all where it isn't there, and returns those after it.
     pub fn split(&mut self, mark: &str) -> &'a str {
         let (words, behind) = self.words.split_once(mark).unwrap_or((self.words, ""));
         self.words = words;

@@ -17,7 +17,7 @@ use std::alloc::AllocError;
 /// The number that is in a list before those of a packet.
 const BEFORE: u64 = 200;
 
-/// What its type says of a packet.
+/// What the type of a packet returns for it.
 #[derive(Clone, Copy)]
 pub struct Own {
     nid: u8,
@@ -36,7 +36,7 @@ pub trait Asked: AnyPacket + PartialEq {
     /// The packet that is kept as these bits.
     fn kept(nid: u8, dir: u8, body: Bits) -> Result<Self, (BuildFault, Bits)>;
 
-    /// Appends its numbers by its type, and answers what that says of it, where it has one.
+    /// Appends its numbers by its type, and returns what that returns for it, where it has one.
     fn own_fields(&self, out: &mut Vec<u64>) -> Result<Option<Own>, AllocError>;
 
     /// Whether two packets are equal by every law that can be asked, where all of them say the same as `==`.
@@ -147,8 +147,8 @@ fn refused<P: Drop>(built: Result<P, BuildFault>) -> BuildFault {
     }
 }
 
-/// Appends the numbers of a packet to the train by its type, and answers what that says of it. Of packet 0 and of kept
-/// bits there are none.
+/// Appends the numbers of a packet to the train by its type, and returns what that returns for it. Packet 0 and kept
+/// bits have none.
 pub fn own_fields(packet: &Packet, out: &mut Vec<u64>) -> Result<Option<Own>, AllocError> {
     to_train!(of_grouped, packet, own => append(own, out), flat_fields(packet, out))
 }
@@ -193,7 +193,7 @@ fn check_own<A: AnyPacket>(case: &mut Case, packet: &A, own: Own) {
     case.check(packet.dir() == Some(own.dir), "another direction");
 }
 
-/// What a law says of two packets, where it is what `==` says and what the law of their type does, if there is one.
+/// What a law says about two packets, where it is what `==` says and what the law of their type does, if there is one.
 fn agreed<A: PartialEq>(first: &A, second: &A, same: bool, own: Option<bool>) -> bool {
     if own.unwrap_or(same) == same {
         same

@@ -13,7 +13,7 @@ use std::alloc::Global;
 /// many bits and packets a message to the train or to the track has. `turned KIND HEX`: a line for each bit with which,
 /// flipped, the bytes are no longer one item, with the answer to them. `alike KIND HEX`: of how many bytes with one bit
 /// flipped all ways to read them give the same answer. `pairs KIND`: how many of all pairs of first bytes are refused.
-/// `fed KIND PIECE PIECE ..`: what a reader answers to each piece, how many bits it has seen and what it holds.
+/// `fed KIND PIECE PIECE ..`: what a reader returns for each piece, how many bits it has seen and what it holds.
 pub(crate) fn answer(case: &mut Case, asked: &str) -> bool {
     match asked {
         "short" => read(case, Kind::Short),
@@ -285,7 +285,7 @@ pub(crate) fn say_fed(case: &mut Case, fed: Result<Fed, ReadFault>) {
     }
 }
 
-/// What a reader answers to each piece, how many bits it has seen and what it holds. A piece is hexadecimal parts with `+`
+/// What a reader returns for each piece, how many bits it has seen and what it holds. A piece is hexadecimal parts with `+`
 /// between them, each of which `*COUNT` repeats; `-` is the empty one.
 fn say_pieces(case: &mut Case, kind: Kind) {
     let mut reader = Reader::new(case.alloc(), kind);
@@ -345,7 +345,7 @@ fn say_pairs(case: &mut Case, kind: Kind) {
     case.say_number(refused);
 }
 
-/// What a reader answers to bytes; checks that it is the same byte by byte and by a view, and that an item is written as
+/// What a reader returns for bytes; checks that it is the same byte by byte and by a view, and that an item is written as
 /// the bytes that were taken.
 fn fed_turned(case: &mut Case, kind: Kind, bytes: &[u8]) -> Result<Fed, ReadFault> {
     let (fed, item) = read_whole(case.alloc(), kind, bytes);

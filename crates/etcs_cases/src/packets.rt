@@ -1,9 +1,9 @@
 //! Lines about packets: read from their numbers and their bits, and compared.
 //!
 //! NUMBERS are those of a packet's row and BITS the digits of its bits, both after the frame; a run of them between two `/`
-//! is repeated by `N x` in front of it. ANY is `typed NID DIR NUMBERS`, `kept NID DIR : BITS` or `marker NUMBER`.
+//! is repeated by `N x` before it. ANY is `typed NID DIR NUMBERS`, `kept NID DIR : BITS` or `marker NUMBER`.
 //!
-//! `train_` in front of a kind asks the same of packets to the track, whose lines have no DIR.
+//! `train_` before a kind asks the same of packets to the track, whose lines have no DIR.
 
 use crate::case::{Case, FaultTexts};
 use crate::forms::{Asked, check_listed, is_copied};
@@ -50,7 +50,7 @@ pub(crate) fn next_dir<A: Asked>(case: &mut Case) -> u8 {
     }
 }
 
-/// What a line says of a typed packet.
+/// What a line says about a typed packet.
 #[derive(Drop)]
 pub(crate) struct Spelled {
     nid: u8,
@@ -73,7 +73,7 @@ impl Spelled {
         }
     }
 
-    /// What `NUMBERS : BITS` says of a packet of this number and direction.
+    /// What `NUMBERS : BITS` says about a packet of this number and direction.
     pub(crate) fn next(case: &mut Case, nid: u8, dir: u8) -> Spelled {
         let digits = case.split(":");
         let numbers = case.numbers();

@@ -199,7 +199,7 @@ fn say_taken<P: Shape, L: Numbers>(case: &mut Case, numbers: &mut L) {
     case.say_either(taken.is_some(), "some", "none");
 }
 
-/// `next CALLS / NUMBERS`: what each call answers, one after another.
+/// `next CALLS / NUMBERS`: what each call returns, one after another.
 fn next(case: &mut Case) {
     let behind = case.split(" / ");
     let calls = case.rest();
@@ -220,7 +220,7 @@ fn next_in_bits(case: &mut Case) {
     }
 }
 
-/// What each call answers: `flag`, `empty`, or the name of a variable of which the next number is taken.
+/// What each call returns: `flag`, `empty`, or the name of a variable of which the next number is taken.
 fn say_calls<L: Numbers>(case: &mut Case, numbers: &mut L, calls: &str) {
     for call in calls.split(' ') {
         match call {

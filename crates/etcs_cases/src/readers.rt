@@ -79,7 +79,7 @@ impl Reader {
     }
 }
 
-/// What a reader answers to bytes in one piece, and the item that it has read then.
+/// What a reader returns for bytes in one piece, and the item that it has read then.
 pub(crate) fn read_whole(
     alloc: Global,
     kind: Kind,

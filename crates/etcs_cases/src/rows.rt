@@ -104,7 +104,7 @@ fn written(case: &mut Case) {
     }
 }
 
-/// Writes a row over bits from `start` on, and answers the place after it. `None` where the row
+/// Writes a row over bits from `start` on, and returns the place after it. `None` where the row
 /// doesn't admit the numbers or the bytes have no room.
 fn put_over(
     alloc: Global,

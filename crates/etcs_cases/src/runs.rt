@@ -87,7 +87,7 @@ fn show_line(case: &mut Case) -> &'static str {
 }
 
 /// `run SIZE TEXT`: what a run that shows telegrams answers and writes, also where it reads byte by byte; and
-/// `zeros SIZE COUNT TEXT`: the same with COUNT zeros in front of the text.
+/// `zeros SIZE COUNT TEXT`: the same with COUNT zeros before the text.
 fn shown<P: Program>(case: &mut Case, kind: &str) {
     let line = show_line(case);
     let mut input = Vec::new(case.alloc());
@@ -104,7 +104,7 @@ fn shown<P: Program>(case: &mut Case, kind: &str) {
     check_streams::<P>(case, asked, (&ran, reads));
 }
 
-/// `slow SIZE TEXT`: what a run answers that gets one byte a read, and how often it reads.
+/// `slow SIZE TEXT`: what a run returns that gets one byte a read, and how often it reads.
 fn run_slowly<P: Program>(case: &mut Case) {
     let line = show_line(case);
     let mut input = Vec::new(case.alloc());

@@ -28,24 +28,24 @@ const BROKEN: u8 = 3;
 /// What `--kind` takes.
 static KINDS: [&str; 4] = ["long", "short", "radio", "train"];
 
-/// What help says of them.
+/// The help for them.
 static KINDS_HELP: &str =
     "Balise telegrams of 830 user bits (long) or of 210 (short), or radio messages to the train (radio) or to the track (train)";
 
-/// What help says of those of a log.
+/// The help for those of a log.
 static LOG_KINDS_HELP: &str =
     "Balise telegrams of 830 user bits (long) or of 210 (short), or radio messages to the train (radio) or to the track (train); several times, or with commas, where a log has several";
 
 /// What it takes for the telegrams of a group.
 static GROUP_KINDS: [&str; 2] = ["long", "short"];
 
-/// What help says of them.
+/// The help for them.
 static GROUP_KINDS_HELP: &str = "Balise telegrams of 830 user bits (long) or of 210 (short)";
 
 /// What `--to` of `log` takes.
 static LOG_FORMS: [&str; 2] = ["hex", "json"];
 
-/// What help says of it, of `--good` and of `--summary`.
+/// The help for it, for `--good` and for `--summary`.
 static LOG_TO_HELP: &str =
     "Write the good lines, as digits (hex, the same as --good) or as a line of JSON each (json): the line's number, what is before its digits, and its item";
 
@@ -149,9 +149,10 @@ pub fn parse(alloc: Global, words: &[String]) -> Parsed
 /// The whole program, except that `main` hands it the words and the streams. Returns the exit status.
 ///
 /// The first of the words is the program's name. The status is 0 if the run accepted all of its input, or help or the
-/// version was asked for; 1 if some of the input was refused, or a group has a clash or isn't complete; 2 if the command
-/// line was refused; and 3 if a stream failed, the input didn't end or memory was refused. Text, help and the version go
-/// to `output`, and faults to `faults`. A failed write to `faults`, or of help or the version, doesn't change the status.
+/// version was asked for; 1 if some of the input was refused, or `group` found a clash or a group that isn't complete; 2 if
+/// the command line was refused; and 3 if a stream failed, the input didn't end or memory was refused. Text, help and the
+/// version go to `output`, and faults to `faults`. A failed write to `faults`, or of help or the version, doesn't change the
+/// status.
 pub fn run_words(
     alloc: Global,
     words: Vec<String>,
@@ -181,7 +182,7 @@ pub fn run_words(
     }
 }
 
-/// Runs a job from the reader to the writer, and answers its status. After a fault, what was written is passed on.
+/// Runs a job from the reader to the writer, and returns its status. After a fault, what was written is passed on.
 #[inline(never)]
 fn run_job(
     alloc: Global,
@@ -222,7 +223,7 @@ fn read_log(
     }
 }
 
-/// Explains the items of the reader to the writer, and answers the status.
+/// Explains the items of the reader to the writer, and returns the status.
 #[inline(never)]
 fn explain_items(
     alloc: Global,
@@ -239,7 +240,7 @@ fn explain_items(
     .map(|()| ACCEPTED)
 }
 
-/// Writes the line of a fault, as far as that can be done, and answers its status.
+/// Writes the line of a fault, as far as that can be done, and returns its status.
 fn answer_fault(fault: &RunFault, faults: &mut impl Write) -> u8
     ensures { result ≡ fault_status fault.now }
 {

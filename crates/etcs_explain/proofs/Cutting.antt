@@ -1,4 +1,4 @@
--- What accounts say of where an item was cut short.
+-- Where an item was cut short, by its accounts.
 use Rattle.std.proofs.Common.{◌≡◌, ℕ, List, take, refl, subst}
 use Rattle.etcs_bits.specs.Bits.{bits}
 use Rattle.etcs_vars.specs.Reading.{Reading, readings_of}

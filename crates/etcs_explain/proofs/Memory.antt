@@ -1,4 +1,4 @@
--- What a run answers where memory was refused.
+-- What a run returns where memory was refused.
 use Rattle.std.proofs.Common.{◌≡◌, ℕ, ◌+◌, ◌<◌, List, [], ◌∷◌, ◌++◌, length, sym, subst}
 use Rattle.std.specs.Prelude.{Result, Ok, Err, IfOk, IfErr, OnOk, OnErr, alloc_error}
 use Rattle.std.specs.declared.alloc.AllocError.{AllocError}
@@ -31,7 +31,7 @@ pub long_ok : {T : Type 0} (done : Result T AllocError) (r : Result T RunFault) 
 long_ok done (Ok x) page s t lines part output text text' was h l m te next le he a = λ rest r. took_too_long page s t lines part rest output text text' h l m te next le he (on_ok done x _ was a) r
 long_ok done (Err e) page s t lines part output text text' was h l m te next le he a = tt
 
--- what an engine of bytes answers where memory was refused
+-- what an engine of bytes returns where memory was refused
 pub stops : (e : RunFault) (P : RunFault → Type 0) → e ≡ Memory → P Memory → P e
 stops e P is h = subst P (sym is) h
 

@@ -62,7 +62,7 @@ explanations page foot task = record {
   Prints = Prints page foot task;
 }
 
--- what a run answers that ended so: of a whole input, what was wrong first
+-- what a run returns that ended so: of a whole input, what was wrong first
 abbrev pub answer_of : Result (Option RunFault) RunFault → Result (Unit {0}) RunFault
 answer_of (Ok None) = Ok tt
 answer_of (Ok (Some fault)) = Err fault

@@ -251,7 +251,7 @@ impl Explainer {
     ///
     /// # Errors
     ///
-    /// Where memory is refused. The texts of the items in front were appended.
+    /// If memory is refused. The text of the items before was appended.
     pub(crate) fn items(
         &mut self,
         bytes: &[u8],

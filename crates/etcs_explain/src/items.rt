@@ -34,7 +34,7 @@ fn drop_first<T: Copy>(list: &mut Vec<T>, count: usize)
     list.truncate(len - count);
 }
 
-/// What a run answers where memory was refused.
+/// What a run returns where memory was refused.
 fn or_memory<T>(done: Result<T, AllocError>) -> Result<T, RunFault>
     ensures ok { IfOk result (λ x. done ≡ Ok x) }
     ensures err { IfErr result (λ e. (e ≡ RunFault.Memory) × (done ≡ Err alloc_error)) }

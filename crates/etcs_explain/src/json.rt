@@ -21,7 +21,7 @@ use serde_json::{Map, Value};
 use std::alloc::{AllocError, Global};
 use std::fmt;
 
-/// Writes that a part is wrong, and why, and answers none.
+/// Writes that a part is wrong, and why, and returns none.
 macro_rules! wrong {
     ($part:expr, $out:ident; $($text:tt)*) => {{
         $part.write_path($out);
@@ -352,7 +352,7 @@ impl<'a> Part<'a> {
         wrong!(member, out; "\"{word}\" is wanted, as --kind says, not {}", Brief(member.value))
     }
 
-    /// How many bits an item has in front of its packets.
+    /// How many bits an item has before its packets.
     fn front_bits(self, kind: Kind, out: &mut Text) -> Option<usize> {
         if let Kind::Long | Kind::Short = kind {
             return self.member("header", out)?.pairs(header_row(), out);

@@ -20,7 +20,7 @@ pub(crate) fn write_title(kind: Kind, bytes: &[u8], end: End, out: &mut Text) {
     }
 }
 
-/// Appends the heading of an item of a page: its kind, what its header says of it, and how many bytes or packets it has; or
+/// Appends the heading of an item of a page: its kind, what its header holds, and how many bytes or packets it has; or
 /// where it stops being an item.
 pub(crate) fn write_heading(kind: Kind, bytes: &[u8], account: &Account, out: &mut Text) {
     match kind {
@@ -57,7 +57,7 @@ fn write_message(way: &str, account: &Account, out: &mut Text) {
     }
 }
 
-/// Appends what a variable of a header says of its item.
+/// Appends what a variable of a header means for its item.
 fn write_known(var: Var, number: u64, out: &mut Text) {
     match var {
         Var::NID_C | Var::NID_BG => write!(out, ", {var} {number}"),

@@ -158,7 +158,16 @@ where
     }
 }
 
-/// Looks for what is wrong with a packet of this number.
+/// Looks for what is wrong with a packet of this number; `Ok` if nothing is.
+///
+/// # Errors
+///
+/// The first that holds:
+///
+/// - `NotAdmitted(NID_PACKET)` if this number of this way is no typed packet without groups.
+/// - `Count` if it has more or fewer numbers than its row.
+/// - `NotAdmitted(Q_DIR)` if a packet of this way may not have the direction.
+/// - `NotAdmitted` with the first variable that doesn't admit its number.
 pub fn check_flat(way: Way, nid: u8, dir: u8, numbers: &[u64]) -> Result<(), BuildFault>
     ensures ok { OnOk result (flat_fault_to way nid dir numbers.now ≡ None) }
     ensures short { OnOk result (length numbers.now ≤ 6) }

@@ -113,7 +113,15 @@ pub(crate) fn check_direction(way: Way, dir: u8) -> Result<(), BuildFault>
     }
 }
 
-/// Looks for what is wrong with a packet of this many bits after L_PACKET.
+/// Looks for what is wrong with a packet of this many bits after L_PACKET; `Ok` if nothing is.
+///
+/// # Errors
+///
+/// The first that holds:
+///
+/// - `NotAdmitted(NID_PACKET)` if packets of this number and way aren't kept as bits.
+/// - `NotAdmitted(Q_DIR)` if a packet of this way may not have the direction.
+/// - `TooLong` if it has more bits than a kept packet of this way may have.
 pub fn check_other(way: Way, nid: u8, dir: u8, bits: usize) -> Result<(), BuildFault>
     ensures ok { OnOk result (other_fault way nid dir bits ≡ None) }
     ensures fault { IfErr result (λ e. other_fault way nid dir bits ≡ Some e) }

@@ -1,4 +1,4 @@
--- The bytes of an item, with the real numbers of its packets, and what a reader answers to them.
+-- The bytes of an item, with the real numbers of its packets, and what a reader returns for them.
 use Rattle.std.proofs.Common.{◌≡◌, ℕ, ◌+◌, ◌*◌, ◌^◌, ◌<◌, Bool, List, [], ◌∷◌, ◌++◌, length, drop, Result, Ok, Err, refl, sym, ap, subst, ◌∙◌, arith, append_assoc, append-nil}
 use Rattle.std.proofs.lemmas.List.{length-append, take_all, take-append-drop, nil_from_length}
 use Rattle.etcs_bits.specs.Bits.{num}
@@ -98,7 +98,7 @@ message_long q nid len rest is small long (of_message way m) r c d reads same =
     let lens = same_len h.nid nid h.len len h.rest rest c d h.small small e in
     omega (arith, h.long, long, lens)
 
--- ---- What a reader answers.
+-- ---- What a reader returns.
 
 -- no items of the kind are longer or shorter than the bits: so they are all of it
 all_taken : (kind : Kind) (b : List Bool) (e : EntryValue) (r : Reading) (d : List Bool) → HasLength kind b → EntryReads kind e r → spelled r ≡ b ++ d → spelled r ≡ b

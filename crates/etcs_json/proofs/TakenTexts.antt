@@ -103,7 +103,7 @@ telegram_taken size header packets fill old one two three four five six new firs
 
 -- ---- A message.
 
--- the variables in front of its number
+-- the variables before its number
 pub front_taken : (body head : Reading) (own old one new : List ℕ) → own ≡ compact_text (pairs_tree body) → old ≡ own ++ 44 ∷ 34 ∷ (codes "header\":" ++ one) → one ≡ compact_text (pairs_tree head) ++ new → codes "{\"fields\":" ++ old ≡ message_front body head ++ new
 front_taken body head own old one new is first headed =
     let x = compact_text (pairs_tree body) in

@@ -47,7 +47,7 @@ header_read r h =
 pub header_row_of : (h : HeaderValue) → IsAdmitted (header_reading h) → Reads (as_row header_row) [] (header_reading h)
 header_row_of h a = fields_row header_row [] (header_reading h) (header_reads h a)
 
--- what a clause says of an option, at what it is
+-- a clause about an option, for the value that it has
 pub some_at : (X : Type 0) (o : Option X) (x : X) (g : X → List ℕ) (row : Layout) (d : Data) → o ≡ Some x → IfSome o (λ y. SaysNumbers row d (g y)) → SaysNumbers row d (g x)
 some_at X None x g row d e h = absurd cc
 some_at X (Some y) x g row d e h = let same : y ≡ x = cc in subst (λ (z : X). SaysNumbers row d (g z)) same h

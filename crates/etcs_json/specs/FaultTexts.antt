@@ -1,4 +1,4 @@
--- What is said of a fault.
+-- The text of a fault.
 use Rattle.std.specs.Prelude.{ℕ, List, ◌++◌, codes}
 use Rattle.std.specs.Fmt.{decimal}
 use Rattle.etcs_vars.specs.Vars.{name}

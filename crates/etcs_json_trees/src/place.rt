@@ -10,7 +10,7 @@ ghost use Rattle.etcs_json_trees.specs.Places.{is_object, items_place, limit, me
 pub enum Place {
     /// An item: an object.
     Item,
-    /// The pairs of a header, or those that a message has besides packets.
+    /// The pairs of a header, or those that a message has in addition to packets.
     Own,
     /// A list of packets.
     Packets,

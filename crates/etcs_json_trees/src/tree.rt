@@ -21,8 +21,8 @@ const MAX_DEPTH: usize = 127;
 /// their places, and no larger than that of the largest item. Of two members of one name the last counts. `None` where the
 /// line isn't UTF-8 or JSON, or no item has such a tree.
 ///
-/// Of what doesn't fit nothing is made. Tried with lines of 1 MiB of many shapes, it took at most 4 MB besides the line,
-/// twice its length among them, and 24 KB of stack.
+/// Nothing is made of what doesn't fit. With lines of 1 MiB of many shapes it took at most 4 MB in addition to the line,
+/// twice its length included, and 24 KB of stack.
 ///
 /// # Errors
 ///

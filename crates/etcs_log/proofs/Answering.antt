@@ -1,4 +1,4 @@
--- What is said of a line, by what its digits say.
+-- What is written about a line, by what its digits say.
 use Rattle.std.proofs.Common.{◌≡◌, ℕ, ◌+◌, ◌-◌, ◌*◌, ◌≤◌, ◌%◌, ◌==◌, Bool, true, false, ◌&&◌, ◌||◌, cond, IsTrue, List, [], ◌∷◌, ◌++◌, length, take, drop, Result, Ok, Err, inl, inr, refl, sym, ap, subst, ◌∙◌, arith}
 use Rattle.std.proofs.lemmas.List.{append-nil, length-drop, map-append}
 use Rattle.std.proofs.Math.Seq.{take-length}
@@ -131,7 +131,7 @@ answered_bytes job number line buffer bytes n before after text text' short read
 
 -- ---- How a line is counted.
 
--- what is said of it goes elsewhere
+-- the text about it is written elsewhere
 pub counted_bad : (job : LogJob) (n : ℕ) (before after : LogTally) (text text' : List ℕ) → is_written job.good ≡ true → after.items ≡ before.items → after.bad ≡ before.bad + 1 → after.other ≡ before.other → text' ≡ text → Counted job n bad before after text text'
 counted_bad job n before after text text' good i b o t = ([], (λ _. refl, λ silent. cc (sym good ∙ silent)), t ∙ sym (append-nil text), omega (arith, i), omega (arith, b), omega (arith, o))
 
@@ -308,7 +308,7 @@ tried_asked r true kind kind' bytes bytes' job n front before after text text' a
     subst (λ (z : List ℕ). IfOk r (λ b. Tried (record { kind = kind; bytes = z } ∷ []) b job n front before after text text')) is (subst (λ (z : Kind). IfOk r (λ b. Tried (record { kind = z; bytes = bytes' } ∷ []) b job n front before after text text')) same h)
 tried_asked r false kind kind' bytes bytes' job n front before after text text' asks same is h = cc asks
 
--- ---- What is said of bytes.
+-- ---- What is written about bytes.
 
 sized_length : (s : Size) (bytes : List ℕ) (e : EntryValue) → IsItem (kind_of s) bytes e → 8 * length bytes ≡ user_bits s + pad_bits s
 sized_length s bytes e (r, reads, is) = omega (arith, length-bits bytes, ap length is, whole_length s r ((same_telegrams s r).1 (e, reads)))
@@ -371,7 +371,7 @@ pub answered_none : {T E : Type 0} (job : LogJob) (n : ℕ) (line : List ℕ) (b
 answered_none job n line before after text text' (Ok x) is counted = (bad, is, counted)
 answered_none job n line before after text text' (Err x) is counted = tt
 
--- ---- What is said of a line.
+-- ---- What is written about a line.
 
 pub line_says : (line buffer : List ℕ) (r r' : Result ℕ NoBytes) → (IsTrue (is_passed_over line) → r ≡ Err Empty) → (is_passed_over line ≡ false → Says (line_digits line) r buffer) → r ≡ r' → (r' ≡ Err Empty → ⊥) → (is_passed_over line ≡ false) × Says (line_digits line) r' buffer
 line_says line buffer r r' empty digits same differs =

@@ -144,7 +144,7 @@ GroupsText job gs text =
 abbrev pub EndText : LogJob → LogTally → List Group → List ℕ → Type 0
 EndText job tally gs text = (counts : List ℕ) × (lines : List ℕ) × CountsText job tally counts × GroupsText job gs lines × (text ≡ counts ++ lines)
 
--- this is said of the line of this number; the text written of it; and how it is counted
+-- the answer for the line of this number, the text written about it, and how it is counted
 abbrev pub Counted : LogJob → ℕ → Answer → LogTally → LogTally → List ℕ → List ℕ → Type 0
 Counted job n a before after text text' = (said : List ℕ) × IsSaid job n a said × (text' ≡ text ++ said) × (after.items ≡ before.items + items_in (a ∷ [])) × (after.bad ≡ before.bad + bad_in (a ∷ [])) × (after.other ≡ before.other + other_in (a ∷ []))
 

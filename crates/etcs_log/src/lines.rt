@@ -203,7 +203,7 @@ impl Answers {
         self.refuse_bytes(line, bytes, text)
     }
 
-    /// Takes all bytes of a line as an item of a kind that is asked for, and answers whether they are one.
+    /// Takes all bytes of a line as an item of a kind that is asked for, and returns whether they are one.
     ///
     /// # Errors
     ///
@@ -229,7 +229,7 @@ impl Answers {
         self.take_message(line, bytes, text)
     }
 
-    /// Takes the last bytes of a line as a telegram, where there are more, and answers whether they are one.
+    /// Takes the last bytes of a line as a telegram, where there are more, and returns whether they are one.
     ///
     /// # Errors
     ///
@@ -252,7 +252,7 @@ impl Answers {
         self.take_end(Kind::Short, line, bytes, text)
     }
 
-    /// Takes the bytes as a telegram of the kind, where it is asked for, or as its bits, and answers whether they are one.
+    /// Takes the bytes as a telegram of the kind, where it is asked for, or as its bits, and returns whether they are one.
     ///
     /// # Errors
     ///
@@ -280,7 +280,7 @@ impl Answers {
         self.take_item(kind, line, bytes, text)
     }
 
-    /// Takes the bytes as a message, where a way is asked for, and answers whether they are one.
+    /// Takes the bytes as a message, where a way is asked for, and returns whether they are one.
     ///
     /// # Errors
     ///
@@ -304,7 +304,7 @@ impl Answers {
         self.take_item(kinds.message_way(bytes), line, bytes, text)
     }
 
-    /// Takes the last of more bytes as a telegram of the kind, where it is asked for, and answers whether they are one.
+    /// Takes the last of more bytes as a telegram of the kind, where it is asked for, and returns whether they are one.
     ///
     /// # Errors
     ///
@@ -329,7 +329,7 @@ impl Answers {
         self.take_item(kind, line, &bytes[bytes.len() - count..], text)
     }
 
-    /// Takes these bytes as an item of the kind, and answers whether they are one.
+    /// Takes these bytes as an item of the kind, and returns whether they are one.
     ///
     /// # Errors
     ///

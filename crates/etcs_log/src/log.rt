@@ -31,7 +31,7 @@ fn make_room(buffer: &mut Vec<u8>, count: usize) -> Result<(), AllocError>
     Ok(())
 }
 
-/// Answers the lines of a log, with a buffer for the bytes of each.
+/// Returns the lines of a log, with a buffer for the bytes of each.
 #[derive(Drop)]
 pub(crate) struct LogLines {
     buffer: Vec<u8>,

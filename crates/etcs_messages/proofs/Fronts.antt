@@ -1,4 +1,4 @@
--- The variables in front of a message's packets, and the row of its own.
+-- The variables before a message's packets, and the row of its own.
 use Rattle.std.proofs.Common.{◌≡◌, ℕ, zero, suc, ◌+◌, ◌-◌, ◌≤◌, ◌<◌, true, leb, List, [], ◌∷◌, ◌++◌, length, drop, map, Some, None, refl, sym, ap, subst, ◌∙◌, arith, length-append}
 use Rattle.std.specs.Prelude.{Option, option_map, option_and_then, slice_get}
 use Rattle.std.proofs.lemmas.Bool.{and_parts, leb-true}
@@ -9,7 +9,7 @@ use Rattle.etcs_vars.specs.Vars.{width}
 use Rattle.etcs_vars.specs.Reading.{Reading, spelled}
 use Rattle.etcs_tables.specs.declared.row.Way.{Way}
 use Rattle.etcs_tables.specs.declared.item.RowItem.{RowItem}
-use Rattle.etcs_tables.specs.declared.item.RowItem.TheVariants.{One, When, Many}
+use Rattle.etcs_tables.specs.declared.item.RowItem.TheVariants.{One}
 use Rattle.etcs_tables.specs.Layouts.{Layout, Scope, whole, one, guarded, counted, Reads, items}
 use Rattle.etcs_tables.specs.Rows.{message_row_to}
 use Rattle.etcs_tables.specs.MessageRows.{header_bits, row_bits}
@@ -138,7 +138,7 @@ own_asked way {A} f nid a e = of (own_row way nid) refl (e ∙ ap (option_map f)
     of None is same = absurd cc
     of (Some own) is same = (own, is, (let here : a ≡ f (as_row own) = cc in here))
 
--- where nothing answers, the number isn't typed
+-- where there is no result, the number isn't typed
 pub none_asked : (way : Way) {A : Type 0} (f : Layout → A) (nid : ℕ) → None ≡ option_map f (message_row_to way nid) → front_row way nid ≡ None
 none_asked way {A} f nid e = of (own_row way nid) refl (e ∙ ap (option_map f) (rows_alike way nid))
   where
@@ -158,7 +158,7 @@ as_bits (v ∷ own) = ap (λ (n : ℕ). width v + n) (as_bits own)
 pub table_long : (way : Way) (table : List RowItem) → table ≡ map One (head_row way) → length table ≡ length (head_row way)
 table_long way table is = ap length is ∙ length-map (head_row way) One
 
--- how many variables are in front of the packets
+-- how many variables come before the packets
 pub count_is : (way : Way) (nid : ℕ) (table : List RowItem) → Some table ≡ option_map items (message_row_to way nid) → Some (length (head_row way) + length table) ≡ option_map length (front_row way nid)
 count_is way nid table e =
     let (own, is, same) = own_asked way items nid table e in

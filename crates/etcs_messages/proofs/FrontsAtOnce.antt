@@ -1,4 +1,4 @@
--- What is in front of a message's packets, taken at once.
+-- What comes before a message's packets, taken at once.
 use Rattle.std.proofs.Common.{◌≡◌, ℕ, suc, ◌+◌, ◌-◌, ◌<◌, ◌≤◌, Bool, List, [], ◌∷◌, ◌++◌, length, take, drop, get_or, map, Some, refl, sym, ap, subst, ◌∙◌, arith, length-append, append_assoc, append-nil}
 use Rattle.std.specs.Prelude.{IsTrue, Option, option_map, is_some, if◌then◌else◌}
 use Rattle.std.proofs.lemmas.List.{length-map, length-take, take_all, map-append}
@@ -86,7 +86,7 @@ front_span vs xs at ns end f =
 
 -- ---- The numbers that were taken so far.
 
--- these are in front of others, and come from the first of the variables
+-- these come before others, and come from the first of the variables
 pub record TakenTo (vs : List Var) (xs : List Bool) (at : ℕ) (before now : List ℕ) (place : ℕ) : Type 0 where
   pub numbers : List ℕ
   pub now_is : now ≡ before ++ numbers

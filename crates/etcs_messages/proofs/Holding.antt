@@ -83,7 +83,7 @@ module _ {P S : Type 0} (form : P → Form) (list : S → PacketList P) (s : Mes
 
 -- ---- Its packets are whole ones.
 
--- what is said of them
+-- each of them is made, and goes this way
 abbrev AreWhole : {P : Type 0} → Way → (P → Form) → List P → Type 0
 AreWhole way form ps = All (λ p. (form p).made) ps × All (IsPacketTo way) (values_of form ps)
 

@@ -35,7 +35,7 @@ rows_same way nid nid' vars vars' same typed typed' = let both : ◌≡◌ {A = 
 typed_apart : (way : Way) (nid nid' : ℕ) (vars : List Var) → nid ≡ nid' → front_row way nid ≡ Some vars → front_row way nid' ≡ None → ⊥
 typed_apart way nid nid' vars same typed none = let both : ◌≡◌ {A = Option (List Var)} (Some vars) None = sym typed ∙ ap (front_row way) same ∙ none in absurd cc
 
--- ---- What is in front of the packets isn't more.
+-- ---- What comes before the packets isn't more.
 
 front_packets : (way : Way) (far : Reading) (nid len : ℕ) (vars : List Var) (front : List ℕ) (t : Reading) → InFront way far → front_row way nid ≡ Some vars → length front ≡ length vars → far ≡ headed nid len (labelled vars front ++ t) → ⊥
 front_packets way far nid len vars front t (inl none) typed all is = let two : ◌≡◌ {A = Reading} [] (headed nid len (labelled vars front ++ t)) = sym none ∙ is in absurd cc

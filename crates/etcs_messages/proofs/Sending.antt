@@ -32,7 +32,7 @@ use Rattle.etcs_messages.proofs.RestStands.{packets_parts}
 pub two_sent : {S : Type 0} (with : S → Reading → S) → ((s : S) (a b : Reading) → with s (a ++ b) ≡ with (with s a) b) → (old one new : S) (a b q : Reading) → one ≡ with old a → new ≡ with one b → q ≡ a ++ b → new ≡ with old q
 two_sent {S} with both old one new a b q first second is = second ∙ ap (λ (t : S). with t b) first ∙ sym (both old a b) ∙ ap (with old) (sym is)
 
--- ---- The variables in front of the packets.
+-- ---- The variables before the packets.
 
 -- one more of them
 pub labelled_at : (vs : List Var) (ns : List ℕ) (at : ℕ) (x : Var) → at < length ns → Some x ≡ first_of (drop at vs) → labelled vs (take (at + 1) ns) ≡ labelled vs (take at ns) ++ (x, get_or ns at 0) ∷ []

@@ -61,7 +61,7 @@ one_row way nid nid' row row' n e e' = let found : Some row ≡ Some row' = sym 
 pub not_both : (way : Way) (nid nid' : ℕ) (row : Layout) → nid ≡ nid' → message_row_to way nid ≡ Some row → message_row_to way nid' ≡ None → ⊥
 not_both way nid nid' row n e e' = let found : Some row ≡ None = sym e ∙ ap (message_row_to way) n ∙ e' in absurd cc
 
--- how many bits are in front of PADDING
+-- how many bits come before PADDING
 front_length : (way : Way) (nid len : ℕ) (h : Reading) (body packets : Reading) → ReadsFields (head_row way) h → length (spelled ((head_reading nid len h ++ body) ++ packets)) ≡ front_of way body + length (spelled packets)
 front_length way nid len h body packets reads =
     let l1 = length-spelled (head_reading nid len h ++ body) packets in

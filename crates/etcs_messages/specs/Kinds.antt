@@ -1,6 +1,5 @@
--- What is said of the heads and the bodies of the messages of a way (SUBSET-026, 8).
-use Rattle.std.specs.Prelude.{◌≡◌, ℕ, Bool, true, false, List, [], ◌∷◌, length, take, drop, Option, Some, None, IsTrue}
-use Rattle.etcs_vars.specs.declared.var.Var.{Var}
+-- The laws of the heads and the bodies of the messages of a way (SUBSET-026, 8).
+use Rattle.std.specs.Prelude.{◌≡◌, ℕ, Bool, true, false, List, [], length, take, drop, Option, Some, None, IsTrue}
 use Rattle.etcs_vars.specs.declared.fault.BuildFault.{BuildFault}
 use Rattle.etcs_vars.specs.Reading.{Reading, numbers}
 use Rattle.etcs_tables.specs.declared.row.Way.{Way}
@@ -87,6 +86,6 @@ pub record OwnLaws (way : Way) (B : Type 0) (sent : B → Reading) (k : OwnOf B)
   pub one : (b c : B) → IsOwn k b → IsOwn k c → k.nid b ≡ k.nid c → k.reading b ≡ k.reading c → b ≡ c
   pub back : (nid : ℕ) (row : Layout) (r : Reading) → message_row_to way nid ≡ Some row → Reads row [] r → IsMadeOf k nid r (k.made nid (numbers r))
 
--- the head and the body that these numbers of the variables in front of the packets make
+-- the head and the body that these numbers of the variables before the packets make
 abbrev pub IsFrontBy : {H B : Type 0} → Way → HeadOf H → OwnOf B → ℕ → List ℕ → H → B → Type 0
 IsFrontBy way k o nid f head body = (head ≡ k.made (take (length (head_row way)) f)) × (body ≡ o.made nid (drop (length (head_row way)) f))

@@ -54,7 +54,7 @@ some_row (Some vs) = vs
 abbrev pub front_vars : (way : Way) → ℕ → List Var
 front_vars way n = some_row (front_row way n)
 
--- how many bits are in front of the packets
+-- how many bits come before the packets
 abbrev pub front_bits : List Var → ℕ
 front_bits vs = 18 + widths vs
 
@@ -79,7 +79,7 @@ PacketsBehind l r = Padded (left_of l.carrier l.room l.stage) (ahead l.carrier l
 abbrev pub PacketsFrom : (way : Way) → ℕ → ℕ → Reading → Type 0
 PacketsFrom way front len r = Padded (PacketsIn (Message way) (8 * len - front)) (8 * len - front) r
 
--- after an L_MESSAGE of this many bytes: a message of these variables in front of its packets, or one that is kept
+-- after an L_MESSAGE of this many bytes: a message of these variables before its packets, or one that is kept
 abbrev pub Behind : (way : Way) → Option (List Var) → ℕ → Reading → Type 0
 Behind way None len r = (3 ≤ len) × (len < 2 ^ 10) × KeptIn (8 * len - 18) r
 Behind way (Some vs) len r = (front_bits vs ≤ 8 * len) × (len < 2 ^ 10) × Then (ReadsFields vs) (PacketsFrom way (front_bits vs) len) r
@@ -222,7 +222,7 @@ HoldsBy way nid phase.Whole front l padding holds q = PaddingHeld way nid front 
 
 -- ---- A message of which some was read.
 
--- its way, NID_MESSAGE, what comes next, the numbers in front of the packets so far, what is left of packets, PADDING so far
+-- its way, NID_MESSAGE, what comes next, the numbers before the packets so far, what is left of packets, PADDING so far
 -- as a number, and where the packets go
 pub record MessageState (S : Type 0) : Type 0 where
   pub way : Way

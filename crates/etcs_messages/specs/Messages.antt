@@ -38,7 +38,7 @@ abbrev pub IsAdmitted : Reading → Type 0
 IsAdmitted [] = Unit {0}
 IsAdmitted (p ∷ r) = IsTrue (admits p.0 p.1) × IsAdmitted r
 
--- how many bits are in front of the packets
+-- how many bits come before the packets
 abbrev pub front_of : Way → Reading → ℕ
 front_of way body = header_bits way + length (spelled body)
 

@@ -67,7 +67,7 @@ IsMessagePart holds way xs rest n = IsPart Left (Follows holds) (OwnHeld holds w
 
 -- ---- What it holds between two pieces.
 
--- NID_MESSAGE, L_MESSAGE and variables in front of the packets, as far as they were read
+-- NID_MESSAGE, L_MESSAGE and variables before the packets, as far as they were read
 abbrev pub InFront : Way → Reading → Type 0
 InFront way far =
     (far ≡ [])

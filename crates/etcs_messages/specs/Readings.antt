@@ -48,7 +48,7 @@ module _ {H B P : Type 0} (way : Way) (o : OwnOf B) (form : P → Form) where
   padding_bits_of (Typed head body ps padding) = padding_room (all_bits way o form body ps)
   padding_bits_of (Kept nid b) = 0
 
-  -- how many bits are in front of PADDING
+  -- how many bits come before PADDING
   abbrev pub unpadded_bits : Content H B P → ℕ
   unpadded_bits (Typed head body ps padding) = all_bits way o form body ps
   unpadded_bits (Kept nid b) = 18 + length b
@@ -58,7 +58,7 @@ module _ {H B P : Type 0} (way : Way) (o : OwnOf B) (form : P → Form) where
   bytes_of m = (unpadded_bits m + 7) / 8
 
 module _ {H B P : Type 0} (way : Way) (k : HeadOf H) (o : OwnOf B) (form : P → Form) where
-  -- the variables in front of the packets, or of kept bits
+  -- the variables before the packets, or of kept bits
   abbrev pub front_reading : Content H B P → Reading
   front_reading (Typed head body ps padding) = head_reading (o.nid body) (bytes_of way o form (Typed head body ps padding)) (k.reading head) ++ o.reading body
   front_reading (Kept nid b) = (NID_MESSAGE, nid) ∷ (L_MESSAGE, bytes_of {H = H} way o form (Kept nid b)) ∷ []

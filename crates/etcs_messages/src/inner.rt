@@ -1,4 +1,4 @@
-//! For the crates above: the variables in front of a message's packets, in the order of sending, and what is left of a
+//! For the crates above: the variables before a message's packets, in the order of sending, and what is left of a
 //! message.
 
 ghost use Rattle.std.specs.Prelude.{◌*◌, ◌≤◌, ◌<◌, ◌^◌, length, IfSome};
@@ -12,7 +12,7 @@ pub use crate::rest::MessageRest;
 pub use crate::variables::send_front;
 use etcs_packets::inner::AnyPacket;
 
-/// How many bits are in front of the packets of the message that the bytes begin with. `None` where it isn't typed, and
+/// How many bits come before the packets of the message that the bytes begin with. `None` where it isn't typed, and
 /// where the bytes don't have them all.
 pub fn front_in<H: Head>(bytes: &[u8]) -> Option<usize>
     requires { 8 * length bytes.now < 2 ^ 64 }

@@ -43,7 +43,7 @@ pub trait Head: Variables + Copy {
 pub trait Own: Variables + Copy {
     ghost use Rattle.etcs_messages.specs.Kinds.{OwnOf, OwnLaws, IsOwnNumbers};
 
-    /// What is in front of it.
+    /// What comes before it.
     type Front: Head;
 
     /// The laws of such bodies.

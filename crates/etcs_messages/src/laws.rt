@@ -89,7 +89,7 @@ fn append_again<H: Head, B: Own<Front = H>>(
 }
 
 /// Reads a message from the front of some bytes and appends its encoding: these are then the bytes that were read.
-/// Answers how many they are, or `None` where no message is at the front, and then appends nothing.
+/// Returns how many they are, or `None` where no message is at the front, and then appends nothing.
 ///
 /// # Errors
 ///

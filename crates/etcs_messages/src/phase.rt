@@ -47,7 +47,7 @@ pub(crate) fn front_count(way: Way, nid: u8) -> Option<usize>
     Some(head_row(way).items.len() + row.items.len())
 }
 
-/// How many bits are in front of the packets of a message of this number. `None` where the number isn't typed.
+/// How many bits come before the packets of a message of this number. `None` where the number isn't typed.
 pub(crate) fn front_bits(way: Way, nid: u8) -> Option<usize>
     ensures { result ≡ option_map front_bits (front_row way nid) }
 {

@@ -25,7 +25,7 @@ use etcs_vars::{Fed, ReadFault};
 use std::alloc::Global;
 use std::marker::Model;
 
-/// The head and the body of a typed message by the numbers in front of its packets.
+/// The head and the body of a typed message by the numbers before its packets.
 #[inline(always)]
 pub(crate) fn front_by<H: Head, B: Own<Front = H>>(nid: u8, front: &[u64]) -> (H, B)
     requires there { length (head_row H.Packet.WAY) ≤ length front.now }
@@ -143,7 +143,7 @@ impl<H: Head, B: Own<Front = H>> ItemRest for MessageRest<H, B> {
 }
 
 /// Reads a message from pieces of any length (SUBSET-026, 8). It keeps none of the bytes: only NID_MESSAGE,
-/// the numbers in front of the packets, the packets that are whole, the numbers or kept bits of the packet that is
+/// the numbers before the packets, the packets that are whole, the numbers or kept bits of the packet that is
 /// being read or of a message that is kept whole, PADDING and one unfinished variable; or the message, where the first
 /// piece had all of it.
 #[derive(Drop)]
@@ -188,7 +188,7 @@ impl<H: Head, B: Own<Front = H>> ReaderOf<H, B> {
     /// `Refused` with the first bit, counted from 0 over all pieces, with which no message continues, and the variable
     /// that holds it; `Memory` where memory is refused, for packets or kept bits after NID_MESSAGE and L_MESSAGE, at
     /// a bit with which a message continues, which is no bit of Q_DIR or PADDING; `Ended` where the message was whole
-    /// before. The reader then answers the same to each later piece, and `bits_seen` reports how far it came.
+    /// before. The reader then returns the same for each later piece, and `bits_seen` reports how far it came.
     pub fn feed(&mut self, piece: &[u8]) -> Result<Fed, ReadFault>
         ensures answer { (seen : List Bool) → self.old ≡ reading seen → Feeds (MessageReads H.Packet.WAY) (message_value H.Packet.WAY H.head B.own H.Packet.form) (IsMessage H.Packet.WAY H.head B.own H.Packet.form) 18 seen (bits piece.now) result self.new }
         ensures after { (IsReading self.old → ⊥) → (self.new ≡ self.old) × (result ≡ Err (fault_of self.old)) }

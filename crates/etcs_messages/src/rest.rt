@@ -35,7 +35,7 @@ pub struct MessageRest<H: Head, B: Own<Front = H>> {
     /// NID_MESSAGE, once it was read.
     pub(crate) nid: u8,
     pub(crate) phase: Phase,
-    /// The numbers after L_MESSAGE and in front of the packets so far.
+    /// The numbers after L_MESSAGE and before the packets so far.
     pub(crate) front: ArrayVec<u64, 5>,
     /// The packets. The bits of a message that is kept are in their store.
     pub(crate) packets: PacketsRest<H::Store>,
@@ -132,7 +132,7 @@ impl<H: Head, B: Own<Front = H>> MessageRest<H, B> {
         }
     }
 
-    /// After a variable in front of the packets.
+    /// After a variable before the packets.
     fn pass_front(&mut self, at: usize, number: u64)
         requires phase { self.old.phase ≡ Phase.Front at }
         ensures { (x : Var) → next_var self.old ≡ Some x → Starts (Left self.old) x 0 number → Follows H.Store.holds self.old ((x, number) ∷ []) self.new }

@@ -47,7 +47,7 @@ impl<H: Head, B: Own<Front = H>> Variables for MessageOf<H, B> {
 impl<H: Head, B: Own<Front = H>> MessageOf<H, B> {
     ghost use Rattle.etcs_messages.specs.Readings.{front_reading};
 
-    /// The variables in front of the packets with their numbers, in the order of sending (SUBSET-026, 8): NID_MESSAGE
+    /// The variables before the packets with their numbers, in the order of sending (SUBSET-026, 8): NID_MESSAGE
     /// and L_MESSAGE, and of a typed message the rest of the header and the variables of its own.
     ///
     /// # Errors
@@ -62,7 +62,7 @@ impl<H: Head, B: Own<Front = H>> MessageOf<H, B> {
     }
 }
 
-/// Sends what is in front of the packets: NID_MESSAGE and L_MESSAGE, and of a typed message the rest of the header
+/// Sends what comes before the packets: NID_MESSAGE and L_MESSAGE, and of a typed message the rest of the header
 /// and the variables of its own. Takes no memory of its own.
 ///
 /// # Errors
@@ -146,7 +146,7 @@ fn send_numbers<S: VarSink>(
 }
 
 impl<H: Head, B: Own<Front = H>> MessageRest<H, B> {
-    /// L_MESSAGE, where the variables that were read, which take this many bits, are all in front of PADDING, and the packet
+    /// L_MESSAGE, where the variables that were read, which take this many bits, are all before PADDING, and the packet
     /// that is read last is whole.
     fn bytes_by(&self, bits: usize) -> Option<usize>
         requires { bits ≤ 8184 }
@@ -178,8 +178,8 @@ impl<H: Head, B: Own<Front = H>> MessageRest<H, B> {
         Some((bits + 7) / 8)
     }
 
-    /// Sends the variables that were read, which take this many bits: those in front of the packets and those of whole packets,
-    /// where the number of a packet comes next, or PADDING, of which no bit was read. Elsewhere it answers false, and sends none.
+    /// Sends the variables that were read, which take this many bits, and returns true, if the message is typed and NID_PACKET
+    /// comes next, or its packets are closed and no bit of PADDING was read. Otherwise it sends none and returns false.
     ///
     /// # Errors
     ///

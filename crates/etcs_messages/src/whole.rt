@@ -39,7 +39,8 @@ const NUMBER_BITS: usize = 8;
 const LENGTH_BITS: usize = 10;
 
 /// The message that a piece begins with, and how many bytes it has. It may always return `None`, as where the piece begins
-/// with none, and where memory is refused. In `part` it may then put what is left after this many bits of the piece.
+/// with none, and where memory is refused. Then it may put into `part` what is left of the item after the
+/// first bits of the piece, and how many these are.
 pub(crate) fn message_at<H: Head, B: Own<Front = H>>(
     room: &mut Room<H::Packet>,
     piece: &[u8],
@@ -95,7 +96,7 @@ fn kept_at<H: Head, B: Own<Front = H>>(
     }
 }
 
-/// The typed message of this number, with this many bits in front of its packets.
+/// The typed message of this number, with this many bits before its packets.
 #[inline(always)]
 fn typed_at<H: Head, B: Own<Front = H>>(
     room: &mut Room<H::Packet>,
@@ -144,7 +145,7 @@ fn typed_at<H: Head, B: Own<Front = H>>(
 }
 
 /// Puts into `part` what is left of a typed message of which the first packets were taken in one pass. Its packets have the
-/// room from `front` to `end`, of which this many bits are left. The variables in front of them are passed once more. It may
+/// room from `front` to `end`, of which this many bits are left. The variables before them are passed once more. It may
 /// always put nothing.
 #[cold]
 #[inline(never)]
@@ -174,8 +175,8 @@ fn resume<H: Head, B: Own<Front = H>>(
     *part = Some((rest, end - left));
 }
 
-/// What is in front of the packets of a typed message of this number, after L_MESSAGE, where each variable admits its
-/// number. The bits are those of the message in front of its packets.
+/// What comes before the packets of a typed message of this number, after L_MESSAGE, where each variable admits its
+/// number. The bits are those of the message before its packets.
 #[inline(always)]
 fn front_at<H: Head, B: Own<Front = H>>(nid: u8, bits: BitSlice<'_>) -> Option<(H, B)>
     requires typed { (vars : List Var) × (front_row H.Packet.WAY nid ≡ Some vars) × (length bits ≡ front_bits vars) }

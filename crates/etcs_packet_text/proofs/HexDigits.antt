@@ -41,7 +41,7 @@ pub none_yet : (old : List ℕ) (count : ℕ) → drop (2 * count) old ≡ encod
 unfolding encode_with
 none_yet old count = rw (drop_all count (take count old) (omega (arith, length-take count old))) refl
 
--- the digits of one byte more, in front of the others
+-- the digits of one byte more, before the others
 one_more : (xs rest text new : List ℕ) (k : ℕ) → k < length xs → drop (2 * (k + 1)) text ≡ encode_upper (drop (k + 1) xs) ++ rest → drop (2 * k) new ≡ encode_upper (slice_index xs k ∷ []) ++ drop (2 * k + 2) text → drop (2 * k) new ≡ encode_upper (drop k xs) ++ rest
 unfolding encode_with
 one_more xs rest text new k inside behind written =

@@ -27,7 +27,7 @@ pairs_tree r = array (items_of (map pair_tree r))
 abbrev pub bits_tree : List Bool → Data
 bits_tree bs = string (map bit_digit bs)
 
--- the direction, which is sent to the train alone, in front of others
+-- the direction, which is sent to the train alone, before others
 abbrev pub with_dir : Way → ℕ → Members → Members
 with_dir ToTrain dir ms = member (codes "dir") (number (unsigned dir)) ms
 with_dir ToTrack dir ms = ms

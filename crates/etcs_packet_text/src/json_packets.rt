@@ -24,7 +24,7 @@ fn sent_dir<P: AnyPacket>(packet: &P) -> Option<u8>
     }
 }
 
-/// Appends what is in front of a packet's fields.
+/// Appends what comes before a packet's fields.
 fn write_front<P: AnyPacket>(packet: &P, page: &mut JsonPage) -> Result<(), AllocError>
     ensures ok { OnOk result (page.new.0 ≡ page.old.0 ++ fields_front (sent_dir P.WAY (P.form packet.now).value)) }
     ensures err { OnErr result (Begins page.old.0 page.new.0) }

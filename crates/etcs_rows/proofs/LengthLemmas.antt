@@ -124,7 +124,7 @@ lengths_are row sound m =
           ([], x.0, (same x.0).1 x.1, refl, x.2, small),
     )
 
--- a group in front of what is left, so often
+-- a group before what is left, k times
 pub lengths-iterate : (k n : ℕ) (group x : Layout) → Open x → SameSet (LengthsBy (iterate k (onto n group) x) 0) (Plus (SumOf k (LengthsBy group n)) (LengthsBy x 0))
 lengths-iterate k n group x h =
     let row = iterate k (onto n group) x in let G = ReadsBy group n in

@@ -1,4 +1,4 @@
--- What a walk says of what is left of a row holds of all bits of the row.
+-- What a walk says about what is left of a row holds for all bits of the row.
 use Rattle.std.proofs.Common.{◌≡◌, ℕ, ◌-◌, ◌≤◌, Bool, List, [], ◌∷◌, ◌++◌, length, Some, None, true, false, refl, sym, ap, subst, ◌∙◌, arith, append_assoc}
 use Rattle.std.specs.Prelude.{◌↔◌, IsTrue, if◌then◌else◌}
 use Rattle.std.proofs.lemmas.List.{length-append}

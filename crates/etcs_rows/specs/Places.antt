@@ -60,7 +60,7 @@ abbrev pub read_of : Layout → List ℕ → Reading
 read_of row [] = []
 read_of row (n ∷ f) = one_more (first_variable row) (after_number row n) n (λ mid. read_of mid f)
 
--- ---- What a place says of the row.
+-- ---- What a place says about the row.
 
 -- readings of the row that begin with the numbers f are the readings of what is left, after the pairs in front of it;
 -- where nothing is left, there are none

@@ -28,11 +28,11 @@ moved_word by words i = if nat_lt i by then 0 else get_or words (i - by) 0
 abbrev pub shifted_word : ℕ → ℕ → ℕ → ℕ
 shifted_word by word before = bit_or (word * 2 ^ by % 2 ^ 64) (before / 2 ^ 1 / 2 ^ (63 - by))
 
--- word i of the words with each number so much more
+-- word i of the words with `by` added to each number
 abbrev pub raised_word : ℕ → List ℕ → ℕ → ℕ
 raised_word by words i = shifted_word (by % 64) (moved_word (by / 64) words i) (moved_word (by / 64 + 1) words i)
 
--- the words from low up to high, without it, took in those of words with each number so much more
+-- the words from low up to high, without it, took in those of words with `by` added to each number
 pub record TakesIn (by : ℕ) (words : List ℕ) (low high : ℕ) (old new : List ℕ) : Type 0 where
   pub within : (i : ℕ) → low ≤ i → i < high → get_or new i 0 ≡ bit_or (get_or old i 0) (raised_word by words i)
   pub under : (i : ℕ) → i < low → get_or new i 0 ≡ get_or old i 0

@@ -89,6 +89,6 @@ pub record GoesOnAs (row : Layout) (len : ℕ) (p : Reading) (left : Layout) (bi
   pub spelling : InLanguage (ReadsIn row len) (spelled p ++ t) ↔ InLanguage (ReadsIn left bits) t
   pub owner : (x : Var) → Owner (ReadsIn left bits) t x → Owner (ReadsIn row len) (spelled p ++ t) x
 
--- what a walk says of what is left of a row holds of all bits of the row
+-- what a walk says about what is left of a row holds for all bits of the row
 abbrev pub WalksWhole : Type 0
 WalksWhole = (row : Layout) (len : ℕ) (p : Reading) (left : Layout) (bits : ℕ) (t : List Bool) → IsTrue (is_sound row) → ReadTo row len p left bits → GoesOnAs row len p left bits t

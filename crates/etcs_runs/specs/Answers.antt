@@ -1,4 +1,4 @@
--- What is said of digits.
+-- What is returned for digits.
 use Rattle.std.specs.Prelude.{◌≡◌, ℕ, ◌-◌, ◌%◌, ◌<◌, ◌≤◌, Bool, false, nat_le, List, [], length, drop, Result, Ok, Err}
 use Rattle.hex.specs.Hex.{decode_of}
 use Rattle.etcs_runs.specs.declared.digits.NoBytes.{NoBytes}
@@ -11,7 +11,7 @@ Says digits (Err Empty) buffer = ⊥
 Says digits (Err NoDigits) buffer = digits ≡ []
 Says digits (Err (OddDigits n)) buffer = (n ≡ length digits) × (n % 2 ≡ 1)
 
--- digits of which this is said are enough for an item
+-- digits with this result are enough for an item
 abbrev pub says_enough : Result ℕ NoBytes → Bool
 says_enough (Ok n) = nat_le 10 n
 says_enough (Err Empty) = false

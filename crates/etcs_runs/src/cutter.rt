@@ -44,7 +44,7 @@ pub trait LineHandler {
     ///
     /// # Errors
     ///
-    /// Where each input that begins so ends so, and `Memory`. The text of the items in front was appended.
+    /// A fault with which every input that begins like this one ends; or `Memory`. The text of the items before was appended.
     fn handle_line(&mut self, line: &[u8], number: u64, text: &mut Vec<u8>) -> Result<(), RunFault>
         requires took { TookSome (took self.old) }
         ensures job { job self.new ≡ job self.old }
@@ -52,8 +52,8 @@ pub trait LineHandler {
         ensures err { StopsAtLine (took self.old) (promises (job self.old)) line.now number text.old.items text.new.items result }
         ensures said { SaysAfter (took self.old) (said self.new) text.old.items text.new.items result };
 
-    /// The line of this number has more characters than `most` and a CR, and isn't kept. Where this answers `Ok`, it has
-    /// reported the line, whatever else it has, and the next call is of the line after it, or `close`.
+    /// Takes the line of this number, which has more characters than `most` and a CR, and isn't kept. After `Ok` the line has
+    /// been reported, however it continues, and the next call is for the line after it, or is `close`.
     ///
     /// # Errors
     ///

@@ -10,14 +10,14 @@ ghost use Rattle.etcs_runs.specs.Answers.{Says, says_enough};
 use crate::hexadecimal::{decode, is_digit};
 use memchr::memchr3;
 
-/// Why a line says no bytes.
+/// Why a line has no bytes.
 #[derive(Clone, Copy, Debug, PartialEq, Eq)]
 pub enum NoBytes {
     /// It is blank, or a comment: its first character that is no blank is `#`.
     Empty,
     /// There are no digits at its end, nor enough for an item anywhere.
     NoDigits,
-    /// Their number is odd: this.
+    /// The number of its digits, this, is odd.
     OddDigits(usize),
 }
 
@@ -383,17 +383,17 @@ fn is_empty(line: &[u8]) -> bool
     }
 }
 
-/// Writes the bytes that the digits of a line say to the end of `buffer`, and answers how many they are. The digits are those
-/// at the line's end: its last words, where these are groups of hexadecimal digits, perhaps with `0x` in front, with blanks,
-/// commas, semicolons, equals signs, quotes or brackets between; else those at the end of the last word, groups with any
-/// characters between that are neither digits nor letters, or what follows the last of these. Groups have one even size of
-/// at most 16 digits; the last of them may be smaller. Where these are fewer than 20 digits, the part or word at the end is
-/// passed over, and then the next one, until there are 20. A comment (`#`, `;` or `//` after a blank) is passed over where
-/// 20 digits are found before it, and so are a byte order mark and what is in front of the digits.
+/// Writes the bytes that the digits of a line stand for to the end of `buffer`, and returns how many they are. The digits
+/// are found as docs/FORMAT.md describes: those of the last words that are groups of one even size (at most 16 digits, the
+/// last group perhaps smaller), or else those at the end of the last word, cut at characters that are neither digits nor
+/// letters. If they are fewer than 20, the part or word at the end is skipped, and then the one before it, until there are
+/// 20; if there never are, the digits are those at the end. A comment (`#`, `;` or `//` after a blank) is skipped if there
+/// are 20 digits before it; a byte order mark and what is in front of the digits always are.
 ///
 /// # Errors
 ///
-/// `Empty` comes first.
+/// `Empty` if the line is blank or a comment, which is looked at first; `NoDigits` if it has none at its end and nowhere 20;
+/// `OddDigits` with their number if that is odd. No clause says what the buffer holds then.
 pub fn line_bytes(line: &[u8], buffer: &mut [u8]) -> Result<usize, NoBytes>
     requires room { length line.now ≤ 2 * length buffer.old }
     ensures empty { IsTrue (is_passed_over line.now) → result ≡ Err NoBytes.Empty }

@@ -80,7 +80,7 @@ pub trait Sink {
         ensures { result ≡ failures self.now };
 }
 
-/// What a call that failed answers, which is one more of them.
+/// Counts a failed call, and returns `Failed`.
 fn counted(failures: &mut u64) -> Failed
     requires { failures.old < 2 ^ 64 - 1 }
     ensures { failures.new ≡ failures.old + 1 }

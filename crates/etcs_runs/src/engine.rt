@@ -39,7 +39,7 @@ pub trait Engine {
     ///
     /// # Errors
     ///
-    /// Where each input that begins so ends so, and `Memory`. The text of the items in front was appended.
+    /// A fault with which every input that begins like this one ends; or `Memory`. The text of the items before was appended.
     fn feed(&mut self, piece: &[u8], text: &mut Vec<u8>) -> Result<(), RunFault>
         requires stands { (given : List ℕ) × (output : List ℕ) × stands self.old given output × (length given + length piece.now < 2 ^ 62) }
         requires empty { text.old.items ≡ [] }

@@ -30,7 +30,7 @@ pub enum RunFault {
     /// The writer failed or took nothing, after this many bytes of the run.
     #[error("the output could not be written after {sent} bytes")]
     Write { sent: u64 },
-    /// More reads or items than a run has.
+    /// The input isn't at its end after as many reads or items as a run may have.
     #[error("the input has no end")]
     Endless,
     /// Memory was refused.

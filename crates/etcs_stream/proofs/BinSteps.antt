@@ -81,7 +81,7 @@ module _ (job : Job) (r : ReaderValue) (n : Reported) (given output t : List ℕ
   bin_not_closed t' fault same (inl h') = subst (λ z. IsOfEngine fault × StopsAtEnd job given (output ++ z) fault) (sym same) (bin_truncated fault h'.0 h'.1)
   bin_not_closed t' fault same (inr e) = subst (λ z. IsOfEngine fault × StopsAtEnd job given (output ++ z) fault) (sym same) (bin_starved fault e)
 
-  -- what the end of the input answers
+  -- what the end of the input returns
   pub bin_finish_ends : (t' : List ℕ) (answer : Result Tally RunFault) → OnOk answer (seen_bits r.progress ≡ []) → IfOk answer (λ tally. (last : List ℕ) × Closes job.command n last tally × (t' ≡ t ++ last)) → IfOk answer (λ tally. Ends job given (output ++ t') tally)
   bin_finish_ends t' (Ok tally) e (last, closes, is) = bin_ends last t' tally e closes is
   bin_finish_ends t' (Err f) e h' = tt

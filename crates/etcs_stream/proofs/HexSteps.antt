@@ -198,7 +198,7 @@ module _ (job : Job) (r : ReaderValue) (n : Reported) (begun : List ℕ) (line :
       (says_first job given (lines_bytes h.lines ++ line_bytes begun) h.form (inr text))
       (λ es end early k. items_of job given es end h.form (inl (lines_bytes h.lines ++ line_bytes begun, text, k)))
 
-  -- ---- What the code answers.
+  -- ---- What the code returns.
 
   -- a line is bad, or its items halted
   pub hex_line_stops : (part whole behind t' : List ℕ) (fault : RunFault) → IsLine part → whole ≡ begun ++ part → ((place : ℕ) × (bad_place (strip_cr whole) ≡ Some place) × (fault ≡ BadHex (line + 1) place) × (t' ≡ t)) ⊎ ((bad_place (strip_cr whole) ≡ None) × Halts job.kind job.command (seen_bits r.progress) n (line_bytes (strip_cr whole)) t t' fault) → IsOfEngine fault × Stops job (given ++ (part ++ 10 ∷ behind)) (output ++ t') fault
@@ -256,7 +256,7 @@ module _ (job : Job) (r : ReaderValue) (n : Reported) (begun : List ℕ) (line :
     hex_not_closed t'' fault same (inl h') = subst (λ z. IsOfEngine fault × StopsAtEnd job given (output ++ z) fault) (sym same) (hex_truncated fault h'.0 h'.1)
     hex_not_closed t'' fault same (inr e) = subst (λ z. IsOfEngine fault × StopsAtEnd job given (output ++ z) fault) (sym same) (hex_closes_starved fault e)
 
-    -- what the end of the input answers
+    -- what the end of the input returns
     pub hex_finish_ends : (t'' : List ℕ) (answer : Result Tally RunFault) → OnOk answer (seen_bits r'.progress ≡ []) → IfOk answer (λ tally. (last : List ℕ) × Closes job.command n' last tally × (t'' ≡ t' ++ last)) → IfOk answer (λ tally. Ends job given (output ++ t'') tally)
     hex_finish_ends t'' (Ok tally) e (last, closes, is) = hex_ends last t'' tally e closes is
     hex_finish_ends t'' (Err f) e h' = tt

@@ -46,7 +46,7 @@ module _ (job : Job) (r : ReaderValue) (n : Reported) (lines : List (List ℕ)) 
         (stand_more job (seen_bits r.progress) n (lines_bytes lines) output t h.items (line_bytes (strip_cr raw)) t' (seen_bits r'.progress) n' more few room waits.unfinished);
   }
 
-  -- what the code answers of a line
+  -- what the code returns for a line
   pub took_more : (r' : ReaderValue) (n' : Reported) (t' line : List ℕ) (answer : Result Unit RunFault) → line ≡ strip_cr raw → OnOk answer (bad_place line ≡ None) → OnOk answer (Awaits job.kind r') → OnOk answer (n'.count ≤ 1000000) → (HasRoom n.count (seen_bits r.progress) → OnOk answer (HasRoom n'.count (seen_bits r'.progress))) → OnOk answer (Advances job.kind job.command (seen_bits r.progress) (seen_bits r'.progress) n n' (line_bytes line) t t') → OnOk answer (HexTook job r' n' (lines ++ (raw ∷ [])) (output ++ t'))
   took_more r' n' t' line (Ok u) e good waits few room more =
       one_more r' n' t' (subst (λ z. bad_place z ≡ None) e good) waits few (room h.items.room) (subst (λ z. Advances job.kind job.command (seen_bits r.progress) (seen_bits r'.progress) n n' (line_bytes z) t t') e more)

@@ -245,7 +245,7 @@ module _ (job : Job) (n : Reported) (lines : List (List ℕ)) (output t : List �
         let es = h.items ++ m.items in
         (es, first_items job n lines (output ++ t) h given es (inr (ended_json l)), (n', all_text))
 
-  -- ---- What the code answers.
+  -- ---- What the code returns.
 
   pub json_line_took : (raw line : List ℕ) (n' : Reported) (t' : List ℕ) (answer : Result Unit RunFault) → IsLine raw → line ≡ strip_cr raw → OnOk answer (TakesJson job line n n' t t') → OnOk answer (JsonTook job n' (lines ++ (raw ∷ [])) (output ++ t'))
   json_line_took raw line n' t' (Ok u) l e takes = took_more line n' t' (line_output job line n n' t t' takes) raw l e
@@ -272,7 +272,7 @@ module _ (job : Job) (n : Reported) (lines : List (List ℕ)) (output t : List �
       let prints = all_prints line n' t' (line_output job line n n' t t' takes) l in
       (tt, inl (refl, subst (λ (z : List ℕ). Prints job (lines_text lines ++ line) (output ++ z)) (sym same) prints))
 
-  -- what the end of the input answers
+  -- what the end of the input returns
   pub json_end_ends : (line : List ℕ) (n' : Reported) (t' t'' : List ℕ) (answer : Result Tally RunFault) → IsLine line → TakesJson job line n n' t t' → IfOk answer (λ tally. (last : List ℕ) × Closes job.command n' last tally × (t'' ≡ t' ++ last)) → IfOk answer (λ tally. Ends job (lines_text lines ++ line) (output ++ t'') tally)
   json_end_ends line n' t' t'' (Ok tally) l takes (last, closes, is) = json_ends line n' t' last t'' tally l takes closes is
   json_end_ends line n' t' t'' (Err f) l takes h' = tt

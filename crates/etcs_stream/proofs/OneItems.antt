@@ -41,7 +41,7 @@ one_item kind (of_telegram t) (of_message z n) r x y = absurd (telegram_message 
 one_item kind (of_message w m) (of_telegram u) r x y = absurd (telegram_message u.size w (y.0 ∙ sym x.0))
 one_item kind (of_message w m) (of_message z n) r x y = one_message w z m n r (way_same w z (x.0 ∙ sym y.0)) x.1 y.1
 
--- items with the same spelling in front are one, and so is what is after
+-- items whose spellings begin the same bits are one, and so is what comes after them
 first_same : (kind : Kind) (e f : EntryValue) (r q : Reading) (b c : List Bool) → EntryReads kind e r → EntryReads kind f q → spelled r ++ b ≡ spelled q ++ c → (e ≡ f) × (b ≡ c)
 first_same kind e f r q b c x y is =
     let reg = kind_regular kind in

@@ -36,7 +36,7 @@ outputs_count c s (e ∷ es) text s' h =
 pub outputs_one : (c : Command) (s s' : Reported) (e : EntryValue) (text : List ℕ) → OutputsItem c e s text s' → OutputsItems c s (e ∷ []) text s'
 outputs_one c s s' e text h = (s', text, [], sym (append-nil text), h, (refl, refl))
 
--- what a run answers counts the items
+-- what a run returns counts the items
 pub closes_items : (c : Command) (s : Reported) (last : List ℕ) (tally : Tally) → Closes c s last tally → tally.items ≡ s.count
 closes_items Show s last tally h = h.1
 closes_items Check s last tally h = h.1

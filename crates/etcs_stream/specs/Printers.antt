@@ -45,7 +45,7 @@ OutputsItems c s (e ∷ es) text s' = (mid : Reported) × (first : List ℕ) × 
 abbrev pub ItemsText : Command → List EntryValue → List ℕ → Type 0
 ItemsText c es text = (s : Reported) × OutputsItems c nothing_reported es text s
 
--- what is written at the end of the input, and what a run answers then
+-- what is written at the end of the input, and what a run returns then
 abbrev pub Closes : Command → Reported → List ℕ → Tally → Type 0
 Closes Group s last tally = LastLines s.held last × (tally.items ≡ s.count) × (tally.clashes ≡ s.clashes) × ((tally.complete ≡ true) ↔ IsWhole s.held)
 Closes c s last tally = (last ≡ []) × (tally.items ≡ s.count) × (tally.clashes ≡ 0) × (tally.complete ≡ true)

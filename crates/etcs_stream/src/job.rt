@@ -1,4 +1,4 @@
-//! What the program is asked to do, and what it answers.
+//! What the program is asked to do, and what it returns.
 
 ghost use Rattle.std.specs.Prelude.{◌↔◌, IsTrue};
 ghost use Rattle.etcs_text.specs.Kinds.{IsOfTelegrams};

@@ -46,7 +46,7 @@ PacketsLeft size r = (p : Reading) × (rest : Reading) × (r ≡ p ++ rest) × P
 abbrev pub HeaderLeft : Size → List Var → Reading → Type 0
 HeaderLeft size vs r = Then (ReadsFields vs) (PacketsLeft size) r
 
--- ---- What is in front of it.
+-- ---- What comes before it.
 
 -- FILL and zeros after packets and packet 255
 abbrev pub behind_header : Reading → List Bool → ℕ → Reading

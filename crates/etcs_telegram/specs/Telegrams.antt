@@ -2,7 +2,6 @@
 -- SUBSET-036).
 use Rattle.std.specs.Prelude.{◌≡◌, ℕ, ◌+◌, ◌-◌, ◌≤◌, ◌↔◌, ◌==◌, Bool, false, List, [], ◌∷◌, ◌++◌, length, map, replicate, IsTrue, All, slice_index}
 use Rattle.etcs_bits.specs.Bits.{bit}
-use Rattle.etcs_vars.specs.declared.var.Var.{Var}
 use Rattle.etcs_vars.specs.declared.var.Var.TheVariants.{Q_UPDOWN, M_VERSION_HEADER, Q_MEDIA, N_PIG, N_TOTAL, M_DUP, M_MCOUNT, NID_C, NID_BG, Q_LINK, FILL, PAD}
 use Rattle.etcs_vars.specs.Vars.{admits}
 use Rattle.etcs_vars.specs.Reading.{Reading, spelled, kept, readings_of, Viable}

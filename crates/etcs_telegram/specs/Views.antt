@@ -15,7 +15,7 @@ pub record ViewValue : Type 0 where
 abbrev pub Sees : ViewValue → TelegramValue → Type 0
 Sees v t = (r : Reading) × ReadsAs v.size t r × (spelled r ≡ bits v.bytes)
 
--- the bits b spell a telegram of this header and this many packets, in front of whose FILL this many bits are
+-- the bits b spell a telegram of this header and this many packets, before whose FILL this many bits are
 pub record ViewIn (size : Size) (b : List Bool) (header : HeaderValue) (packets end : ℕ) : Type 0 where
   pub telegram : TelegramValue
   pub reading : Reading

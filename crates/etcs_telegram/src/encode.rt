@@ -31,7 +31,7 @@ impl Error for NoRoom {}
 
 impl Telegram {
     /// Writes the telegram into the first bytes of `out`, 27 for a short telegram and 104 for a long one, and
-    /// answers how many they are. The bytes after stay.
+    /// returns how many they are. The bytes after stay.
     ///
     /// # Errors
     ///

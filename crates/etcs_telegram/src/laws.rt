@@ -75,7 +75,7 @@ fn write_over(telegram: &Telegram, out: &mut [u8])
 }
 
 /// Reads a telegram of a size from the front of some bytes and writes it over the first bytes of a buffer: these are
-/// then the bytes that were read. Answers how many they are, or `None` where no telegram is at the front.
+/// then the bytes that were read. Returns how many they are, or `None` where no telegram is at the front.
 ///
 /// # Errors
 ///

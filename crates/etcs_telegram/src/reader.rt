@@ -139,7 +139,7 @@ impl TelegramReader {
     /// `Refused` with the first bit, counted from 0 over all pieces, with which no telegram continues, and the variable
     /// that holds it; `Memory` where memory is refused, for packets or FILL, at a bit with which a telegram continues,
     /// which is no bit of the header, Q_DIR or PAD; `Ended` where the telegram was whole before. The reader then
-    /// answers the same to each later piece, and `bits_seen` reports how far it came.
+    /// returns the same for each later piece, and `bits_seen` reports how far it came.
     pub fn feed(&mut self, piece: &[u8]) -> Result<Fed, ReadFault>
         ensures answer { (seen : List Bool) → self.old.progress ≡ reading seen → Feeds (ReadsAs self.old.size) telegram_value IsTelegram 50 seen (bits piece.now) result self.new.progress }
         ensures after { (IsReading self.old.progress → ⊥) → (self.new ≡ self.old) × (result ≡ Err (fault_of self.old.progress)) }

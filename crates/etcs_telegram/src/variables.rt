@@ -116,7 +116,7 @@ fn send_header<S: VarSink>(numbers: &[u64], out: &mut S) -> Result<(), AllocErro
 }
 
 impl TelegramRest<TelegramStore> {
-    /// Whether the number of a packet comes next, or 255.
+    /// Whether NID_PACKET comes next.
     fn is_at_number(&self) -> bool
         ensures { IsTrue result → (q : Reading) → HoldsIn store_holds self.now q → q ≡ labelled header_row self.now.header ++ packets_reading (map packet_value self.now.store.list.packets.items) }
     {
@@ -139,8 +139,8 @@ impl TelegramRest<TelegramStore> {
         }
     }
 
-    /// Sends the variables that were read, those of the header and of whole packets, where the number of a packet comes next,
-    /// or 255, or what is after 255. Elsewhere it answers false, and sends none.
+    /// Sends the variables that were read, and returns true, if NID_PACKET comes next, or if packet 255 was read and nothing
+    /// after it. Otherwise it sends none and returns false.
     ///
     /// # Errors
     ///

@@ -52,7 +52,7 @@ pub struct TelegramView<'a> {
     header: Header,
     /// How many packets there are.
     packets: usize,
-    /// How many bits are in front of FILL.
+    /// How many bits come before FILL.
     end: usize,
 }
 
@@ -73,7 +73,7 @@ impl<'a> TelegramView<'a> {
     /// # Errors
     ///
     /// [`ViewFault::Length`] where they aren't 27 or 104 bytes, as the size asks; else [`ViewFault::Refused`] with the
-    /// first bit with which no telegram continues and the variable that holds it, as `TelegramReader::feed` answers.
+    /// first bit with which no telegram continues and the variable that holds it, as `TelegramReader::feed` reports them.
     pub fn new(bytes: &'a [u8], size: Size) -> Result<TelegramView<'a>, ViewFault>
         ensures length { (result ≡ Err ViewFault.Length) ↔ (length bytes.now ≢ container_bytes size) }
         ensures bytes { IfOk result (λ v. (v.bytes ≡ bytes.now) × (v.size ≡ size)) }

@@ -23,7 +23,8 @@ use etcs_sequence::{ItemRest, PacketStore};
 use std::alloc::Global;
 
 /// The telegram of this size that a piece begins with. It may always return `None`, as where the piece begins with none, and
-/// where memory is refused. In `part` it may then put what is left after this many bits of the piece.
+/// where memory is refused. Then it may put into `part` what is left of the item after the first bits
+/// of the piece, and how many these are.
 pub(crate) fn telegram_at(
     room: &mut Room<Packet>,
     size: Size,

@@ -1,4 +1,4 @@
--- What a feed of the reader of a kind answers.
+-- What a feed of the reader of a kind returns.
 use Rattle.std.proofs.Common.{◌≡◌, ℕ, Bool, List, Result, Ok, Err, ap, subst, refl}
 use Rattle.etcs_vars.specs.declared.var.Var.{Var}
 use Rattle.etcs_vars.specs.declared.feed.Fed.{Fed}
@@ -34,7 +34,7 @@ module _ {V : Type 0} (Reads : V → Reading → Type 0) (kind : Kind) (same : S
         owner_along (readings_of Reads) (Language kind) same _ x o.1,
       )
 
--- by what a feed of the reader inside answers, whose values are items of the kind
+-- by what a feed of the reader inside returns, whose values are items of the kind
 module _ {V W : Type 0} (Reads : W → Reading → Type 0) (value : V → W) (IsValue : V → Type 0) (least : ℕ) (item : W → EntryValue) (kind : Kind) (same : Same (readings_of Reads) (Language kind)) (reads : (w : W) (r : Reading) → Reads w r → EntryReads kind (item w) r) where
   abbrev as_item : V → EntryValue
   as_item v = item (value v)
@@ -46,7 +46,7 @@ module _ {V W : Type 0} (Reads : W → Reading → Type 0) (value : V → W) (Is
   inner_feeds seen new (Err Memory) at f = tt
   inner_feeds seen new (Err Ended) at f = absurd f
 
-  -- where it answers that memory is refused
+  -- where it returns that memory is refused
   inner_starves : (seen new : List Bool) (at : inner.Progress V) → inner.Feeds Reads value IsValue least seen new (Err Memory) at → IsStarved (EntryReads kind) least seen new
   inner_starves seen new at (n, at_is, from, below, viable, front, x, owner, asks, behind) =
       (n, from, below, viable_along (readings_of Reads) (Language kind) same _ viable, front, x, owner_along (readings_of Reads) (Language kind) same _ x owner, asks, behind)

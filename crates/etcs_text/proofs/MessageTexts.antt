@@ -20,7 +20,7 @@ module _ {H B P : Type 0} (way : Way) (k : HeadOf H) (o : OwnOf B) (form : P →
   bytes_are (Typed head body ps padding) = omega (arith, length-num (padding_room (all_bits way o form body ps)) padding)
   bytes_are (Kept nid b) = refl
 
-  -- ---- The variables in front.
+  -- ---- The variables before the packets.
 
   front_is : (m : Content H B P) → front_reading way k o form m ≡ front_variables way (message_value way k o form m)
   front_is (Typed head body ps padding) = ap (λ (len : ℕ). head_reading (o.nid body) len (k.reading head) ++ o.reading body) (bytes_are (Typed head body ps padding))

@@ -1,4 +1,4 @@
--- What a reader of items stands for, and what a feed answers.
+-- What a reader of items stands for, and what a feed returns.
 use Rattle.std.specs.Prelude.{◌≡◌, ℕ, ◌+◌, ◌*◌, ◌<◌, ◌≤◌, Bool, List, [], ◌++◌, length, take, Result, Ok, Err, IsTrue}
 use Rattle.etcs_vars.specs.declared.var.Var.{Var}
 use Rattle.etcs_vars.specs.Reading.{Reading, Viable, Owner, readings_of, IsOutcome, done, refused, more}

@@ -49,7 +49,7 @@ pub(crate) fn message_bits<H: Head, B: Own<Front = H>>(message: &MessageOf<H, B>
     message.bit_len()
 }
 
-/// Appends the lines of the variables in front of the packets or of the bits that are kept.
+/// Appends the lines of the variables before the packets or of the bits that are kept.
 fn write_front<H: Head, B: Own<Front = H>>(
     message: &MessageOf<H, B>,
     page: &mut Page,

@@ -1,4 +1,4 @@
--- What a packet to the track stands for, and what its own type says of it. To the track every packet has the direction
+-- What a packet to the track stands for, and the clauses of its own type about it. To the track every packet has the direction
 -- 0, which isn't sent.
 use Rattle.std.specs.Prelude.{◌≡◌, ℕ, List, length, None}
 use Rattle.etcs_vars.specs.Reading.{Reading}

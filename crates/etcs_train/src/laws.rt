@@ -52,7 +52,7 @@ pub fn round_trip(alloc: Global, message: &TrainMessage) -> Result<TrainMessage,
 }
 
 /// Reads a message from the front of some bytes and appends its encoding, which is exactly the bytes that were read.
-/// Answers how many they are; or `None`, without appending anything, if no message is at the front.
+/// Returns how many they are; or `None`, without appending anything, if no message is at the front.
 ///
 /// # Errors
 ///

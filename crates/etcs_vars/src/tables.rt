@@ -238,8 +238,8 @@ impl Var {
         NAMES[self as usize]
     }
 
-    /// What the number stands for where it is no measure, as `unlimited` for 1023 of T_LOA. Every
-    /// other number has no such text.
+    /// The special meaning of the number, if it is no measure, such as `unlimited` for 1023 of T_LOA.
+    /// Every other number has no such text.
     #[inline(always)]
     pub fn special(self, number: u64) -> Option<&'static str>
         ensures { option_map (λ text. text.now) result ≡ special self number }

@@ -11,7 +11,7 @@ use std::fmt;
 /// A variable of telegrams and radio messages, under its name in the standard (SUBSET-026, 7.5).
 ///
 /// Its number is sent in [`width`](Var::width) bits, the most significant first. Distances (`D_`) and lengths (`L_`) are
-/// in steps of Q_SCALE where nothing else is said.
+/// in steps of Q_SCALE unless noted otherwise.
 #[derive(Clone, Copy, Debug, PartialEq, Eq)]
 pub enum Var {
     // The header of a telegram.

@@ -267,7 +267,7 @@ static BYTES: [[u8; 8]; 256] = [
     *b"11111111",
 ];
 
-/// Writes the bits of a byte at a place, the top bit first, and answers where they end.
+/// Writes the bits of a byte at a place, the top bit first, and returns where they end.
 #[inline(always)]
 pub(crate) fn put_byte(place: &mut [u8], at: usize, byte: u8) -> usize
     requires { at + 8 ≤ length place.old }
@@ -281,7 +281,7 @@ pub(crate) fn put_byte(place: &mut [u8], at: usize, byte: u8) -> usize
 /// The room for up to 64 bits.
 pub(crate) const BITS_ROOM: usize = 72;
 
-/// Writes the lowest bits of a number at a place, the most significant first, and answers where they end.
+/// Writes the lowest bits of a number at a place, the most significant first, and returns where they end.
 #[inline(always)]
 pub(crate) fn put_bits(place: &mut [u8], at: usize, number: u64, width: usize) -> usize
     requires width { width ≤ 64 }
@@ -312,7 +312,7 @@ fn put_few(place: &mut [u8], at: usize, number: u64, width: usize) -> usize
     at + width
 }
 
-/// Writes bits as digits at a place, and answers where they end.
+/// Writes bits as digits at a place, and returns where they end.
 pub(crate) fn put_slice(place: &mut [u8], at: usize, bits: &BitSlice<'_>) -> usize
     requires room { at + length bits.now + 8 ≤ length place.old }
     ensures len { length place.new ≡ length place.old }

@@ -15,7 +15,7 @@ use etcs_vars::Var;
 /// The room for a line.
 pub(crate) const LINE_ROOM: usize = 80;
 
-/// Writes lines of variables at a place, and answers where they end. There is no loop where they are at most eight.
+/// Writes lines of variables at a place, and returns where they end. There is no loop where they are at most eight.
 #[inline(always)]
 pub(super) fn put_lines(place: &mut [u8], at: usize, sent: &[(Var, u64)]) -> usize
     requires { at + 80 * length sent.now ≤ length place.old }
@@ -40,7 +40,7 @@ impl Put for Line {
     }
 }
 
-/// Writes the line of a variable at a place, and answers where it ends.
+/// Writes the line of a variable at a place, and returns where it ends.
 #[inline(always)]
 pub(crate) fn put_line(place: &mut [u8], at: usize, var: Var, number: u64) -> usize
     requires { at + 80 ≤ length place.old }
@@ -52,7 +52,7 @@ pub(crate) fn put_line(place: &mut [u8], at: usize, var: Var, number: u64) -> us
     put_rest(place, end, var, number)
 }
 
-/// Writes the line of bits under a variable's name at a place, and answers where it ends.
+/// Writes the line of bits under a variable's name at a place, and returns where it ends.
 #[inline(always)]
 pub(crate) fn put_bits_line(place: &mut [u8], at: usize, var: Var, bits: &BitSlice<'_>) -> usize
     requires room { at + length bits.now + 64 ≤ length place.old }

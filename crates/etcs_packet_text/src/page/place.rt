@@ -7,7 +7,7 @@ ghost use Rattle.etcs_packet_text.specs.Show.{hex_digits};
 use super::fronts::Front;
 use crate::text::hex_digit_of;
 
-/// Writes bytes at a place, and answers where they end.
+/// Writes bytes at a place, and returns where they end.
 #[inline(always)]
 pub(crate) fn put_bytes(place: &mut [u8], at: usize, bytes: &[u8]) -> usize
     requires { at + length bytes.now ≤ length place.old }
@@ -20,7 +20,7 @@ pub(crate) fn put_bytes(place: &mut [u8], at: usize, bytes: &[u8]) -> usize
     end
 }
 
-/// Writes a front at a place, over 32 bytes, and answers where it ends.
+/// Writes a front at a place, over 32 bytes, and returns where it ends.
 #[inline(always)]
 pub(crate) fn put_front(place: &mut [u8], at: usize, front: Front) -> usize
     requires room { at + 32 ≤ length place.old }
@@ -33,7 +33,7 @@ pub(crate) fn put_front(place: &mut [u8], at: usize, front: Front) -> usize
     at + front.len
 }
 
-/// Writes the digits of a number and a byte at a place, and answers where they end.
+/// Writes the digits of a number and a byte at a place, and returns where they end.
 #[inline(always)]
 pub(crate) fn put_number(place: &mut [u8], at: usize, number: u64, end: u8) -> usize
     requires { at + 21 ≤ length place.old }
@@ -47,7 +47,7 @@ pub(crate) fn put_number(place: &mut [u8], at: usize, number: u64, end: u8) -> u
     after + 1
 }
 
-/// Writes the digits of a number between bytes at a place, and answers where they end.
+/// Writes the digits of a number between bytes at a place, and returns where they end.
 #[inline(always)]
 pub(crate) fn put_between(
     place: &mut [u8],
@@ -66,7 +66,7 @@ pub(crate) fn put_between(
     put_bytes(place, end, back)
 }
 
-/// Writes the digits of a number at a place, and answers where they end.
+/// Writes the digits of a number at a place, and returns where they end.
 #[cycle(decimal)]
 #[inline(always)]
 pub(crate) fn put_decimal(place: &mut [u8], at: usize, number: u64) -> usize
@@ -160,7 +160,7 @@ static PAIRS: [[u8; 2]; 100] = [
     *b"96", *b"97", *b"98", *b"99",
 ];
 
-/// Writes the last digits of a number in hexadecimal at a place, and answers where they end.
+/// Writes the last digits of a number in hexadecimal at a place, and returns where they end.
 pub(crate) fn put_hex(place: &mut [u8], at: usize, count: usize, number: u64) -> usize
     requires { at + count ≤ length place.old }
     ensures len { length place.new ≡ length place.old }

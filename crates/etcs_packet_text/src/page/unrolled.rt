@@ -13,7 +13,7 @@ pub(crate) trait Put {
 
     ghost text: { Sent → List ℕ };
 
-    /// Writes it at a place, and answers where it ends.
+    /// Writes it at a place, and returns where it ends.
     fn put(place: &mut [u8], at: usize, var: Var, number: u64) -> usize
         requires { at + room ≤ length place.old }
         ensures len { length place.new ≡ length place.old }
@@ -23,7 +23,7 @@ pub(crate) trait Put {
 
 /// A way to put it for each of several.
 pub(crate) trait PutEach<P: Put> {
-    /// Writes it for each at a place, one after another, and answers where they end.
+    /// Writes it for each at a place, one after another, and returns where they end.
     fn put_each(place: &mut [u8], at: usize, sent: &[(Var, u64)]) -> usize
         requires { at + P.room * length sent.now ≤ length place.old }
         ensures len { length place.new ≡ length place.old }

@@ -82,7 +82,7 @@ rest_begins s x e = begins_at s.size s.left s.phase (length s.header) s.stands x
 
 -- ---- Nothing comes next.
 
--- what a value that is there says of its packets
+-- the carrier and the stage of packets that are open
 pub opens : (l : PacketsState) → is_open l ≡ true → (l.carrier ≡ Telegram) × (is_closed l.stage ≡ false)
 opens l h =
     let both = and_parts (is_telegram l.carrier) (not (is_closed l.stage)) h in

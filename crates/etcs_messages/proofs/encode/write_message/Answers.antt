@@ -1,4 +1,4 @@
-use Rattle.std.proofs.Common.{rules, ◌≡◌, ℕ, ◌*◌, length, sym, ap, ◌∙◌}
+use Rattle.std.proofs.Common.{rules, ℕ, ◌*◌, sym, ap, ◌∙◌}
 use Rattle.etcs_vars.specs.Reading.{spelled}
 use Rattle.etcs_vars.proofs.WordSinks.{fills}
 use Rattle.etcs_messages.specs.Readings.{message_reading}

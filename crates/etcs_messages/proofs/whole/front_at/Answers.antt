@@ -19,7 +19,7 @@ pub take_items-requires-2-clause-place : goal.take_items-requires-2-clause-place
 take_items-requires-2-clause-place g c =
     rw c.take_items.ensures.bits (own_room g.H.Packet.AnyPacket.WAY c.args.nid c.in_ok-row.row.items.now c.new-numbers.result.items c.take_items.new.numbers.items c.next.new.self c.take_items.new.walker.place (rw c.WAY-2.ensures at c.in_ok-row.ensures) c.new-numbers.ensures (head_passed g.H.Packet.AnyPacket.WAY c.head_row.result.items.now c.next.new.self c.new-numbers.result.items c.take_items.new.numbers.items c.take_items.new.walker.place (rw c.WAY.ensures at c.head_row.ensures) c.in_ok-take_items.ensures.front)).1
 
--- what is in front of the packets
+-- what comes before the packets
 taken : (g : Over) (c : After-as_slice g) → WholeFront g.H.Packet.AnyPacket.WAY c.args.nid c.args.bits c.as_slice.result.now
 taken g c =
     let xs = c.args.bits in

@@ -1,4 +1,4 @@
-use Rattle.std.proofs.Common.{rules, ◌+◌, ◌*◌, ◌^◌, ◌<◌, arith}
+use Rattle.std.proofs.Common.{rules, ◌+◌, ◌^◌, ◌<◌, arith}
 use Rattle.etcs_vars.specs.Reading.{spelled}
 use Rattle.etcs_vars.proofs.WordSinks.{appended}
 use Rattle.etcs_messages.specs.Readings.{message_reading}

@@ -14,7 +14,7 @@ use Rattle.etcs_text.proofs.ItemFeeds.{telegram_feeds, message_feeds, telegram_s
 use Rattle.etcs_text.proofs.entries.EntryReader.feed.Goals.{in-Telegram, in-Message, in-Train}
 use Rattle.etcs_text.proofs.entries.EntryReader.feed.Goals as goal
 
--- what is said of the reader inside is said of the whole one
+-- what holds for the reader inside holds for the whole one
 of_inside : (inner inner' : Inner) (v u : ReaderValue) (seen new : List Bool) (answer wanted : Result Fed ReadFault) → value_of inner ≡ v → value_of inner' ≡ u → wanted ≡ answer → Feeds (EntryReads (value_of inner).kind) seen new answer (value_of inner').progress → Feeds (EntryReads v.kind) seen new wanted u.progress
 of_inside inner inner' v u seen new answer wanted is is' same f = rw (sym is, sym is', same) f
 

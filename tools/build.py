@@ -8,7 +8,7 @@ RT is the path of `rt`, and CRATE the folder of the crate. With a verb it does w
 it is called in, as tools/rt does. Progress goes to standard error, and what rt writes about a crate to its
 out/build.log. The status is 0 if the crate is built.
 
-Two runs of `rt` can't go on at the same time here: each locks its crate's folder and those of all libraries below it
+Two runs of `rt` can't run at the same time here: each locks its crate's folder and those of all libraries below it
 until it ends, and every crate rests on the lowest one. `rt all` locks all of them once and works in parallel, but with one
 job for each crate, and most crates here rest on one another. So this is one run over the module that `rt` itself is made
 of: it locks once, as `rt all` does, and makes for each crate the call that `rt lib` or `rt run` makes. What is proved, and
@@ -268,7 +268,7 @@ def build(rt, folder):
     crate.held = rtlib.lock([*below, crate])
     for it in [*below, crate]:
         rtlib.stop_on_links(it.folder)
-        # what is said of a crate before its log is open
+        # messages about a crate before its log is open
         it.out = sys.stderr
     left = [it for it in below if not it.is_built()]
     return prove_all(left, *share(rtlib, left)) and build_top(crate, share(rtlib, [])[1])

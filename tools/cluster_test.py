@@ -21,7 +21,7 @@ ITEMS, BLOCK, BUSY = 4000, "30kB", 0.5
 
 
 def log(room):
-    """Writes a log of items of all kinds, of which some are broken, with times in front; telegrams come more than once."""
+    """Writes a log of items of all kinds, of which some are broken, with times before them; telegrams come more than once."""
     chance, lines = random.Random(1), []
     for kind in KINDS:
         words = [sys.executable, TOP / "bench/mix.py", kind, "--form", "hex", "--items", str(ITEMS // 4)]

@@ -77,7 +77,7 @@ def copy_with(changes, folder):
 
 
 def fault_of(name):
-    """Says what is wrong with the answer to a change, or nothing."""
+    """Returns what is wrong with the answer to a change, or nothing."""
     changes, wanted = TRIED[name]
     with tempfile.TemporaryDirectory(prefix="definitions-") as folder:
         copy_with(changes, folder)

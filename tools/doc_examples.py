@@ -289,7 +289,7 @@ def skeleton_differences(text, path, program):
 
 
 def row_differences(text, path, program):
-    """Yields what is wrong with the rows of examples/README.md, which have a file, its kind or a command, and what it answers."""
+    """Yields what is wrong with the rows of examples/README.md, which have a file, its kind or a command, and what it writes."""
     for name, given, answer in re.findall(r"^\| `(\w+\.\w+)` \| (.*?) \| (.*) \|$", text, re.M):
         command = given.strip("`") if "etcs" in given else f"./etcs show --kind {given} < examples/{name}"
         command += " --from json" * name.endswith(".json")

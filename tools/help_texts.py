@@ -1,10 +1,10 @@
 #!/usr/bin/env python3
-"""Writes docs/help.txt: what the program answers to words that ask for help, for its version or for nothing.
+"""Writes docs/help.txt: what the program writes for words that ask for help, for its version or for nothing.
 
     tools/help_texts.py [--check]
 
 The texts are those of the vectors `help` of crates/etcs_vectors/stdin, which the gate compares with the program; the
-script `etcs` answers from the file what the program would. With --check the file is compared, and the status is 1 if
+script `etcs` writes from the file what the program would. With --check the file is compared, and the status is 1 if
 it differs.
 """
 

@@ -211,7 +211,7 @@ class Browser:
         return json.loads(said)
 
     def call(self, method, **params):
-        """What the browser answers."""
+        """What the browser returns."""
         self.count += 1
         asked = {"id": self.count, "method": method, "params": params}
         if self.session:
@@ -237,7 +237,7 @@ class Browser:
         return time.monotonic() - began, [f["exceptionDetails"]["exception"]["description"] for f in failed]
 
     def ask(self, script):
-        """What a script answers."""
+        """What a script returns."""
         said = self.call("Runtime.evaluate", expression=script, returnByValue=True, awaitPromise=True)
         if "exceptionDetails" in said:
             raise RuntimeError(json.dumps(said["exceptionDetails"])[:600])

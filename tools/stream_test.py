@@ -207,7 +207,7 @@ def check_bytes(program):
 
 
 def check_long_lines(program):
-    """What `log` and `explain` say of lines that no vector has, and that the next line is read."""
+    """What `log` and `explain` say about lines that no vector has, and that the next line is read."""
     too_long = "more than 1,048,576 bytes, which no line has"
     for words, count, said, fault in (
         ("log --kind radio", MOST + 1, "more than 1048576 characters", b""),

@@ -153,7 +153,7 @@ def answer_run(program, _, words):
 
 
 def answer_zeros(program, _, words):
-    """`zeros SIZE COUNT TEXT`: as `run`, with this many zeros in front."""
+    """`zeros SIZE COUNT TEXT`: as `run`, with this many zeros before the text."""
     size, count, text = [*words.split(" ", 2), ""][:3]
     return answer_text(program, size, b"0" * int(count) + text_bytes(text))
 

@@ -124,7 +124,7 @@ def asked_of(crate, words, room):
 
 
 def tried(rt, crate, edit):
-    """Returns whether the prover refuses the edit, over what the crate's own check kept, and what to say of it."""
+    """Returns whether the prover refuses the edit, over what the crate's own check kept, and what to report about it."""
     with tempfile.TemporaryDirectory(prefix="wrong-bodies-", dir=f"{crate.folder}/out") as room:
         rt.linked(f"{crate.folder}/out/incremental", f"{room}/kept")
         kind, text = rt.must_fail(crate, edit, ["--jobs", "1"], f"{room}/kept")

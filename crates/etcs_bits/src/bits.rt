@@ -9,8 +9,8 @@ use super::slice::BitSlice;
 use std::alloc::{AllocError, Global};
 use std::marker::Model;
 
-/// An owned list of bits. Up to 56 of them lie in the value itself, and more in an allocation. Two lists are equal where they
-/// have the same bits.
+/// An owned list of bits. Up to 56 of them lie in the value itself, and more in an allocation, which stays where such a
+/// list is made shorter. Two lists are equal where they have the same bits.
 #[derive(Debug, Drop)]
 pub struct Bits {
     /// None where there are more of them.

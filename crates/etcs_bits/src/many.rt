@@ -18,7 +18,7 @@ pub(crate) struct Many {
 
 impl Model for Many {
     ghost use Rattle.std.specs.Prelude.{◌≡◌, ◌+◌, ◌*◌, ◌<◌, ◌≤◌, Bool, List, length, take};
-    ghost use Rattle.etcs_bits.specs.Bits.{bits, value};
+    ghost use Rattle.etcs_bits.specs.Bits.{bits};
 
     ghost Value = { List Bool };
 

@@ -7,7 +7,7 @@ ghost use Rattle.etcs_bits.specs.SliceWalker.{Keeps};
 
 use super::bytes::byte_of;
 use super::copying::{copy_words, last_word, word_at};
-use super::walker::{first_word, peek_at_end, peek_by_bytes, peek_word};
+use super::walker::{first_word, peek_word};
 use std::marker::Model;
 
 /// Bits that are one after another in a byte slice, from any bit on.
@@ -217,13 +217,10 @@ impl<'a> BitSlice<'a> {
         requires inside { from + width ≤ length self.now }
         ensures { result ≡ number_at from width self.now }
     {
-        match self.offset.checked_add(from) {
-            Some(start) => peek_at_end(self.bytes, start, width),
-            None => {
-                let (at, offset) = byte_of(self.offset, from);
-                peek_by_bytes(&self.bytes[at..], offset, width)
-            }
+        if width == 0 {
+            return Some(0);
         }
+        Some(self.word_at_end(from) >> (64 - width))
     }
 
     /// Copies this many words after the first `from` of these bits to the front of `to`.

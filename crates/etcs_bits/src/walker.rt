@@ -76,7 +76,7 @@ fn peek_in_word(bytes: &[u8], at: usize, offset: usize, width: usize) -> Option<
 
 /// As `peek`, for bits near the end.
 #[inline(never)]
-pub(crate) fn peek_at_end(bytes: &[u8], start: usize, width: usize) -> Option<u64>
+fn peek_at_end(bytes: &[u8], start: usize, width: usize) -> Option<u64>
     requires { width ≤ 64 }
     ensures { result ≡ number_at start width (bits bytes.now) }
 {
@@ -99,7 +99,7 @@ fn peek_last_word(bytes: &[u8], start: usize, width: usize) -> Option<u64>
 }
 
 /// As `peek`, byte by byte.
-pub(crate) fn peek_by_bytes(bytes: &[u8], start: usize, width: usize) -> Option<u64>
+fn peek_by_bytes(bytes: &[u8], start: usize, width: usize) -> Option<u64>
     requires { width ≤ 64 }
     ensures { result ≡ number_at start width (bits bytes.now) }
 {

@@ -17,11 +17,11 @@ use crate::message::{Content, MessageOf};
 use crate::phase::{Phase, front_bits, front_var};
 use crate::rest::MessageRest;
 use etcs_bits::BitSlice;
-use etcs_packets::inner::{AnyPacket, room_after, send_all, send_bits};
+use etcs_packets::inner::{AnyPacket, room_after, send_all};
 use etcs_sequence::{ListStore, Stage};
 use etcs_tables::Way;
 use etcs_vars::Var;
-use etcs_vars::inner::{PairList, VarSink, Variables};
+use etcs_vars::inner::{PairList, VarSink, Variables, send_bits};
 use std::alloc::{AllocError, Global};
 
 impl<H: Head, B: Own<Front = H>> Variables for MessageOf<H, B> {

@@ -1,4 +1,3 @@
-mod ByteBits
 pub mod Leaving
 pub mod PacketBits
 pub mod PacketLists

@@ -1,14 +1,13 @@
 //! A rest whose variables are sent to a sink.
 
-ghost use Rattle.std.specs.Prelude.{◌≡◌, ⊤, OnOk};
+ghost use Rattle.std.specs.Prelude.{◌≡◌, ⊤};
 ghost use Rattle.std.proofs.Common.{sym};
-ghost use Rattle.etcs_vars.specs.Reading.{kept};
 ghost use Rattle.etcs_reader.specs.laws.StoredLaws.{with_along};
 
 use crate::rest::Rest;
 use etcs_bits::BitSlice;
 use etcs_vars::Var;
-use etcs_vars::inner::VarSink;
+use etcs_vars::inner::{VarSink, send_bits};
 use std::alloc::AllocError;
 
 /// What is left of a language, and a sink that took the variables that were read. It takes them one by
@@ -17,20 +16,6 @@ use std::alloc::AllocError;
 pub struct Stored<R, S> {
     pub rest: R,
     pub store: S,
-}
-
-/// Sends bits, each as a variable.
-fn send_bits<S: VarSink>(store: &mut S, var: Var, bits: &BitSlice<'_>) -> Result<(), AllocError>
-    ensures ok { OnOk result (store.new ≡ S.with store.old (kept var bits.now)) }
-{
-    for i in 0..bits.len() {
-        let number = match bits.bit(i) {
-            Some(true) => 1,
-            _ => 0,
-        };
-        store.send(&[(var, number)])?;
-    }
-    Ok(())
 }
 
 impl<R: Rest, S: VarSink> Rest for Stored<R, S> {
@@ -78,7 +63,7 @@ impl<R: Rest, S: VarSink> Rest for Stored<R, S> {
         let Some(bits) = BitSlice::new(piece, at, count) else {
             unreachable!()
         };
-        send_bits(&mut self.store, var, &bits)?;
+        send_bits(var, &bits, &mut self.store)?;
         Ok(Some(count))
     }
 

@@ -18,10 +18,10 @@ use crate::rest::TelegramRest;
 use crate::size::Size;
 use crate::store::TelegramStore;
 use crate::telegram::Telegram;
-use etcs_packets::inner::{send_all, send_bits};
+use etcs_packets::inner::send_all;
 use etcs_sequence::Stage;
 use etcs_tables::CLOSING;
-use etcs_vars::inner::{VarSink, Variables};
+use etcs_vars::inner::{VarSink, Variables, send_bits};
 use etcs_vars::{Var, pairs_of};
 use std::alloc::{AllocError, Global};
 

@@ -3,9 +3,9 @@
 ghost use Rattle.std.specs.Prelude.{◌≡◌, IfOk};
 
 use crate::train_packet::TrainPacket;
-use etcs_packets::inner::{AnyPacket, send_bits};
+use etcs_packets::inner::AnyPacket;
 use etcs_vars::Var;
-use etcs_vars::inner::{PairList, VarSink, Variables};
+use etcs_vars::inner::{PairList, VarSink, Variables, send_bits};
 use std::alloc::{AllocError, Global};
 
 impl TrainPacket {

@@ -6,6 +6,7 @@ pub mod Prefixes
 pub mod Stepping
 pub mod Outcomes
 pub mod Joins
+mod KeptBytes
 pub mod LowestBits
 pub mod WordSinks
 pub mod Words

@@ -1,11 +1,12 @@
 //! The variables of ETCS telegrams and radio messages: names, widths and admitted numbers, and the
-//! faults that name a variable; where variables are sent, and bits that are put over those of bytes (`WordSink`).
+//! faults that name a variable; where variables are sent, kept bits among them, and bits that are put over those of bytes (`WordSink`).
 #![tactic(auto)]
 
 mod fault;
 mod feed;
 pub mod inner;
 mod joining;
+mod kept;
 mod pairs;
 mod ranges;
 mod sink;

@@ -1,6 +1,6 @@
 use Rattle.std.proofs.Common.{◌≡◌, ◌-◌, ◌≤◌, length, take}
 use Rattle.etcs_vars.specs.Reading.{kept}
-use Rattle.etcs_packets.proofs.variables.send_bytes.Given as goal
+use Rattle.etcs_vars.proofs.kept.send_bytes.Given as goal
 
 abbrev pub invariant-loop-from : goal.invariant-loop-from
 invariant-loop-from g l = (l.from ≤ length l.bits) × (l.out ≡ g.S.VarSink.with l.fn.out (kept l.var (take l.from l.bits)))

@@ -4,7 +4,7 @@ use Rattle.std.proofs.Math.Seq.{take-add}
 use Rattle.etcs_bits.specs.Bits.{part}
 use Rattle.etcs_bits.proofs.Views.{number_bits}
 use Rattle.etcs_vars.specs.Reading.{kept}
-use Rattle.etcs_packets.proofs.variables.send_bytes.Goals as goal
+use Rattle.etcs_vars.proofs.kept.send_bytes.Goals as goal
 
 pub loop-from-preserved : goal.loop-from-preserved
 loop-from-preserved g c =

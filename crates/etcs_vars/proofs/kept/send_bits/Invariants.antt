@@ -1,6 +1,6 @@
 use Rattle.std.proofs.Common.{◌≡◌, take}
 use Rattle.etcs_vars.specs.Reading.{kept}
-use Rattle.etcs_packets.proofs.variables.send_bits.Given as goal
+use Rattle.etcs_vars.proofs.kept.send_bits.Given as goal
 
 abbrev pub invariant-loop-place : goal.invariant-loop-place
 invariant-loop-place g l = l.out ≡ g.S.VarSink.with l.fn.out (kept l.var (take l.place l.bits))

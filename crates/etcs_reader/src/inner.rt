@@ -1,10 +1,10 @@
-//! For the crates above: the front of an item, whose variables are passed one by one.
+//! For the crates above: numbers in a piece, and the front of an item, whose variables are passed one by one.
 
 ghost use Rattle.std.specs.Prelude.{◌≡◌, ◌≤◌, ◌<◌, ◌^◌, length, IsTrue};
 ghost use Rattle.etcs_bits.specs.Bits.{bits};
 ghost use Rattle.etcs_reader.specs.Rests.{Goes, LeapsBy};
 
-use crate::reader::number_at;
+pub use crate::reader::number_at;
 use crate::rest::Rest;
 
 /// Passes the variables whose bits are the first `end` of a piece, one by one, and returns whether there are such.

@@ -31,7 +31,7 @@ pub(crate) struct Reader<R> {
 
 /// This many bits of a piece, which holds them, as a number.
 #[inline(always)]
-pub(crate) fn number_at(piece: &[u8], at: usize, count: usize) -> u64
+pub fn number_at(piece: &[u8], at: usize, count: usize) -> u64
     requires width { count ≤ 64 }
     requires inside { at + count ≤ length (bits piece.now) }
     ensures bits { num count result ≡ part at count (bits piece.now) }

@@ -9,10 +9,11 @@ ghost use Rattle.etcs_sequence.specs.Refs.{ArePackets, spellings};
 
 pub use crate::first::first_item;
 use crate::packets_in::Packets;
-pub use crate::pieces::{bits_at, number_at, run_at};
+pub use crate::pieces::{bits_at, run_at};
 pub use crate::room::Room;
 pub use crate::run::{Run, take_run};
 use etcs_bits::BitSlice;
+pub use etcs_reader::inner::number_at;
 
 /// The first `count` packets in these bits. Anything may follow them.
 pub fn packets<'a>(rest: BitSlice<'a>, count: usize) -> Packets<'a>

@@ -3,8 +3,8 @@
 ghost use Rattle.std.specs.Prelude.{◌≡◌, ◌<◌, ◌≤◌, ◌+◌, ◌^◌, length};
 ghost use Rattle.etcs_bits.specs.Bits.{bits, num, value, part};
 
+use etcs_bits::BitSlice;
 use etcs_bits::inner::slice_in;
-use etcs_bits::{BitSlice, peek};
 
 /// This many bits of a piece, which holds them.
 pub fn bits_at<'a>(piece: &'a [u8], at: usize, count: usize) -> BitSlice<'a>
@@ -25,19 +25,6 @@ pub fn run_at<'a>(piece: &'a [u8], at: usize, most: usize) -> BitSlice<'a>
 {
     let count = most.min(piece.len() * 8 - at);
     bits_at(piece, at, count)
-}
-
-/// This many bits of a piece, which holds them, as a number.
-pub fn number_at(piece: &[u8], at: usize, count: usize) -> u64
-    requires width { count ≤ 64 }
-    requires inside { at + count ≤ length (bits piece.now) }
-    ensures bits { num count result ≡ part at count (bits piece.now) }
-    ensures fits { result < 2 ^ count }
-{
-    match peek(piece, at, count) {
-        Some(number) => number,
-        None => unreachable!(),
-    }
 }
 
 /// This many bits of a slice, which holds them, as a number.

@@ -104,11 +104,12 @@ impl Few {
         self.len == 0
     }
 
-    /// All bits as a slice.
+    /// All bits as a slice of the bytes that they need.
     #[inline]
     pub(crate) fn as_slice(&self) -> BitSlice<'_>
         ensures { result ≡ self.now }
     {
-        BitSlice::whole(&self.bytes, self.len())
+        let len = self.len();
+        BitSlice::whole(&self.bytes[..len.div_ceil(8)], len)
     }
 }

@@ -54,6 +54,15 @@ impl Other {
         }
     }
 
+    /// As `new`, where nothing is wrong.
+    #[inline(always)]
+    pub(crate) fn sound(nid: u8, dir: u8, body: Bits) -> Other
+        requires { other_fault ToTrain nid dir (length body) ≡ None }
+        ensures { result ≡ other_value nid dir body }
+    {
+        Other { nid, dir, body }
+    }
+
     /// NID_PACKET: 1 to 254, and not that of a typed packet.
     pub fn nid(&self) -> u8
         ensures nid { result ≡ self.now.nid }

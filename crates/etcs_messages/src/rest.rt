@@ -9,7 +9,7 @@ ghost use Rattle.etcs_vars.proofs.Languages.{Same};
 ghost use Rattle.etcs_reader.specs.Rests.{Goes, Starts};
 ghost use Rattle.etcs_rows.specs.declared.frames.Carrier.TheVariants.{Message};
 ghost use Rattle.etcs_packets.specs.PacketValues.{PacketValue};
-ghost use Rattle.etcs_sequence.specs.AtOnce.{RunSome};
+ghost use Rattle.etcs_sequence.specs.AtOnce.{RunFirst};
 ghost use Rattle.etcs_messages.specs.Messages.{MessageLanguage};
 ghost use Rattle.etcs_messages.specs.Lefts.{stands_at, behind_packets, behind_front, Left, next_var, MayAsk, HoldsIn, Follows, Leaps};
 ghost use Rattle.etcs_messages.specs.laws.RestLaws.{rest_regular, rest_begins, rest_ended, follows_none, follows_along};
@@ -183,8 +183,8 @@ impl<H: Head, B: Own<Front = H>> MessageRest<H, B> {
         requires phase { self.old.phase ≡ Phase.Packets }
         requires stage { self.old.left.stage ≡ Stage.Number }
         requires none { (vs : List PacketValue) → H.Store.holds self.old.store vs [] [] → vs ≡ [] }
-        requires run { (xs : List Bool) × (at : ℕ) × RunSome (Message H.Packet.WAY) self.old.left.room (H.Store.holds store) xs at left }
-        ensures { (xs : List Bool) (at : ℕ) → RunSome (Message H.Packet.WAY) self.old.left.room (H.Store.holds store) xs at left → Leaps H.Store.holds self.old self.new xs at (self.old.left.room - left) }
+        requires run { (xs : List Bool) × (at : ℕ) × RunFirst (Message H.Packet.WAY) self.old.left.room (H.Store.holds store) xs at left }
+        ensures { (xs : List Bool) (at : ℕ) → RunFirst (Message H.Packet.WAY) self.old.left.room (H.Store.holds store) xs at left → Leaps H.Store.holds self.old self.new xs at (self.old.left.room - left) }
     {
         self.phase = Phase::Whole;
         let packets = &mut self.packets;

@@ -8,7 +8,7 @@ ghost use Rattle.etcs_vars.specs.Reading.{Reading, spelled};
 ghost use Rattle.etcs_tables.specs.Layouts.{layout};
 ghost use Rattle.etcs_flat.specs.Flats.{variables};
 ghost use Rattle.etcs_rows.specs.declared.frames.Carrier.TheVariants.{Message};
-ghost use Rattle.etcs_sequence.specs.AtOnce.{RunSome};
+ghost use Rattle.etcs_sequence.specs.AtOnce.{RunFirst};
 ghost use Rattle.etcs_sequence.specs.Fronts.{FrontAt};
 ghost use Rattle.etcs_messages.specs.Messages.{MessageReads, message_value, IsMessage};
 ghost use Rattle.etcs_messages.specs.Kinds.{IsFrontBy};
@@ -127,7 +127,7 @@ fn typed_at<H: Head, B: Own<Front = H>>(
     let carrier = Carrier::Message(H::Packet::WAY);
     let left = match take_run(&mut store, carrier, end - front, piece, front)? {
         Run::All(left) => left,
-        Run::Some(left) => {
+        Run::First(left) => {
             resume(room.alloc(), store, front, end, left, piece, part);
             return None;
         }
@@ -163,7 +163,7 @@ fn resume<H: Head, B: Own<Front = H>>(
     requires inside { end ≤ length (bits piece.now) }
     requires most { end ≤ 8 * 1023 }
     requires small { length (bits piece.now) < 2 ^ 64 }
-    requires run { RunSome (Message H.Packet.WAY) (end - front) (H.Store.holds store) (bits piece.now) front left }
+    requires run { RunFirst (Message H.Packet.WAY) (end - front) (H.Store.holds store) (bits piece.now) front left }
     requires part { IfSome part.old (λ t. IsMessagePart H.Store.holds H.Packet.WAY (bits piece.now) t.0 t.1) }
     ensures { IfSome part.new (λ t. IsMessagePart H.Store.holds H.Packet.WAY (bits piece.now) t.0 t.1) }
 {

@@ -11,7 +11,6 @@ use crate::packet::Packet;
 use crate::typed::{Made, Source, hold};
 use crate::{by_number, of_each, write};
 use etcs_bits::{BitSlice, Bits};
-use etcs_flat::Other;
 use etcs_tables::Way;
 use etcs_vars::inner::{VarSink, Variables};
 use etcs_vars::{Var, WordSink};
@@ -96,10 +95,7 @@ impl AnyPacket for Packet {
     }
 
     fn of_kept(nid: u8, dir: u8, body: Bits) -> Packet {
-        match Other::new(nid, dir, body) {
-            Ok(other) => Packet::Other(other),
-            Err(_) => unreachable!(),
-        }
+        Packet::Other(etcs_flat::inner::other(nid, dir, body))
     }
 
     fn of_marker(number: u8) -> Option<Packet> {

@@ -66,13 +66,13 @@ pub record RunTo (c : Carrier) (room : ℕ) (H : Holds) (xs : List Bool) (at lef
   pub bits : spelled (readings_to (way_of c) packets) ≡ part at (room - left) xs
 
 -- there are some, and after them others may come, or what closes them
-abbrev pub RunSome : Carrier → ℕ → Holds → List Bool → ℕ → ℕ → Type 0
-RunSome c room H xs at left = RunTo c room H xs at left × (left < room) × IsTrue (may_be_left c left)
+abbrev pub RunFirst : Carrier → ℕ → Holds → List Bool → ℕ → ℕ → Type 0
+RunFirst c room H xs at left = RunTo c room H xs at left × (left < room) × IsTrue (may_be_left c left)
 
 -- how far packets were taken of the bits from at on
 abbrev pub RunIs : Carrier → ℕ → Holds → List Bool → ℕ → Run → Type 0
 RunIs c room H xs at (taken.All left) = RunAt c room H xs at left
-RunIs c room H xs at (taken.Some left) = RunSome c room H xs at left
+RunIs c room H xs at (taken.First left) = RunFirst c room H xs at left
 
 -- what closes the packets comes next, where this many bits of their room are left
 abbrev pub ClosesAt : Carrier → ℕ → List Bool → ℕ → Type 0

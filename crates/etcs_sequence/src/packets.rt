@@ -11,7 +11,7 @@ ghost use Rattle.etcs_rows.specs.declared.frames.Carrier.{Carrier};
 ghost use Rattle.etcs_rows.specs.declared.rest.RowRest.{RowRest};
 ghost use Rattle.etcs_reader.specs.Rests.{Goes};
 ghost use Rattle.etcs_sequence.specs.declared.stage.Stage.{Stage};
-ghost use Rattle.etcs_sequence.specs.AtOnce.{RunSome};
+ghost use Rattle.etcs_sequence.specs.AtOnce.{RunFirst};
 ghost use Rattle.etcs_sequence.specs.Leaps.{Follows, Leaps};
 ghost use Rattle.etcs_sequence.specs.Lefts.{next_of, left_of, ahead, is_closed, may_grow, numbers_with, bits_with, MayFinish, Finishes, HoldsAt};
 ghost use Rattle.etcs_sequence.specs.laws.LeftLaws.{left_regular, left_begins, left_ended};
@@ -284,8 +284,8 @@ impl<S: PacketStore + Drop> PacketsRest<S> {
     pub fn resume(&mut self, store: S, left: usize)
         requires stage { self.old.left.stage ≡ Stage.Number }
         requires none { (vs : List PacketValue) → S.holds self.old.store vs [] [] → vs ≡ [] }
-        requires run { ∥ ((xs : List Bool) × ((at : ℕ) × RunSome self.old.left.carrier self.old.left.room (S.holds store) xs at left)) ∥₁ }
-        ensures { (xs : List Bool) (at : ℕ) → RunSome self.old.left.carrier self.old.left.room (S.holds store) xs at left → Leaps self.old.left (S.holds self.old.store) self.new.left (S.holds self.new.store) xs at (self.old.left.room - left) }
+        requires run { ∥ ((xs : List Bool) × ((at : ℕ) × RunFirst self.old.left.carrier self.old.left.room (S.holds store) xs at left)) ∥₁ }
+        ensures { (xs : List Bool) (at : ℕ) → RunFirst self.old.left.carrier self.old.left.room (S.holds store) xs at left → Leaps self.old.left (S.holds self.old.store) self.new.left (S.holds self.new.store) xs at (self.old.left.room - left) }
     {
         let taken = self.left.room - left;
         self.left.skip(taken);

@@ -279,8 +279,8 @@ fn take_packet<S: PacketStore>(
 pub enum Run {
     /// All, with what closes them: this many bits of their room are left.
     All(usize),
-    /// The first ones, after which others may come, or what closes them: this many bits of their room are left.
-    Some(usize),
+    /// The first of them, after which others may come, or what closes them: this many bits of their room are left.
+    First(usize),
 }
 
 /// Takes the packets of a room, which begins at `at`, with what closes them, and says how far it came. It may always return
@@ -309,7 +309,7 @@ pub fn take_run<S: PacketStore>(
         };
         let Some(bits) = taken else {
             if left < room {
-                return Some(Run::Some(left));
+                return Some(Run::First(left));
             }
             return None;
         };

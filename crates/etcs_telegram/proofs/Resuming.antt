@@ -7,7 +7,7 @@ use Rattle.etcs_vars.specs.Reading.{spelled}
 use Rattle.etcs_vars.specs.laws.Spellings.{spelled-append}
 use Rattle.etcs_vars.proofs.Languages.{Same}
 use Rattle.etcs_rows.specs.declared.frames.Carrier.TheVariants as carrier
-use Rattle.etcs_sequence.specs.AtOnce.{RunSome}
+use Rattle.etcs_sequence.specs.AtOnce.{RunFirst}
 use Rattle.etcs_sequence.specs.declared.state.PacketsState.{PacketsState}
 use Rattle.etcs_sequence.specs.Lefts.{is_closed}
 use Rattle.etcs_telegram.specs.declared.size.Size.{Size}
@@ -51,8 +51,8 @@ module _ (size : Size) (start front : TelegramState TelegramStore) (xs : List Bo
   all_room : front.left.room ≡ packet_room size
   all_room = room ∙ ap packet_room (h.follows.same ∙ held.0)
 
-  pub run_left : (store : TelegramStore) → RunSome carrier.Telegram (packet_room size) (store_holds store) xs 50 left → RunSome carrier.Telegram front.left.room (store_holds store) xs 50 left
-  run_left store run = subst (λ n. RunSome carrier.Telegram n (store_holds store) xs 50 left) (sym all_room) run
+  pub run_left : (store : TelegramStore) → RunFirst carrier.Telegram (packet_room size) (store_holds store) xs 50 left → RunFirst carrier.Telegram front.left.room (store_holds store) xs 50 left
+  run_left store run = subst (λ n. RunFirst carrier.Telegram n (store_holds store) xs 50 left) (sym all_room) run
 
   pub part_at : (rest : TelegramState TelegramStore) → Same (Left start) (TelegramLanguage size) → Leaps store_holds front rest xs 50 (front.left.room - left) → IsTelegramPart size xs rest (50 + (packet_room size - left))
   part_at rest same m =

@@ -9,7 +9,7 @@ ghost use Rattle.etcs_vars.proofs.Languages.{Same};
 ghost use Rattle.etcs_tables.specs.declared.row.Way.TheVariants.{ToTrain};
 ghost use Rattle.etcs_reader.specs.Rests.{Goes, Starts};
 ghost use Rattle.etcs_packets.specs.PacketValues.{PacketValue};
-ghost use Rattle.etcs_sequence.specs.AtOnce.{RunSome};
+ghost use Rattle.etcs_sequence.specs.AtOnce.{RunFirst};
 ghost use Rattle.etcs_telegram.specs.declared.size.Size.{Size};
 ghost use Rattle.etcs_telegram.specs.Telegrams.{TelegramLanguage, packet_room};
 ghost use Rattle.etcs_telegram.specs.Phases.{after_pad};
@@ -249,8 +249,8 @@ impl TelegramRest<TelegramStore> {
         requires phase { self.old.phase ≡ Phase.Packets }
         requires stage { self.old.left.stage ≡ Stage.Number }
         requires none { (vs : List PacketValue) → store_holds self.old.store vs [] [] → vs ≡ [] }
-        requires run { ∥ ((xs : List Bool) × ((at : ℕ) × RunSome Carrier.Telegram self.old.left.room (store_holds store) xs at left)) ∥₁ }
-        ensures { (xs : List Bool) (at : ℕ) → RunSome Carrier.Telegram self.old.left.room (store_holds store) xs at left → Leaps store_holds self.old self.new xs at (self.old.left.room - left) }
+        requires run { ∥ ((xs : List Bool) × ((at : ℕ) × RunFirst Carrier.Telegram self.old.left.room (store_holds store) xs at left)) ∥₁ }
+        ensures { (xs : List Bool) (at : ℕ) → RunFirst Carrier.Telegram self.old.left.room (store_holds store) xs at left → Leaps store_holds self.old self.new xs at (self.old.left.room - left) }
     {
         self.phase = Phase::Whole;
         let packets = &mut self.packets;

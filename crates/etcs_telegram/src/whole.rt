@@ -4,7 +4,7 @@ ghost use Rattle.std.specs.Prelude.{◌≡◌, ◌*◌, ◌≤◌, ◌<◌, ◌^
 ghost use Rattle.etcs_bits.specs.Bits as bit_lists;
 ghost use Rattle.etcs_bits.specs.Bits.{bits};
 ghost use Rattle.etcs_vars.specs.Reading.{Reading, spelled};
-ghost use Rattle.etcs_sequence.specs.AtOnce.{RunSome};
+ghost use Rattle.etcs_sequence.specs.AtOnce.{RunFirst};
 ghost use Rattle.etcs_telegram.specs.Telegrams.{IsTelegram, ReadsAs, telegram_value, container_bytes, packet_room};
 ghost use Rattle.etcs_telegram.specs.Readers.{store_holds, IsTelegramPart};
 
@@ -50,7 +50,7 @@ pub(crate) fn telegram_at(
     let bits = size.packet_room();
     let left = match take_run(&mut store, Carrier::Telegram, bits, piece, HEADER_BITS)? {
         Run::All(left) => left,
-        Run::Some(left) => {
+        Run::First(left) => {
             resume(room.alloc(), size, piece, store, left, part);
             return None;
         }
@@ -81,7 +81,7 @@ fn resume(
 )
     requires some { 0 < length (bits piece.now) }
     requires small { length (bits piece.now) < 2 ^ 64 }
-    requires run { RunSome Carrier.Telegram (packet_room size) (store_holds store) (bits piece.now) 50 left }
+    requires run { RunFirst Carrier.Telegram (packet_room size) (store_holds store) (bits piece.now) 50 left }
     requires part { IfSome part.old (λ t. IsTelegramPart size (bits piece.now) t.0 t.1) }
     ensures { IfSome part.new (λ t. IsTelegramPart size (bits piece.now) t.0 t.1) }
 {

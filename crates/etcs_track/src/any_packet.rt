@@ -104,10 +104,7 @@ impl AnyPacket for TrainPacket {
 
     fn of_kept(nid: u8, dir: u8, body: Bits) -> TrainPacket {
         let _ = dir;
-        match TrainOther::new(nid, body) {
-            Ok(other) => TrainPacket::Other(other),
-            Err(_) => unreachable!(),
-        }
+        TrainPacket::Other(TrainOther::sound(nid, body))
     }
 
     /// To the track packet 0 has a frame.

@@ -54,6 +54,15 @@ impl TrainOther {
         }
     }
 
+    /// As `new`, where nothing is wrong.
+    #[inline(always)]
+    pub(crate) fn sound(nid: u8, body: Bits) -> TrainOther
+        requires { other_fault ToTrack nid 0 (length body) ≡ None }
+        ensures { result ≡ train_other_value nid body }
+    {
+        TrainOther { nid, body }
+    }
+
     /// NID_PACKET, not that of a typed packet.
     pub fn nid(&self) -> u8
         ensures nid { result ≡ self.now.nid }

@@ -3,7 +3,7 @@ use Rattle.std.specs.Prelude.{IsTrue}
 use Rattle.std.proofs.Math.Logic.{∥∥₁_elim, ∥∥₁_map, ∥∥₁_prop}
 use Rattle.etcs_rows.specs.declared.frames.Carrier.{Carrier}
 use Rattle.etcs_rows.specs.declared.frames.Carrier.TheVariants.{Telegram}
-use Rattle.etcs_sequence.specs.AtOnce.{RunSome}
+use Rattle.etcs_sequence.specs.AtOnce.{RunFirst}
 use Rattle.etcs_sequence.proofs.Leaps.{leaps_on}
 use Rattle.etcs_sequence.proofs.PacketLemmas.{true_prop}
 use Rattle.etcs_telegram.specs.declared.phase.Phase.TheVariants.{Packets}
@@ -19,7 +19,7 @@ resume-requires-clause-run c =
     let i = c.self.inside in
     let v = c.self.view_is in
     let telegram : i.packets.left.carrier ≡ Telegram = rw (← v) at (packets_parts c.args.self.now c.requires.phase).1 in
-    ∥∥₁_map c.requires.run (λ (xs, (at, run)). (xs, (at, subst (λ (d : Carrier). RunSome d i.packets.left.room (store_holds c.args.store) xs at c.args.left) (sym telegram) (rw (← v) at run))))
+    ∥∥₁_map c.requires.run (λ (xs, (at, run)). (xs, (at, subst (λ (d : Carrier). RunFirst d i.packets.left.room (store_holds c.args.store) xs at c.args.left) (sym telegram) (rw (← v) at run))))
 
 pub invariant_of-self-inside : goal.invariant_of-self-inside
 invariant_of-self-inside c =
@@ -30,7 +30,7 @@ invariant_of-self-inside c =
     let telegram : i.packets.left.carrier ≡ Telegram = rw (← v) at parts.1 in
     let l' = c.resume.new.self.left in
     let stands : IsTrue (stands_at c.behind_packets-self-inside.result (length i.header.items) l') = ∥∥₁_elim c.requires.run (true_prop _) (λ (xs, (at, run)).
-    let leap = c.resume.ensures xs at (subst (λ (d : Carrier). RunSome d i.packets.left.room (store_holds c.args.store) xs at c.args.left) (sym telegram) (rw (← v) at run)) in
+    let leap = c.resume.ensures xs at (subst (λ (d : Carrier). RunFirst d i.packets.left.room (store_holds c.args.store) xs at c.args.left) (sym telegram) (rw (← v) at run)) in
     rw c.behind_packets-self-inside.ensures (behind_stands i.size l' _ ten (leap.follows.0.same ∙ telegram))) in
     (stands, tt)
 
@@ -41,7 +41,7 @@ invariant_of-self c =
     let s = state i.size i.phase i.header.items i.packets.left i.packets.store i.stands in
     let telegram : i.packets.left.carrier ≡ Telegram = rw (← v) at (packets_parts c.args.self.now c.requires.phase).1 in
     ∥∥₁_elim c.requires.run ∥∥₁_prop (λ (xs, (at, run)).
-    let leap = c.resume.ensures xs at (subst (λ (d : Carrier). RunSome d i.packets.left.room (store_holds c.args.store) xs at c.args.left) (sym telegram) (rw (← v) at run)) in
+    let leap = c.resume.ensures xs at (subst (λ (d : Carrier). RunFirst d i.packets.left.room (store_holds c.args.store) xs at c.args.left) (sym telegram) (rw (← v) at run)) in
     ∥∥₁_map i.packets.held (packets_fits s c.behind_packets-self-inside.result c.resume.new.self.left (store_holds i.packets.store) (store_holds c.resume.new.self.store) leap.whole (rw (← v) at c.requires.phase) c.behind_packets-self-inside.ensures leap.follows))
 
 pub returns : goal.returns
@@ -57,4 +57,4 @@ returns c =
     (λ xs at run.
     leaps_on i.packets.left l' (store_holds i.packets.store) (store_holds c.resume.new.self.store) xs at (Some (i.packets.left.room - c.args.left)) (λ goes. rw e (packets_all i.size l' goes))
     (λ p goes steps. packets_follow store_holds s _ _ _ _ p phase e goes steps)
-    (c.resume.ensures xs at (subst (λ (d : Carrier). RunSome d i.packets.left.room (store_holds c.args.store) xs at c.args.left) (sym telegram) run)))
+    (c.resume.ensures xs at (subst (λ (d : Carrier). RunFirst d i.packets.left.room (store_holds c.args.store) xs at c.args.left) (sym telegram) run)))

@@ -1,6 +1,6 @@
 //! Bits that are kept, sent as variables.
 
-ghost use Rattle.std.specs.Prelude.{◌≡◌, OnOk, OnErr, IfOk, take};
+ghost use Rattle.std.specs.Prelude.{◌≡◌, ◌≤◌, OnOk, OnErr, IfOk, take};
 ghost use Rattle.etcs_bits.specs.Bits.{num};
 ghost use Rattle.etcs_vars.specs.Reading.{kept};
 
@@ -26,24 +26,47 @@ fn of_byte(var: Var, byte: u64) -> [(Var, u64); 8]
     ]
 }
 
-/// Sends eight bits at a time, each as the variable, as long as there are as many, and returns how many it sent.
+/// Sends the first `count` bits of a word, highest first, eight at a time as long as there are as many, and returns how many it
+/// sent.
 ///
 /// # Errors
 ///
 /// That of the sink.
-fn send_bytes<S: VarSink>(var: Var, bits: &BitSlice<'_>, out: &mut S) -> Result<usize, AllocError>
-    ensures ok { IfOk result (λ n. out.new ≡ S.with out.old (kept var (take n bits.now))) }
+#[inline]
+fn send_bytes<S: VarSink>(
+    var: Var,
+    word: u64,
+    count: usize,
+    out: &mut S,
+) -> Result<usize, AllocError>
+    requires { count ≤ 64 }
+    ensures ok { IfOk result (λ n. (n ≤ count) × (out.new ≡ S.with out.old (kept var (take n (num 64 word))))) }
     ensures err { OnErr result (S.failed out.old out.new) }
 {
-    let mut from = 0;
-    while bits.len() - from >= 8 {
-        let Some(byte) = bits.number(from, 8) else {
-            break;
-        };
-        out.send(&of_byte(var, byte))?;
-        from += 8;
+    let mut place = 0;
+    while count - place >= 8 {
+        out.send(&of_byte(var, (word << place) >> 56))?;
+        place += 8;
     }
-    Ok(from)
+    Ok(place)
+}
+
+/// Sends the first `count` bits of a word, highest first.
+///
+/// # Errors
+///
+/// That of the sink.
+#[inline]
+fn send_word<S: VarSink>(var: Var, word: u64, count: usize, out: &mut S) -> Result<(), AllocError>
+    requires { count ≤ 64 }
+    ensures ok { OnOk result (out.new ≡ S.with out.old (kept var (take count (num 64 word)))) }
+    ensures err { OnErr result (S.failed out.old out.new) }
+{
+    let sent = send_bytes(var, word, count, out)?;
+    for place in sent..count {
+        out.send(&[(var, (word << place) >> 63)])?;
+    }
+    Ok(())
 }
 
 /// Sends bits that are kept, each as the variable.
@@ -55,10 +78,11 @@ pub fn send_bits<S: VarSink>(var: Var, bits: &BitSlice<'_>, out: &mut S) -> Resu
     ensures ok { OnOk result (out.new ≡ S.with out.old (kept var bits.now)) }
     ensures err { OnErr result (S.failed out.old out.new) }
 {
-    let from = send_bytes(var, bits, out)?;
-    for place in from..bits.len() {
-        let number = u64::from(bits.bit(place) == Some(true));
-        out.send(&[(var, number)])?;
+    let mut from = 0;
+    while from < bits.len() {
+        let count = (bits.len() - from).min(64);
+        send_word(var, bits.word(from), count, out)?;
+        from += count;
     }
     Ok(())
 }

@@ -1,9 +1,10 @@
-use Rattle.std.proofs.Common.{◌≡◌, ◌-◌, ◌≤◌, length, take}
+use Rattle.std.proofs.Common.{◌≡◌, ◌-◌, ◌≤◌, take}
+use Rattle.etcs_bits.specs.Bits.{num}
 use Rattle.etcs_vars.specs.Reading.{kept}
 use Rattle.etcs_vars.proofs.kept.send_bytes.Given as goal
 
-abbrev pub invariant-loop-from : goal.invariant-loop-from
-invariant-loop-from g l = (l.from ≤ length l.bits) × (l.out ≡ g.S.VarSink.with l.fn.out (kept l.var (take l.from l.bits)))
+abbrev pub invariant-loop-place : goal.invariant-loop-place
+invariant-loop-place g l = (l.place ≤ l.count) × (l.out ≡ g.S.VarSink.with l.fn.out (kept l.var (take l.place (num 64 l.word))))
 
-abbrev pub decreases-loop-from : goal.decreases-loop-from
-decreases-loop-from g l = length l.bits - l.from
+abbrev pub decreases-loop-place : goal.decreases-loop-place
+decreases-loop-place g l = l.count - l.place

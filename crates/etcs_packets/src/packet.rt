@@ -152,6 +152,7 @@ impl Packet {
 }
 
 /// How many bits a packet takes, its frame among them.
+#[inline]
 fn bits_in(packet: &Packet) -> usize
     ensures bits { result ≡ bits_of (packet_value packet.now) }
     ensures small { result ≤ 8191 }

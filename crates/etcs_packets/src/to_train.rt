@@ -51,6 +51,7 @@ impl AnyPacket for Packet {
         self.nid()
     }
 
+    #[inline(always)]
     fn dir(&self) -> Option<u8> {
         self.dir()
     }

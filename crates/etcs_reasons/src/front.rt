@@ -26,8 +26,9 @@ pub(crate) struct Front {
 }
 
 impl Front {
-    /// What is known after these variables, which have this many bits.
-    pub(crate) fn new(kind: Kind, fields: &[(Var, u64)], bit: usize) -> Front {
+    /// What is known where this variable comes after these, which have this many bits. Of the last packet nothing is known if
+    /// the next one begins, or PAD.
+    pub(crate) fn new(kind: Kind, fields: &[(Var, u64)], bit: usize, var: Var) -> Front {
         let mut front = Front {
             kind,
             bit,
@@ -44,6 +45,9 @@ impl Front {
                 Var::L_MESSAGE => front.end = (*number & 1023) as usize * 8,
                 _ => {}
             }
+        }
+        if let Var::NID_PACKET | Var::PAD = var {
+            return front;
         }
         let last = fields
             .iter()

@@ -114,7 +114,7 @@ fn write_end(kind: Kind, bytes: &[u8], account: &Account, out: &mut Text) -> Opt
         }
         End::Refused(bit, part) => {
             let before = bit.saturating_sub(part.count);
-            let front = Front::new(kind, account.fields.as_slice(), before);
+            let front = Front::new(kind, account.fields.as_slice(), before, part.var);
             write_reason(&front, bytes, part, out);
             often(kind, bytes, part.var)
         }

@@ -26,7 +26,7 @@ import re
 NOTE = "note.json"  # in out/rlib, which rt removes before each build
 SUMS_OF_ALL = (b"checked ", b"sum ")
 FIRST_LINE = b"--@ antt-checked 81\n"
-BEHIND = b"\n--@ reaches "  # the lines that matter come before this one
+BEYOND = b"\n--@ reaches "  # the lines that matter come before this one
 SOURCE = re.compile(rb"^--@ source sha256:(\w+)$", re.M)
 NAMED = re.compile(rb"^--@ (?:import|saw) (Rattle[-.]\S+) ", re.M)
 
@@ -56,7 +56,7 @@ def modules_of(rlib):
     with open(f"{rlib}/toolchain/checked.json", encoding="utf-8") as names, open(f"{rlib}/toolchain/checked.a", "rb") as archive:
         for name, start, length in map(json.loads, names):
             archive.seek(start)
-            head, ends, _ = archive.read(length).partition(BEHIND)
+            head, ends, _ = archive.read(length).partition(BEYOND)
             if name.startswith("Rattle"):
                 if not head.startswith(FIRST_LINE) or not ends:
                     raise ValueError(f"{rlib}: {name} is in another form")

@@ -74,8 +74,8 @@ num_replaced o w s b v h =
     let bits : num (o + (w + s)) b ≡ num o high ++ num (w + s) b = num-add o (w + s) b in
     let front : take o (num (o + (w + s)) b) ≡ num o high = ap (take o) bits ∙ take_at (num o high) (num (w + s) b) o (length-num o high) in
     let rest : drop o (num (o + (w + s)) b) ≡ num (w + s) b = ap (drop o) bits ∙ drop_at (num o high) (num (w + s) b) o (length-num o high) in
-    let behind : drop (o + w) (num (o + (w + s)) b) ≡ num s b = sym (drop-drop w o (num (o + (w + s)) b)) ∙ ap (drop w) (rest ∙ num-add w s b) ∙ drop_at (num w (b / 2 ^ s)) (num s b) w (length-num w (b / 2 ^ s)) in
-    let n : drop (o + length (num w v)) (num (o + (w + s)) b) ≡ num s b = ap (λ k. drop (o + k) (num (o + (w + s)) b)) (length-num w v) ∙ behind in
+    let beyond : drop (o + w) (num (o + (w + s)) b) ≡ num s b = sym (drop-drop w o (num (o + (w + s)) b)) ∙ ap (drop w) (rest ∙ num-add w s b) ∙ drop_at (num w (b / 2 ^ s)) (num s b) w (length-num w (b / 2 ^ s)) in
+    let n : drop (o + length (num w v)) (num (o + (w + s)) b) ≡ num s b = ap (λ k. drop (o + k) (num (o + (w + s)) b)) (length-num w v) ∙ beyond in
     left ∙ sym (append_assoc (num o high) (num w v) (num s b)) ∙ cc
 
 -- the same as the code finds it
@@ -100,9 +100,9 @@ number_small o w s b v e hb hv =
 pub number_found : (o w b x v : ℕ) → x ≡ b → b < 2 ^ 8 → o + w ≤ 8 → v < 2 ^ w → x / 2 ^ (8 - o) * 2 ^ (8 - o) % 2 ^ 64 + v * 2 ^ (8 - o - w) % 2 ^ 64 + x % (1 * 2 ^ (8 - o - w) % 2 ^ 64) ≡ b / 2 ^ (w + (8 - o - w)) * 2 ^ (w + (8 - o - w)) + v * 2 ^ (8 - o - w) + b % 2 ^ (8 - o - w)
 number_found o w b x v e hb h hv =
     let s = 8 - o - w in
-    let behind : 8 - o ≡ w + s = omega arith in
+    let beyond : 8 - o ≡ w + s = omega arith in
     let small = number_small o w s b v (omega arith) hb hv in
-    let front : x / 2 ^ (8 - o) * 2 ^ (8 - o) ≡ b / 2 ^ (w + s) * 2 ^ (w + s) = ap (λ y. y / 2 ^ (8 - o) * 2 ^ (8 - o)) e ∙ ap (λ k. b / 2 ^ k * 2 ^ k) behind in
+    let front : x / 2 ^ (8 - o) * 2 ^ (8 - o) ≡ b / 2 ^ (w + s) * 2 ^ (w + s) = ap (λ y. y / 2 ^ (8 - o) * 2 ^ (8 - o)) e ∙ ap (λ k. b / 2 ^ k * 2 ^ k) beyond in
     let a : b / 2 ^ (w + s) * 2 ^ (w + s) < 2 ^ 64 = omega (arith, small) in
     let c : v * 2 ^ s < 2 ^ 64 = omega (arith, small) in
     let first : x / 2 ^ (8 - o) * 2 ^ (8 - o) % 2 ^ 64 ≡ b / 2 ^ (w + s) * 2 ^ (w + s) = ap (λ y. y % 2 ^ 64) front ∙ mod-eq_of_lt a in

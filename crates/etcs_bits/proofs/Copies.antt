@@ -32,11 +32,11 @@ word_shifted bytes o word low h l e f =
     let up : 64 ≡ o + (64 - o) = omega arith in
     let back : 64 ≡ 64 - o + o = omega arith in
     let zero_first : 0 + o ≡ o = omega arith in
-    let behind : o + (64 - o) ≡ 64 = omega arith in
+    let beyond : o + (64 - o) ≡ 64 = omega arith in
     let split : value (part 0 64 bs) ≡ value (part 0 o bs) * 2 ^ (64 - o) + middle = ap (λ k. value (part 0 k bs)) up ∙ value-part_add 0 o (64 - o) bs (omega (arith, size)) ∙ ap (λ k. value (part 0 o bs) * 2 ^ (64 - o) + value (part k (64 - o) bs)) zero_first in
     let moved : word * 2 ^ o % 2 ^ 64 ≡ middle * 2 ^ o = ap (λ k. k * 2 ^ o % 2 ^ 64) (e ∙ split) ∙ moved_up (value (part 0 o bs)) middle o (omega arith) (value-part_below o (64 - o) bs (omega (arith, size))) in
     let last : value (part 64 o bs) ≡ low = ap value (bits-part bytes 8 64 0 o (omega arith) refl (omega arith)) ∙ sym f in
-    let joined : value (part o 64 bs) ≡ middle * 2 ^ o + value (part 64 o bs) = ap (λ k. value (part o k bs)) back ∙ value-part_add o (64 - o) o bs (omega (arith, size)) ∙ ap (λ k. middle * 2 ^ o + value (part k o bs)) behind in
+    let joined : value (part o 64 bs) ≡ middle * 2 ^ o + value (part 64 o bs) = ap (λ k. value (part o k bs)) back ∙ value-part_add o (64 - o) o bs (omega (arith, size)) ∙ ap (λ k. middle * 2 ^ o + value (part k o bs)) beyond in
     omega (arith, moved, last, joined)
 
 pub word_room : (bytes : List ℕ) (o word low : ℕ) → o < 8 → 9 ≤ length bytes → word ≡ value (part 0 64 (bits bytes)) → low ≡ value (part 0 o (num 8 (get_or bytes 8 0))) → word * 2 ^ o % 2 ^ 64 + low < 2 ^ 64
@@ -105,8 +105,8 @@ pub part_length : (old new : List ℕ) (s a n : ℕ) (seen : List Bool) → a + 
 part_length old new s a n seen h k e = same_length old new s (part a n seen) (omega (arith, length-part a n seen h)) e
 
 -- after a first part, words written from a whole byte on
-pub words_behind : (old one new : List ℕ) (seen : List Bool) (start front words at : ℕ) → front + words ≤ length seen → start + length seen ≤ length (bits old) → 8 * at + 0 ≡ start + front → bits one ≡ replaced (start + 0) (part 0 (front - 0) seen) (bits old) → bits new ≡ replaced 0 (part front words seen) (bits (take (length one - at) (drop at one))) → (bits (put_mid at (length one - at) one new) ≡ replaced (start + front) (part front words seen) (bits one)) × (length (put_mid at (length one - at) one new) ≡ length old)
-words_behind old one new seen start front words at inside room place first second =
+pub words_after : (old one new : List ℕ) (seen : List Bool) (start front words at : ℕ) → front + words ≤ length seen → start + length seen ≤ length (bits old) → 8 * at + 0 ≡ start + front → bits one ≡ replaced (start + 0) (part 0 (front - 0) seen) (bits old) → bits new ≡ replaced 0 (part front words seen) (bits (take (length one - at) (drop at one))) → (bits (put_mid at (length one - at) one new) ≡ replaced (start + front) (part front words seen) (bits one)) × (length (put_mid at (length one - at) one new) ≡ length old)
+words_after old one new seen start front words at inside room place first second =
     let same = part_length old one (start + 0) 0 (front - 0) seen (omega arith) (omega arith) first in
     let written = replaced-rest one new at (start + front) 0 (part front words seen) (omega (arith, same, length-bits old)) (omega arith) second in
     let again = part_length one (put_mid at (length one - at) one new) (start + front) front words seen inside (omega (arith, same, length-bits old, length-bits one)) written in

@@ -24,8 +24,8 @@ front word hi lo i j k is low e =
     ∙ div-mul-add hi (2 ^ j) lo low
 
 -- what is after them, moved to the front
-behind : (word hi lo i j w : ℕ) → word / 2 ^ i ≡ hi * 2 ^ j + lo → lo < 2 ^ j → w + i + j ≡ 64 → word * 2 ^ w % 2 ^ 64 / 2 ^ (w + i) ≡ lo
-behind word hi lo i j w is low e =
+beyond : (word hi lo i j w : ℕ) → word / 2 ^ i ≡ hi * 2 ^ j + lo → lo < 2 ^ j → w + i + j ≡ 64 → word * 2 ^ w % 2 ^ 64 / 2 ^ (w + i) ≡ lo
+beyond word hi lo i j w is low e =
     let size : 64 ≡ j + (w + i) = omega (arith, e) in
     ap (λ m. word * 2 ^ w % 2 ^ m / 2 ^ (w + i)) size
     ∙ field_of (word * 2 ^ w) j (w + i)
@@ -41,7 +41,7 @@ moved word hi lo i j w is low e = elim (cases_lt w 64) [
   | inl small ↦
       (let same : w % 64 ≡ w = omega (arith, small) in
       let rest : 64 - j ≡ w + i = omega (arith, e) in
-      ap (λ m. word * 2 ^ m % 2 ^ 64 / 2 ^ (64 - j)) same ∙ ap (λ m. word * 2 ^ w % 2 ^ 64 / 2 ^ m) rest ∙ behind word hi lo i j w is low e)
+      ap (λ m. word * 2 ^ m % 2 ^ 64 / 2 ^ (64 - j)) same ∙ ap (λ m. word * 2 ^ w % 2 ^ 64 / 2 ^ m) rest ∙ beyond word hi lo i j w is low e)
   | inr big ↦
       (let none : j ≡ 0 = omega (arith, big, e) in
       let whole : 64 - j ≡ 64 = omega (arith, none) in

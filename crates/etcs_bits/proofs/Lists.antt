@@ -16,8 +16,8 @@ part-drop a s c bs = ap (take c) (drop-drop s a bs)
 pub part-part : (a n s c : ℕ) (bs : List Bool) → s + c ≤ n → part s c (part a n bs) ≡ part (a + s) c bs
 part-part a n s c bs h =
     let size : n ≡ s + (n - s) = omega arith in
-    let behind : drop s (take n (drop a bs)) ≡ take (n - s) (drop s (drop a bs)) = ap (λ k. drop s (take k (drop a bs))) size ∙ drop-take s (n - s) (drop a bs) in
-    ap (take c) behind ∙ take-take c (n - s) (drop s (drop a bs)) (omega arith) ∙ part-drop a s c bs
+    let beyond : drop s (take n (drop a bs)) ≡ take (n - s) (drop s (drop a bs)) = ap (λ k. drop s (take k (drop a bs))) size ∙ drop-take s (n - s) (drop a bs) in
+    ap (take c) beyond ∙ take-take c (n - s) (drop s (drop a bs)) (omega arith) ∙ part-drop a s c bs
 
 -- a part, cut in two
 pub part-add : (s k c : ℕ) (bs : List Bool) → part s (k + c) bs ≡ part s k bs ++ part (s + k) c bs

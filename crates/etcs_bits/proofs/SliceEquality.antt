@@ -8,10 +8,10 @@ use Rattle.etcs_bits.proofs.Numbers.{num_same}
 
 -- what is the same up to a place and in the part after it is the same up to the part's end
 pub same_more : (xs ys : List Bool) (done count : ℕ) → take done xs ≡ take done ys → part done count xs ≡ part done count ys → take (done + count) xs ≡ take (done + count) ys
-same_more xs ys done count front behind =
+same_more xs ys done count front beyond =
     take-add done count xs
     ∙ ap (λ (l : List Bool). l ++ part done count xs) front
-    ∙ ap (λ (l : List Bool). take done ys ++ l) behind
+    ∙ ap (λ (l : List Bool). take done ys ++ l) beyond
     ∙ sym (take-add done count ys)
 
 -- numbers are equal exactly where their bits are

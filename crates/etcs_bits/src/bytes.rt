@@ -28,8 +28,8 @@ pub(crate) fn with_number(byte: u8, offset: usize, width: usize, value: u64) -> 
     requires fits { value < 2 ^ width }
     ensures { num 8 result ≡ replaced offset (num width value) (num 8 byte) }
 {
-    let behind = 8 - offset - width;
+    let beyond = 8 - offset - width;
     let byte = u64::from(byte);
     let front = (byte >> (8 - offset)) << (8 - offset);
-    (front + (value << behind) + byte % (1 << behind)) as u8
+    (front + (value << beyond) + byte % (1 << beyond)) as u8
 }

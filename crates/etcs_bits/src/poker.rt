@@ -85,9 +85,9 @@ fn with_number_in_word(word: u64, offset: usize, width: usize, value: u64) -> u6
     requires fits { value < 2 ^ width }
     ensures { num 64 result ≡ replaced offset (num width value) (num 64 word) }
 {
-    let behind = 64 - offset - width;
+    let beyond = 64 - offset - width;
     let lower = (word << offset) >> offset;
-    (word - lower) + (value << behind) + lower % (1 << behind)
+    (word - lower) + (value << beyond) + lower % (1 << beyond)
 }
 
 /// Writes a number into `width` bits of `bytes` from `offset` on, which are inside `bytes`, byte by byte.

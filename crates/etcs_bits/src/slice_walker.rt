@@ -23,11 +23,11 @@ fn first_of(next: NextBits, width: usize) -> (u64, NextBits)
     ensures next { (bs : List Bool) (end : ℕ) → Keeps next.word next.count bs end → (number_at (end - next.count) width bs ≡ Some result.0) × Keeps result.1.word result.1.count bs end }
     ensures count { result.1.count + width ≡ next.count }
 {
-    let behind = NextBits {
+    let beyond = NextBits {
         word: next.word.wrapping_shl(width as u32),
         count: next.count - width,
     };
-    (next.word >> (64 - width), behind)
+    (next.word >> (64 - width), beyond)
 }
 
 /// The bits from `at` on, at most 64 of them, and at least `width`. `None` where this many go past the end.
@@ -107,8 +107,8 @@ impl<'a> SliceWalker<'a> {
             self.end = place + next.count;
             self.next = next;
         }
-        let (number, behind) = first_of(self.next, width);
-        self.next = behind;
+        let (number, beyond) = first_of(self.next, width);
+        self.next = beyond;
         Some(number)
     }
 

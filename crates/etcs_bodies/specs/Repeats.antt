@@ -10,9 +10,9 @@ abbrev pub Stand : {V : Type 0} → (V → Type 0) → (V → Reading) → ℕ �
 Stand IsValue reading n s vs t = All IsValue vs × (length vs ≡ n) × (s ≡ ahead (flat_map reading vs) t)
 
 -- what a loop has taken, and what it still takes
-abbrev pub behind : {V : Type 0} → List V → Option (List V × Left) → Option (List V × Left)
-behind vs None = None
-behind vs (Some more) = Some (vs ++ more.0, more.1)
+abbrev pub beyond : {V : Type 0} → List V → Option (List V × Left) → Option (List V × Left)
+beyond vs None = None
+beyond vs (Some more) = Some (vs ++ more.0, more.1)
 
 -- ---- How many bits.
 

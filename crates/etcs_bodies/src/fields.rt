@@ -130,13 +130,13 @@ macro_rules! name_run {
     ($run:ident $field:ident: bool) => { let $field = $run; };
     ($run:ident $field:ident: $type:ident) => { let $field = $run as $type; };
     ($run:ident $field:ident: bool, $($fields:ident: $types:ident),+) => {
-        let ($field, behind) = $run;
-        $crate::name_run!(behind $($fields: $types),+);
+        let ($field, beyond) = $run;
+        $crate::name_run!(beyond $($fields: $types),+);
     };
     ($run:ident $field:ident: $type:ident, $($fields:ident: $types:ident),+) => {
-        let (number, behind) = $run;
+        let (number, beyond) = $run;
         let $field = number as $type;
-        $crate::name_run!(behind $($fields: $types),+);
+        $crate::name_run!(beyond $($fields: $types),+);
     };
 }
 

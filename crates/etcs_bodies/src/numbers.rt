@@ -165,11 +165,11 @@ fn next_listed<'a>(list: &mut &'a [u64], var: Var) -> Option<u64>
 {
     match list.split_first() {
         None => None,
-        Some((number, behind)) => {
+        Some((number, beyond)) => {
             if !var.admits(*number) {
                 return None;
             }
-            *list = behind;
+            *list = beyond;
             Some(*number)
         }
     }
@@ -211,11 +211,11 @@ fn flag_listed<'a>(list: &mut &'a [u64], var: Var) -> Option<bool>
     let _ = var;
     match list.split_first() {
         None => None,
-        Some((number, behind)) => {
+        Some((number, beyond)) => {
             if *number > 1 {
                 return None;
             }
-            *list = behind;
+            *list = beyond;
             Some(*number == 1)
         }
     }

@@ -37,19 +37,19 @@ pub trait Run: Copy {
         ensures none { IfNone result (Lacks self (N.left numbers.old)) };
 
     /// Their numbers in a word, with this many bits after them.
-    fn split(self, word: u64, behind: usize) -> Option<Self::Taken>
-        requires { bits self + behind < 64 }
-        ensures some { IfSome result (λ ns. (b : List Bool) (k : ℕ) → LiesAt word (bits self + behind) b k → Takes self (in_bits (drop k b)) ns (in_bits (drop (k + bits self) b))) }
-        ensures none { IfNone result ((b : List Bool) (k : ℕ) → LiesAt word (bits self + behind) b k → Lacks self (in_bits (drop k b))) };
+    fn split(self, word: u64, beyond: usize) -> Option<Self::Taken>
+        requires { bits self + beyond < 64 }
+        ensures some { IfSome result (λ ns. (b : List Bool) (k : ℕ) → LiesAt word (bits self + beyond) b k → Takes self (in_bits (drop k b)) ns (in_bits (drop (k + bits self) b))) }
+        ensures none { IfNone result ((b : List Bool) (k : ℕ) → LiesAt word (bits self + beyond) b k → Lacks self (in_bits (drop k b))) };
 }
 
 /// The number in `width` bits of a word, with this many bits after them.
 #[inline(always)]
-fn field(word: u64, width: usize, behind: usize) -> u64
-    requires { width + behind < 64 }
-    ensures { result ≡ word / 2 ^ behind % 2 ^ width }
+fn field(word: u64, width: usize, beyond: usize) -> u64
+    requires { width + beyond < 64 }
+    ensures { result ≡ word / 2 ^ beyond % 2 ^ width }
 {
-    (word >> behind) % (1 << width)
+    (word >> beyond) % (1 << width)
 }
 
 /// A variable of one bit.
@@ -82,8 +82,8 @@ impl Run for Flag {
     }
 
     #[inline(always)]
-    fn split(self, word: u64, behind: usize) -> Option<bool> {
-        Some(field(word, 1, behind) == 1)
+    fn split(self, word: u64, beyond: usize) -> Option<bool> {
+        Some(field(word, 1, beyond) == 1)
     }
 }
 
@@ -115,8 +115,8 @@ impl Run for Var {
     }
 
     #[inline(always)]
-    fn split(self, word: u64, behind: usize) -> Option<u64> {
-        let number = field(word, Var::width(self), behind);
+    fn split(self, word: u64, beyond: usize) -> Option<u64> {
+        let number = field(word, Var::width(self), beyond);
         if !self.admits(number) {
             return None;
         }
@@ -152,9 +152,9 @@ impl<A: Run, B: Run> Run for (A, B) {
     }
 
     #[inline(always)]
-    fn split(self, word: u64, behind: usize) -> Option<(A::Taken, B::Taken)> {
-        let first = self.0.split(word, self.1.width() + behind)?;
-        let second = self.1.split(word, behind)?;
+    fn split(self, word: u64, beyond: usize) -> Option<(A::Taken, B::Taken)> {
+        let first = self.0.split(word, self.1.width() + beyond)?;
+        let second = self.1.split(word, beyond)?;
         Some((first, second))
     }
 }

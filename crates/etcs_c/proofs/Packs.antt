@@ -62,8 +62,8 @@ pub record Packs (fs : List EtcsField) (old new : List ℕ) (place : ℕ) : Type
 pub packs_inside : (fs : List EtcsField) (old new : List ℕ) (place : ℕ) → Packs fs old new place → place ≤ 8184
 packs_inside fs old new place p = omega (arith, p.place_is, length-take 8184 (packed fs))
 
-pub packs_more : (fs : List EtcsField) (f : EtcsField) (old mid new : List ℕ) (place behind : ℕ) → Packs fs old mid place → length old ≡ 1023 → behind ≡ min (place + f.width) 8184 → length new ≡ length mid → bits new ≡ replaced place (take (8184 - place) (num f.width f.number)) (bits mid) → Packs (fs ++ f ∷ []) old new behind
-packs_more fs f old mid new place behind p size is same written =
+pub packs_more : (fs : List EtcsField) (f : EtcsField) (old mid new : List ℕ) (place beyond : ℕ) → Packs fs old mid place → length old ≡ 1023 → beyond ≡ min (place + f.width) 8184 → length new ≡ length mid → bits new ≡ replaced place (take (8184 - place) (num f.width f.number)) (bits mid) → Packs (fs ++ f ∷ []) old new beyond
+packs_more fs f old mid new place beyond p size is same written =
     let front = take 8184 (packed fs) in
     let more = take (8184 - place) (num f.width f.number) in
     let long : length front ≡ min 8184 (length (packed fs)) = length-take 8184 (packed fs) in

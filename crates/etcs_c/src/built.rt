@@ -45,7 +45,7 @@ fn put(field: &EtcsField, place: usize, out: &mut [u8]) -> usize
     requires room { length out.old ≡ 1023 }
     requires inside { place ≤ 8184 }
     ensures room { length out.new ≡ length out.old }
-    ensures behind { result ≡ min (place + field.now.width) 8184 }
+    ensures beyond { result ≡ min (place + field.now.width) 8184 }
     ensures bits { bits out.new ≡ replaced place (take (8184 - place) (num field.now.width field.now.number)) (bits out.old) }
 {
     let width = field.width as usize;

@@ -128,7 +128,7 @@ impl VarSink for FieldList {
 
     ghost with_both = { joined_both };
 
-    ghost failed_behind = { λ s a t h. tt };
+    ghost failed_after = { λ s a t h. tt };
 
     fn send(&mut self, sent: &[(Var, u64)]) -> Result<(), AllocError> {
         for pair in sent {

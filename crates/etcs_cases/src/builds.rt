@@ -75,9 +75,9 @@ fn say_numbers(case: &mut Case, numbers: &[u64]) {
 
 /// `headers NUMBERS , NUMBERS`: whether these are the same header.
 fn headers(case: &mut Case) {
-    let behind = case.split(" , ");
+    let beyond = case.split(" , ");
     let first = header(case);
-    case.go_on(behind);
+    case.continue_with(beyond);
     match (first, header(case)) {
         (Ok(first), Ok(second)) => case.say_truth(first == second),
         _ => case.bad(),
@@ -88,10 +88,10 @@ fn headers(case: &mut Case) {
 /// `filled SIZE HEADER ; PACKETS : DIGITS`: the same with this FILL, which comes back too.
 fn built(case: &mut Case, kind: &str) {
     let digits = case.split(" : ");
-    let behind = case.split(" ; ");
+    let beyond = case.split(" ; ");
     let size = next_size(case);
     let header = header(case);
-    case.go_on(behind);
+    case.continue_with(beyond);
     let packets = all_packets(case);
     let fill = case.bits_between("", digits, "");
     match header {

@@ -74,16 +74,16 @@ trait FromWords {
 
 /// Answers a constructor's arguments, or them and `: NUMBERS : BITS`.
 fn built<P: FromWords>(case: &mut Case) {
-    let behind = case.split(":");
+    let beyond = case.split(":");
     let packet = P::of_words(case);
-    say_made(case, behind, packet.as_ref());
+    say_made(case, beyond, packet.as_ref());
 }
 
 /// Answers what a constructor makes, before these words.
-fn say_made<'a, A: Asked>(case: &mut Case<'a>, behind: &'a str, packet: Option<&A>) {
-    case.go_on(behind);
+fn say_made<'a, A: Asked>(case: &mut Case<'a>, beyond: &'a str, packet: Option<&A>) {
+    case.continue_with(beyond);
     match packet {
-        Some(packet) if !behind.is_empty() => say_built(case, packet),
+        Some(packet) if !beyond.is_empty() => say_built(case, packet),
         packet => case.say(if packet.is_some() { "built" } else { "" }),
     }
 }
@@ -493,13 +493,13 @@ impl FromWords for PositionReportTwo {
 
 /// `flat_packet NID DIR NUMBERS`: as other constructors.
 fn flat_packet<A: Asked>(case: &mut Case) {
-    let behind = case.split(":");
+    let beyond = case.split(":");
     let nid = case.byte();
     let dir = case.byte();
     let numbers = case.numbers();
     let built = A::flat(nid, dir, numbers.as_slice());
     let packet = found(case, built, &FAULTS);
-    say_made(case, behind, packet.as_ref());
+    say_made(case, beyond, packet.as_ref());
 }
 
 /// `flat NID DIR NUMBERS`: the variables and bits of a packet without groups, or why there is none.

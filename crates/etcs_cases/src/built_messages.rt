@@ -44,13 +44,13 @@ fn body(case: &mut Case) -> TrainBody {
 /// `train_padded MESSAGE ; PACKETS : PADDING`: the same with this PADDING.
 fn built(case: &mut Case, kind: &str) {
     let padding = case.split(" : ");
-    let behind = case.split(" ; ");
+    let beyond = case.split(" ; ");
     let head = TrainHead {
         t_train: case.next(),
         nid_engine: case.next(),
     };
     let body = body(case);
-    case.go_on(behind);
+    case.continue_with(beyond);
     let padding = if kind == "train_built" {
         None
     } else {

@@ -110,13 +110,13 @@ impl<'a> Case<'a> {
 
     /// Leaves the words before a mark, or all where it isn't there, and returns those after it.
     pub fn split(&mut self, mark: &str) -> &'a str {
-        let (words, behind) = self.words.split_once(mark).unwrap_or((self.words, ""));
+        let (words, beyond) = self.words.split_once(mark).unwrap_or((self.words, ""));
         self.words = words;
-        behind
+        beyond
     }
 
     /// Continues with other words, once all were taken.
-    pub fn go_on(&mut self, words: &'a str) {
+    pub fn continue_with(&mut self, words: &'a str) {
         if !self.words.is_empty() {
             self.is_bad = true;
         }

@@ -358,9 +358,9 @@ fn say_any<A: Asked>(case: &mut Case, packet: &A, kind: &str) {
 
 /// `packet_same ANY / ANY`: `same` or `differing`, as all laws of `==` have it.
 fn compared<A: Asked>(case: &mut Case) {
-    let behind = case.split(" / ");
+    let beyond = case.split(" / ");
     let first: Option<A> = any(case);
-    case.go_on(behind);
+    case.continue_with(beyond);
     let second: Option<A> = any(case);
     say_same(case, first.as_ref(), second.as_ref());
 }

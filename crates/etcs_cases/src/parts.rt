@@ -2,7 +2,7 @@
 
 use crate::case::{Case, FaultTexts};
 use crate::names::variable;
-use crate::sent::{BEFORE, BEHIND, Sent, sent_of};
+use crate::sent::{BEFORE, BEYOND, Sent, sent_of};
 use etcs_bits::BitSlice;
 use etcs_bodies::laws::{Exact, exact_equality};
 use etcs_bodies::{
@@ -114,7 +114,7 @@ fn check_part<P: Shape>(case: &mut Case, part: &P, sent: &Sent) {
     let mut numbers = sent.numbers(case);
     check_numbers(case, part, numbers.as_slice());
     check_listed::<P>(case, numbers.as_slice());
-    case.kept(numbers.push(BEHIND).is_ok());
+    case.kept(numbers.push(BEYOND).is_ok());
     check_taken(case, part, &mut Listed::new(numbers.as_slice()));
 }
 
@@ -153,9 +153,9 @@ fn check_taken<P: Shape, L: Numbers>(case: &mut Case, part: &P, numbers: &mut L)
     let taken: Option<P> = next_part(case, numbers);
     case.check(taken.as_ref() == Some(part), "another part taken");
     case.check(!numbers.is_empty(), "nothing after it");
-    let behind = numbers.next(Var::NID_TEXTMESSAGE);
+    let beyond = numbers.next(Var::NID_TEXTMESSAGE);
     case.check(
-        behind == Some(BEHIND) && numbers.is_empty(),
+        beyond == Some(BEYOND) && numbers.is_empty(),
         "taken too far",
     );
 }
@@ -179,9 +179,9 @@ pub(crate) fn next_part<P: Part + Drop, L: Numbers>(case: &mut Case, numbers: &m
 
 /// `same_part NAME ARGUMENTS / ARGUMENTS`: whether two parts are equal.
 fn compared<P: Shape>(case: &mut Case) {
-    let behind = case.split(" / ");
+    let beyond = case.split(" / ");
     let first = P::of_words(case);
-    case.go_on(behind);
+    case.continue_with(beyond);
     let second = P::of_words(case);
     match (first.as_ref(), second.as_ref()) {
         (Ok(first), Ok(second)) => {
@@ -201,18 +201,18 @@ fn say_taken<P: Shape, L: Numbers>(case: &mut Case, numbers: &mut L) {
 
 /// `next CALLS / NUMBERS`: what each call returns, one after another.
 fn next(case: &mut Case) {
-    let behind = case.split(" / ");
+    let beyond = case.split(" / ");
     let calls = case.rest();
-    case.go_on(behind);
+    case.continue_with(beyond);
     let numbers = case.numbers();
     say_calls(case, &mut Listed::new(numbers.as_slice()), calls);
 }
 
 /// `next_bits CALLS / BITS`: the same of bits, of which three before and four after are left out.
 fn next_in_bits(case: &mut Case) {
-    let behind = case.split(" / ");
+    let beyond = case.split(" / ");
     let calls = case.rest();
-    case.go_on(behind);
+    case.continue_with(beyond);
     let bits = case.bits();
     let bits = bits.as_slice();
     if let Some(inside) = bits.cut(3, bits.len().saturating_sub(7)) {

@@ -51,7 +51,7 @@ pub(crate) fn next_row(case: &mut Case) -> Option<Row> {
 
 /// The place after some numbers of a row, and how many bits they take. `None` where one of them
 /// isn't admitted.
-pub(crate) fn place_behind(row: Row, numbers: &[u64]) -> Option<(Place, usize)> {
+pub(crate) fn place_beyond(row: Row, numbers: &[u64]) -> Option<(Place, usize)> {
     let mut place = Place::start(row);
     let mut bits = 0usize;
     for number in numbers {
@@ -149,7 +149,7 @@ fn of_place(case: &mut Case, kind: &str) {
     let bits = if kind == "place" { 0 } else { case.place() };
     if let Some(row) = next_row(case) {
         let numbers = case.numbers();
-        match place_behind(row, numbers.as_slice()) {
+        match place_beyond(row, numbers.as_slice()) {
             Some((place, _)) => say_place(case, kind, &place, bits),
             None => case.say("not admitted"),
         }

@@ -10,7 +10,7 @@ use etcs_vars::inner::{PairList, Variables};
 pub(crate) const BEFORE: usize = 5;
 
 /// The number of NID_TEXTMESSAGE that is after what was sent.
-pub(crate) const BEHIND: u64 = 200;
+pub(crate) const BEYOND: u64 = 200;
 
 /// What was sent, in order.
 #[derive(Drop)]
@@ -44,7 +44,7 @@ impl Sent {
         for (var, number) in self.pairs.as_slice() {
             push(case, &mut bits, var.width(), *number);
         }
-        push(case, &mut bits, 8, BEHIND);
+        push(case, &mut bits, 8, BEYOND);
         bits
     }
 

@@ -19,7 +19,7 @@ fn packet<A: Asked>(case: &mut Case) -> Option<A> {
     match rest.strip_prefix('b') {
         Some(digits) => A::kept(nid, dir, case.bits_between("", digits, "")).ok(),
         None => {
-            case.go_on(rest);
+            case.continue_with(rest);
             let numbers = case.numbers();
             listed(case, nid, dir, numbers.as_slice())
         }
@@ -33,12 +33,12 @@ pub fn all_packets<A: Asked>(case: &mut Case) -> Vec<A> {
         if case.is_empty() {
             break;
         }
-        let behind = case.split(" ; ");
+        let beyond = case.split(" ; ");
         match packet(case) {
             Some(packet) => case.kept(packets.push(packet).is_ok()),
             None => case.bad(),
         }
-        case.go_on(behind);
+        case.continue_with(beyond);
     }
     packets
 }

@@ -148,9 +148,9 @@ fn shown(case: &mut Case) {
 
 /// `equal SIZE HEX , SIZE HEX`: whether these are the same telegram.
 fn equal(case: &mut Case) {
-    let behind = case.split(" , ");
+    let beyond = case.split(" , ");
     let first = next_item(case);
-    case.go_on(behind);
+    case.continue_with(beyond);
     let second = next_item(case);
     match (first.as_ref(), second.as_ref()) {
         (Some(Entry::Telegram(first)), Some(Entry::Telegram(second))) => {

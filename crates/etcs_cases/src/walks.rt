@@ -1,7 +1,7 @@
 //! Lines about walks over rows.
 
 use crate::case::Case;
-use crate::rows::{next_row, place_behind};
+use crate::rows::{next_row, place_beyond};
 use etcs_bits::BitSlice;
 use etcs_rows::inner::{unfinished, wanted};
 use etcs_rows::{LengthSet, RowWalk, Step, Stopped, lengths};
@@ -125,8 +125,8 @@ fn takes_all(row: Row, len: usize, numbers: &[u64]) -> bool {
 }
 
 /// The lengths that may be left after the numbers, and how many bits these take.
-fn left_behind(row: Row, numbers: &[u64]) -> (Option<LengthSet>, usize) {
-    match place_behind(row, numbers) {
+fn left_after(row: Row, numbers: &[u64]) -> (Option<LengthSet>, usize) {
+    match place_beyond(row, numbers) {
         Some((place, bits)) => (Some(lengths(&place)), bits),
         None => (None, 0),
     }
@@ -137,7 +137,7 @@ fn left_behind(row: Row, numbers: &[u64]) -> (Option<LengthSet>, usize) {
 fn fits(case: &mut Case) {
     if let Some(row) = next_row(case) {
         let numbers = case.numbers();
-        let (left, bits) = left_behind(row, numbers.as_slice());
+        let (left, bits) = left_after(row, numbers.as_slice());
         let mut alike = true;
         for rest in 0..=MOST_REST {
             let len = bits.saturating_add(rest);

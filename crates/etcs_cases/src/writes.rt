@@ -55,10 +55,10 @@ fn put_equal(sink: &mut WordSink<'_>, byte: u8, from: usize, to: usize) {
 
 /// `BYTE BIT ; ..`: the byte that is written over, and the bit from which on.
 fn front(case: &mut Case) -> (u8, usize) {
-    let behind = case.split(" ; ");
+    let beyond = case.split(" ; ");
     let bytes = case.bytes();
     let at = case.place();
-    case.go_on(behind);
+    case.continue_with(beyond);
     match bytes.as_slice() {
         [byte] => (*byte, at),
         _ => {
@@ -76,12 +76,12 @@ fn sent(case: &mut Case) {
         if case.is_empty() {
             break;
         }
-        let behind = case.split(" ; ");
+        let beyond = case.split(" ; ");
         if let Some(var) = case.var() {
             let number = case.number();
             case.kept(sent.push((var, number)).is_ok());
         }
-        case.go_on(behind);
+        case.continue_with(beyond);
     }
     write_sent(case, fill, at, sent.as_slice());
 }

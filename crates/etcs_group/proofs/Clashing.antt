@@ -33,7 +33,7 @@ none_met slots t none OtherTotal = none 3 BadPosition (lit< tt)
 none_met slots t none Counter = none 4 BadPosition (lit< tt)
 none_met slots t none Differs = none 5 BadPosition (lit< tt)
 
-pub joins_behind : (slots : List (Option TelegramContent)) (t : TelegramContent) (i : ℕ) → i ≡ 6 → NoneOf slots t (take i order) → Joins slots t
-joins_behind slots t i e none =
+pub joins_after : (slots : List (Option TelegramContent)) (t : TelegramContent) (i : ℕ) → i ≡ 6 → NoneOf slots t (take i order) → Joins slots t
+joins_after slots t i e none =
     let all : NoneOf slots t (take 6 order) = subst (λ (n : ℕ). NoneOf slots t (take n order)) e none in
     joins_unless slots t (none_met slots t all)

@@ -116,9 +116,9 @@ telegram_named kind u r ds old new (is_kind, x) is long trees renames =
     let end = closing carrier.Telegram in
     let fill = kept FILL u.fill in
     let pad = kept PAD (replicate (pad_bits u.size) false) in
-    let behind = spelled (end ++ fill ++ pad) in
-    let old_is : old ≡ spelled head ++ spelled (packets_reading (map (unnamed ToTrain) u.packets)) ++ behind = is ∙ ap spelled x.reading_is ∙ five head (packets_reading (map (unnamed ToTrain) u.packets)) end fill pad in
-    let new_is = renames u.packets (spelled head) behind refl x.packets_hold trees (header_length u.header) old_is in
+    let beyond = spelled (end ++ fill ++ pad) in
+    let old_is : old ≡ spelled head ++ spelled (packets_reading (map (unnamed ToTrain) u.packets)) ++ beyond = is ∙ ap spelled x.reading_is ∙ five head (packets_reading (map (unnamed ToTrain) u.packets)) end fill pad in
+    let new_is = renames u.packets (spelled head) beyond refl x.packets_hold trees (header_length u.header) old_is in
     let total : length new ≡ user_bits u.size + pad_bits u.size = long ∙ ap (λ (b : List Bool). length b) is ∙ whole_length u.size r (unnamed_telegram u, (refl, x)) in
     (new_is ∙ sym (five head (packets_reading u.packets) end fill pad), subst (λ (k : Kind). HasLength k new) is_kind (telegram_long u.size new total))
 

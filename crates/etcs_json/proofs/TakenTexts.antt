@@ -22,7 +22,7 @@ use Rattle.etcs_messages.specs.Kinds.{HeadOf, OwnOf, HeadLaws, OwnLaws, IsHead, 
 use Rattle.etcs_messages.specs.Messages.{MessageValue, message_value, typed_message, kept_message}
 use Rattle.etcs_packet_text.specs.Show.{bit_digit}
 use Rattle.etcs_packet_text.specs.Trees.{packets_tree, pairs_tree}
-use Rattle.etcs_text.specs.JsonParts.{kind_member, message_behind, message_front, way_member}
+use Rattle.etcs_text.specs.JsonParts.{kind_member, message_after, message_front, way_member}
 use Rattle.etcs_text.specs.Trees.{message_tree, telegram_tree}
 use Rattle.etcs_text.proofs.TreeTexts.{kept_is, number_between, telegram_is, typed_is}
 use Rattle.etcs_json.proofs.MessageTrees.{IsHeadRow}
@@ -118,8 +118,8 @@ between_taken way nid old one two new kinded numbered named =
     taken (way_member way) (decimal nid ++ codes ",\"packets\":") old one new kinded (taken (decimal nid) (codes ",\"packets\":") one two new numbered named)
 
 -- its packets and PADDING
-pub behind_taken : (way : Way) (vs : List PacketValue) (padding : List Bool) (old one two three new : List ℕ) → old ≡ compact_text (packets_tree way vs) ++ one → one ≡ codes ",\"padding\":\"" ++ two → two ≡ map bit_digit padding ++ three → three ≡ codes "\"}" ++ new → old ≡ message_behind way vs padding ++ new
-behind_taken way vs padding old one two three new listed named padded last =
+pub after_taken : (way : Way) (vs : List PacketValue) (padding : List Bool) (old one two three new : List ℕ) → old ≡ compact_text (packets_tree way vs) ++ one → one ≡ codes ",\"padding\":\"" ++ two → two ≡ map bit_digit padding ++ three → three ≡ codes "\"}" ++ new → old ≡ message_after way vs padding ++ new
+after_taken way vs padding old one two three new listed named padded last =
     let z = compact_text (packets_tree way vs) in
     let b = codes ",\"padding\":\"" in
     let x = map bit_digit padding in
@@ -128,7 +128,7 @@ behind_taken way vs padding old one two three new listed named padded last =
 
 -- the text of a message
 abbrev message_text : Way → MessageValue → List ℕ
-message_text way (typed_message nid head body vs padding) = message_front body head ++ (number_between way nid ++ message_behind way vs padding)
+message_text way (typed_message nid head body vs padding) = message_front body head ++ (number_between way nid ++ message_after way vs padding)
 message_text way (kept_message nid b) = codes "{\"data\":\"" ++ (map bit_digit b ++ (codes "\"" ++ (way_member way ++ (decimal nid ++ codes "}"))))
 
 module _ {H B P : Type 0} (way : Way) (k : HeadOf H) (o : OwnOf B) (form : P → Form) where
@@ -140,11 +140,11 @@ module _ {H B P : Type 0} (way : Way) (k : HeadOf H) (o : OwnOf B) (form : P →
   text_of : (m : Content H B P) (v : MessageValue) (old new : List ℕ) → message_value way k o form m ≡ v → old ≡ message_text way v ++ new → old ≡ compact_text (message_tree way (message_value way k o form m)) ++ new
   text_of m v old new e is = is ∙ ap (λ (w : List ℕ). w ++ new) (ap (message_text way) (sym e) ∙ text_is m)
 
-  pub typed_taken : (m : Content H B P) (nid : ℕ) (head body : Reading) (vs : List PacketValue) (padding : List Bool) (old one two new : List ℕ) → message_value way k o form m ≡ typed_message nid head body vs padding → old ≡ message_front body head ++ one → one ≡ number_between way nid ++ two → two ≡ message_behind way vs padding ++ new → old ≡ compact_text (message_tree way (message_value way k o form m)) ++ new
-  typed_taken m nid head body vs padding old one two new e front between behind =
+  pub typed_taken : (m : Content H B P) (nid : ℕ) (head body : Reading) (vs : List PacketValue) (padding : List Bool) (old one two new : List ℕ) → message_value way k o form m ≡ typed_message nid head body vs padding → old ≡ message_front body head ++ one → one ≡ number_between way nid ++ two → two ≡ message_after way vs padding ++ new → old ≡ compact_text (message_tree way (message_value way k o form m)) ++ new
+  typed_taken m nid head body vs padding old one two new e front between beyond =
       let x = number_between way nid in
-      let y = message_behind way vs padding in
-      text_of m (typed_message nid head body vs padding) old new e (taken (message_front body head) (x ++ y) old one new front (taken x y one two new between behind))
+      let y = message_after way vs padding in
+      text_of m (typed_message nid head body vs padding) old new e (taken (message_front body head) (x ++ y) old one new front (taken x y one two new between beyond))
 
   pub kept_taken : (m : Content H B P) (nid : ℕ) (b : List Bool) (old one two three new : List ℕ) → message_value way k o form m ≡ kept_message nid b → old ≡ map bit_digit b ++ 34 ∷ one → one ≡ way_member way ++ two → two ≡ decimal nid ++ three → three ≡ codes "}" ++ new → codes "{\"data\":\"" ++ old ≡ compact_text (message_tree way (message_value way k o form m)) ++ new
   kept_taken m nid b old one two three new e digits kinded numbered last =

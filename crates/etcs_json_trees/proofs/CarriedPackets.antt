@@ -88,10 +88,10 @@ put_one : (w : PacketValue) (front rest old now : List Bool) (place : ℕ) → l
 put_one (marker n) front rest old now place at put is = put ∙ is
 put_one (typed nid dir r) front rest old now place at put is = put ∙ is
 put_one (kept nid dir b) front rest old now place at put is =
-    let behind = rest_bits dir b ++ rest in
-    let is' : old ≡ front ++ (num 8 (stand_in ToTrain nid) ++ behind) = is ∙ ap (λ (l : List Bool). front ++ (l ++ rest)) (number_first (stand_in ToTrain nid) dir b) ∙ ap (λ (l : List Bool). front ++ l) (append_assoc (num 8 (stand_in ToTrain nid)) (rest_bits dir b) rest) in
+    let beyond = rest_bits dir b ++ rest in
+    let is' : old ≡ front ++ (num 8 (stand_in ToTrain nid) ++ beyond) = is ∙ ap (λ (l : List Bool). front ++ (l ++ rest)) (number_first (stand_in ToTrain nid) dir b) ∙ ap (λ (l : List Bool). front ++ l) (append_assoc (num 8 (stand_in ToTrain nid)) (rest_bits dir b) rest) in
     let long : length (num 8 (stand_in ToTrain nid)) ≡ length (num 8 nid) = length-num 8 (stand_in ToTrain nid) ∙ sym (length-num 8 nid) in
-    put ∙ ap (replaced place (num 8 nid)) is' ∙ number_put front (num 8 (stand_in ToTrain nid)) (num 8 nid) behind place at long
+    put ∙ ap (replaced place (num 8 nid)) is' ∙ number_put front (num 8 (stand_in ToTrain nid)) (num 8 nid) beyond place at long
     ∙ sym (ap (λ (l : List Bool). front ++ (l ++ rest)) (number_first nid dir b) ∙ ap (λ (l : List Bool). front ++ l) (append_assoc (num 8 nid) (rest_bits dir b) rest))
 
 pub same_bits : (w : PacketValue) → bits_of (unnamed ToTrain w) ≡ bits_of w
@@ -102,37 +102,37 @@ same_bits (kept nid dir b) = refl
 -- ---- The numbers of packets, in order.
 
 -- the packets ps, whose trees are ds, have stand-ins: they begin at the place, and all is right once they have their numbers
-pub record Renaming (now all behind : List Bool) (place : ℕ) (ps : List Packet) (ds : Items) : Type 0 where
+pub record Renaming (now all beyond : List Bool) (place : ℕ) (ps : List Packet) (ds : Items) : Type 0 where
   pub front : List Bool
   pub rest : List PacketValue
   pub at : length front ≡ place
   pub values : map packet_value ps ≡ map (unnamed ToTrain) rest
   pub packets : All IsPacket (map (unnamed ToTrain) rest)
   pub trees : ArePacketTrees ToTrain rest ds
-  pub bits_are : now ≡ front ++ (spelled (packets_reading (map (unnamed ToTrain) rest)) ++ behind)
-  pub named : front ++ (spelled (packets_reading rest) ++ behind) ≡ all
+  pub bits_are : now ≡ front ++ (spelled (packets_reading (map (unnamed ToTrain) rest)) ++ beyond)
+  pub named : front ++ (spelled (packets_reading rest) ++ beyond) ≡ all
 
-pub renaming_start : (now front behind : List Bool) (place : ℕ) (vs : List PacketValue) (ps : List Packet) (ds : Items) → map packet_value ps ≡ map (unnamed ToTrain) vs → All IsPacket (map (unnamed ToTrain) vs) → ArePacketTrees ToTrain vs ds → length front ≡ place → now ≡ front ++ spelled (packets_reading (map (unnamed ToTrain) vs)) ++ behind → Renaming now (front ++ spelled (packets_reading vs) ++ behind) behind place ps ds
-renaming_start now front behind place vs ps ds values packets trees at is = record {
+pub renaming_start : (now front beyond : List Bool) (place : ℕ) (vs : List PacketValue) (ps : List Packet) (ds : Items) → map packet_value ps ≡ map (unnamed ToTrain) vs → All IsPacket (map (unnamed ToTrain) vs) → ArePacketTrees ToTrain vs ds → length front ≡ place → now ≡ front ++ spelled (packets_reading (map (unnamed ToTrain) vs)) ++ beyond → Renaming now (front ++ spelled (packets_reading vs) ++ beyond) beyond place ps ds
+renaming_start now front beyond place vs ps ds values packets trees at is = record {
   front = front;
   rest = vs;
   at = at;
   values = values;
   packets = packets;
   trees = trees;
-  bits_are = is ∙ append_assoc front (spelled (packets_reading (map (unnamed ToTrain) vs))) behind;
-  named = sym (append_assoc front (spelled (packets_reading vs)) behind);
+  bits_are = is ∙ append_assoc front (spelled (packets_reading (map (unnamed ToTrain) vs))) beyond;
+  named = sym (append_assoc front (spelled (packets_reading vs)) beyond);
 }
 
 -- one packet's bits and those of the ones after it
-one_more : (w : PacketValue) (ws : List PacketValue) (behind : List Bool) → spelled (packets_reading (w ∷ ws)) ++ behind ≡ spelled (packet_reading w) ++ (spelled (packets_reading ws) ++ behind)
-one_more w ws behind = ap (λ (b : List Bool). b ++ behind) (spelled-append (packet_reading w) (packets_reading ws)) ∙ append_assoc (spelled (packet_reading w)) (spelled (packets_reading ws)) behind
+one_more : (w : PacketValue) (ws : List PacketValue) (beyond : List Bool) → spelled (packets_reading (w ∷ ws)) ++ beyond ≡ spelled (packet_reading w) ++ (spelled (packets_reading ws) ++ beyond)
+one_more w ws beyond = ap (λ (b : List Bool). b ++ beyond) (spelled-append (packet_reading w) (packets_reading ws)) ∙ append_assoc (spelled (packet_reading w)) (spelled (packets_reading ws)) beyond
 
-pub renaming_more : (old now all behind : List Bool) (place next : ℕ) (p : Packet) (ps qs : List Packet) (d : Data) (ds es : Items) (o : Option ℕ) → ps ≡ p ∷ qs → ds ≡ item d es → ((v : PacketValue) → IsPacket (unnamed ToTrain v) → IsPacketTree ToTrain v d → o ≡ kept_number v) → Puts o place old now → next ≡ place + bits_of (packet_value p) → Renaming old all behind place ps ds → Renaming now all behind next qs es
-renaming_more old now all behind place next p ps qs d ds es o ps_is ds_is number put next_is h =
+pub renaming_more : (old now all beyond : List Bool) (place next : ℕ) (p : Packet) (ps qs : List Packet) (d : Data) (ds es : Items) (o : Option ℕ) → ps ≡ p ∷ qs → ds ≡ item d es → ((v : PacketValue) → IsPacket (unnamed ToTrain v) → IsPacketTree ToTrain v d → o ≡ kept_number v) → Puts o place old now → next ≡ place + bits_of (packet_value p) → Renaming old all beyond place ps ds → Renaming now all beyond next qs es
+renaming_more old now all beyond place next p ps qs d ds es o ps_is ds_is number put next_is h =
     from h.rest (sym (ap (map packet_value) ps_is) ∙ h.values) h.packets (subst (ArePacketTrees ToTrain h.rest) ds_is h.trees) h.bits_are h.named
   where
-    from : (rest : List PacketValue) → packet_value p ∷ map packet_value qs ≡ map (unnamed ToTrain) rest → All IsPacket (map (unnamed ToTrain) rest) → ArePacketTrees ToTrain rest (item d es) → old ≡ h.front ++ (spelled (packets_reading (map (unnamed ToTrain) rest)) ++ behind) → h.front ++ (spelled (packets_reading rest) ++ behind) ≡ all → Renaming now all behind next qs es
+    from : (rest : List PacketValue) → packet_value p ∷ map packet_value qs ≡ map (unnamed ToTrain) rest → All IsPacket (map (unnamed ToTrain) rest) → ArePacketTrees ToTrain rest (item d es) → old ≡ h.front ++ (spelled (packets_reading (map (unnamed ToTrain) rest)) ++ beyond) → h.front ++ (spelled (packets_reading rest) ++ beyond) ≡ all → Renaming now all beyond next qs es
     from [] values packets trees is named = absurd cc
     from (w ∷ ws) values packets trees is named =
         let own = spelled (packet_reading w) in
@@ -140,8 +140,8 @@ renaming_more old now all behind place next p ps qs d ds es o ps_is ds_is number
         let value : packet_value p ≡ unnamed ToTrain w = cc in
         let values' : map packet_value qs ≡ map (unnamed ToTrain) ws = cc in
         let put' = subst (λ (k : Option ℕ). Puts k place old now) (number w head trees.0) put in
-        let is' : old ≡ h.front ++ (spelled (packet_reading (unnamed ToTrain w)) ++ (spelled (packets_reading (map (unnamed ToTrain) ws)) ++ behind)) = is ∙ ap (λ (b : List Bool). h.front ++ b) (one_more (unnamed ToTrain w) (map (unnamed ToTrain) ws) behind) in
-        let now_is = put_one w h.front (spelled (packets_reading (map (unnamed ToTrain) ws)) ++ behind) old now place h.at put' is' in
+        let is' : old ≡ h.front ++ (spelled (packet_reading (unnamed ToTrain w)) ++ (spelled (packets_reading (map (unnamed ToTrain) ws)) ++ beyond)) = is ∙ ap (λ (b : List Bool). h.front ++ b) (one_more (unnamed ToTrain w) (map (unnamed ToTrain) ws) beyond) in
+        let now_is = put_one w h.front (spelled (packets_reading (map (unnamed ToTrain) ws)) ++ beyond) old now place h.at put' is' in
         let long : bits_of (packet_value p) ≡ length own = ap bits_of value ∙ same_bits w ∙ sym (packet_bits w) in
         record {
           front = h.front ++ own;
@@ -150,22 +150,22 @@ renaming_more old now all behind place next p ps qs d ds es o ps_is ds_is number
           values = values';
           packets = All-tail IsPacket (unnamed ToTrain w) (map (unnamed ToTrain) ws) packets;
           trees = trees.1;
-          bits_are = now_is ∙ sym (append_assoc h.front own (spelled (packets_reading (map (unnamed ToTrain) ws)) ++ behind));
-          named = append_assoc h.front own (spelled (packets_reading ws) ++ behind) ∙ sym (ap (λ (b : List Bool). h.front ++ b) (one_more w ws behind)) ∙ named;
+          bits_are = now_is ∙ sym (append_assoc h.front own (spelled (packets_reading (map (unnamed ToTrain) ws)) ++ beyond));
+          named = append_assoc h.front own (spelled (packets_reading ws) ++ beyond) ∙ sym (ap (λ (b : List Bool). h.front ++ b) (one_more w ws beyond)) ∙ named;
         }
 
 -- where there are no more packets, or no more trees
-pub renamed_packets : (now all behind : List Bool) (place : ℕ) (ps : List Packet) (ds : Items) → ps ≡ [] → Renaming now all behind place ps ds → now ≡ all
-renamed_packets now all behind place ps ds none h = from h.rest (sym (ap (map packet_value) none) ∙ h.values) h.bits_are h.named
+pub renamed_packets : (now all beyond : List Bool) (place : ℕ) (ps : List Packet) (ds : Items) → ps ≡ [] → Renaming now all beyond place ps ds → now ≡ all
+renamed_packets now all beyond place ps ds none h = from h.rest (sym (ap (map packet_value) none) ∙ h.values) h.bits_are h.named
   where
-    from : (rest : List PacketValue) → [] ≡ map (unnamed ToTrain) rest → now ≡ h.front ++ (spelled (packets_reading (map (unnamed ToTrain) rest)) ++ behind) → h.front ++ (spelled (packets_reading rest) ++ behind) ≡ all → now ≡ all
+    from : (rest : List PacketValue) → [] ≡ map (unnamed ToTrain) rest → now ≡ h.front ++ (spelled (packets_reading (map (unnamed ToTrain) rest)) ++ beyond) → h.front ++ (spelled (packets_reading rest) ++ beyond) ≡ all → now ≡ all
     from [] e is named = is ∙ named
     from (w ∷ ws) e is named = absurd cc
 
-pub renamed_trees : (now all behind : List Bool) (place : ℕ) (ps : List Packet) (ds : Items) → ds ≡ no_items → Renaming now all behind place ps ds → now ≡ all
-renamed_trees now all behind place ps ds none h = from h.rest (subst (ArePacketTrees ToTrain h.rest) none h.trees) h.bits_are h.named
+pub renamed_trees : (now all beyond : List Bool) (place : ℕ) (ps : List Packet) (ds : Items) → ds ≡ no_items → Renaming now all beyond place ps ds → now ≡ all
+renamed_trees now all beyond place ps ds none h = from h.rest (subst (ArePacketTrees ToTrain h.rest) none h.trees) h.bits_are h.named
   where
-    from : (rest : List PacketValue) → ArePacketTrees ToTrain rest no_items → now ≡ h.front ++ (spelled (packets_reading (map (unnamed ToTrain) rest)) ++ behind) → h.front ++ (spelled (packets_reading rest) ++ behind) ≡ all → now ≡ all
+    from : (rest : List PacketValue) → ArePacketTrees ToTrain rest no_items → now ≡ h.front ++ (spelled (packets_reading (map (unnamed ToTrain) rest)) ++ beyond) → h.front ++ (spelled (packets_reading rest) ++ beyond) ≡ all → now ≡ all
     from [] t is named = is ∙ named
     from (w ∷ ws) t is named = absurd t
 
@@ -193,18 +193,18 @@ next_room ps k p at place all h e is room =
     let long = eight (packet_value p) in
     (omega (arith, inside, long, is, room), omega (arith, inside, is, room))
 
-pub next_renamed : (ps : List Packet) (trees : List Value) (k n : ℕ) (p : Packet) (tree : Value) (old now all behind : List Bool) (place next : ℕ) (o : Option ℕ) → n ≡ k + 1 → k < length ps → k < length trees → p ≡ get_or ps k p → tree ≡ get_or trees k tree → ((v : PacketValue) → IsPacket (unnamed ToTrain v) → IsPacketTree ToTrain v (view tree) → o ≡ kept_number v) → Puts o place old now → next ≡ place + bits_of (packet_value p)
-    → Renaming old all behind place (drop k ps) (items_view (drop k trees)) → Renaming now all behind next (drop n ps) (items_view (drop n trees))
-next_renamed ps trees k n p tree old now all behind place next o more within tree_within is tree_is number put next_is h =
+pub next_renamed : (ps : List Packet) (trees : List Value) (k n : ℕ) (p : Packet) (tree : Value) (old now all beyond : List Bool) (place next : ℕ) (o : Option ℕ) → n ≡ k + 1 → k < length ps → k < length trees → p ≡ get_or ps k p → tree ≡ get_or trees k tree → ((v : PacketValue) → IsPacket (unnamed ToTrain v) → IsPacketTree ToTrain v (view tree) → o ≡ kept_number v) → Puts o place old now → next ≡ place + bits_of (packet_value p)
+    → Renaming old all beyond place (drop k ps) (items_view (drop k trees)) → Renaming now all beyond next (drop n ps) (items_view (drop n trees))
+next_renamed ps trees k n p tree old now all beyond place next o more within tree_within is tree_is number put next_is h =
     let here : drop k ps ≡ p ∷ drop (k + 1) ps = at_drop_more (λ (l : List Packet). l) ps k p within ∙ ap (λ (x : Packet). x ∷ drop (k + 1) ps) (sym is) in
     let tree_here : items_view (drop k trees) ≡ item (view tree) (items_view (drop (k + 1) trees)) = at_drop_more items_view trees k tree tree_within ∙ ap (λ (x : Value). item (view x) (items_view (drop (k + 1) trees))) (sym tree_is) in
-    let step = renaming_more old now all behind place next p (drop k ps) (drop (k + 1) ps) (view tree) (items_view (drop k trees)) (items_view (drop (k + 1) trees)) o here tree_here number put next_is h in
-    subst (λ (m : ℕ). Renaming now all behind next (drop m ps) (items_view (drop m trees))) (sym more) step
+    let step = renaming_more old now all beyond place next p (drop k ps) (drop (k + 1) ps) (view tree) (items_view (drop k trees)) (items_view (drop (k + 1) trees)) o here tree_here number put next_is h in
+    subst (λ (m : ℕ). Renaming now all beyond next (drop m ps) (items_view (drop m trees))) (sym more) step
 
 -- where one of them is at its end
-pub renamed_at_end : (ps : List Packet) (trees : List Value) (k : ℕ) (now all behind : List Bool) (place : ℕ) → k ≡ min (length ps) (length trees) → Renaming now all behind place (drop k ps) (items_view (drop k trees)) → now ≡ all
-renamed_at_end ps trees k now all behind place is h = from (ltb (length ps) (length trees)) refl
+pub renamed_at_end : (ps : List Packet) (trees : List Value) (k : ℕ) (now all beyond : List Bool) (place : ℕ) → k ≡ min (length ps) (length trees) → Renaming now all beyond place (drop k ps) (items_view (drop k trees)) → now ≡ all
+renamed_at_end ps trees k now all beyond place is h = from (ltb (length ps) (length trees)) refl
   where
     from : (t : Bool) → ltb (length ps) (length trees) ≡ t → now ≡ all
-    from true e = renamed_packets now all behind place (drop k ps) (items_view (drop k trees)) (at_drop_all (λ (l : List Packet). l) ps k (grind (arith, nat_tests))) h
-    from false e = renamed_trees now all behind place (drop k ps) (items_view (drop k trees)) (at_drop_all items_view trees k (grind (arith, nat_tests))) h
+    from true e = renamed_packets now all beyond place (drop k ps) (items_view (drop k trees)) (at_drop_all (λ (l : List Packet). l) ps k (grind (arith, nat_tests))) h
+    from false e = renamed_trees now all beyond place (drop k ps) (items_view (drop k trees)) (at_drop_all items_view trees k (grind (arith, nat_tests))) h

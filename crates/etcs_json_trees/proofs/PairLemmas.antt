@@ -15,7 +15,7 @@ use Rattle.etcs_vars.specs.Reading.{Reading, numbers}
 use Rattle.etcs_vars.proofs.Prefixes.{admits_parts, width-le}
 use Rattle.etcs_tables.specs.Layouts.{Layout, whole, one, guarded, counted, Reads, looks}
 use Rattle.etcs_rows.specs.Places.{onto, first_variable, after_any}
-use Rattle.etcs_rows.proofs.Behind.{follows}
+use Rattle.etcs_rows.proofs.Following.{follows}
 use Rattle.etcs_packet_text.specs.Show.{hex_digits}
 use Rattle.etcs_json_trees.specs.Digits.{lower}
 use Rattle.etcs_json_trees.specs.TreeReading.{SaysNumber, IsPairTree, ArePairTrees}

@@ -14,7 +14,7 @@ use Rattle.etcs_tables.specs.declared.row.Way.{Way}
 use Rattle.etcs_tables.specs.declared.row.Way.TheVariants.{ToTrain, ToTrack}
 use Rattle.etcs_bodies.specs.Taking.{named_as}
 use Rattle.etcs_packets.specs.PacketValues.{PacketValue, Form, IsPacketTo, IsTypedOf, marker, typed, kept, dir_of, kept_of, nid_of, variables_of}
-use Rattle.etcs_packet_text.specs.JsonParts.{data_behind, data_text, fields_front, fields_text, sent_dir}
+use Rattle.etcs_packet_text.specs.JsonParts.{data_after, data_text, fields_front, fields_text, sent_dir}
 use Rattle.etcs_packet_text.specs.PairSinks.{Listed, with_item, with_each}
 use Rattle.etcs_packet_text.specs.Show.{bit_digit}
 use Rattle.etcs_packet_text.specs.Trees.{packet_tree, packets_tree, pairs_tree}

@@ -47,4 +47,4 @@ ListHasOnly way d o = (vs : List PacketValue) (ds : Items) → All (IsPacketTo w
 
 -- in the bits `old` are the packets us of these trees, from the bit `at` on; in `new` they have their own numbers
 abbrev pub Renames : ℕ → List PacketValue → Items → List Bool → List Bool → Type 0
-Renames at us ds old new = (vs : List PacketValue) (front behind : List Bool) → us ≡ map (unnamed ToTrain) vs → All IsPacket (map (unnamed ToTrain) vs) → ArePacketTrees ToTrain vs ds → length front ≡ at → old ≡ front ++ spelled (packets_reading (map (unnamed ToTrain) vs)) ++ behind → new ≡ front ++ spelled (packets_reading vs) ++ behind
+Renames at us ds old new = (vs : List PacketValue) (front beyond : List Bool) → us ≡ map (unnamed ToTrain) vs → All IsPacket (map (unnamed ToTrain) vs) → ArePacketTrees ToTrain vs ds → length front ≡ at → old ≡ front ++ spelled (packets_reading (map (unnamed ToTrain) vs)) ++ beyond → new ≡ front ++ spelled (packets_reading vs) ++ beyond

@@ -21,7 +21,7 @@ use Rattle.etcs_sequence.proofs.LeapLemmas.{chain_bits, kept_bits}
 use Rattle.etcs_rows.specs.laws.RestLaws.{head_of}
 use Rattle.etcs_sequence.proofs.StageLaws.{message_run}
 use Rattle.etcs_messages.specs.declared.phase.Phase.TheVariants as phase
-use Rattle.etcs_messages.specs.Lefts.{PaddedBy, front_row, front_bits, Behind, LengthLeft, NumberLeft, next_at, MessageState, Left, next_var}
+use Rattle.etcs_messages.specs.Lefts.{PaddedBy, front_row, front_bits, AfterMessageLength, LengthLeft, NumberLeft, next_at, MessageState, Left, next_var}
 use Rattle.etcs_messages.specs.laws.RestLaws.{length_opens}
 use Rattle.etcs_messages.proofs.Ways.{frame_few}
 use Rattle.etcs_messages.proofs.Fronts.{front_small}
@@ -39,7 +39,7 @@ left_from : (way : Way) (room : ℕ) → (room ≤ 7) ⊎ (frame_bits way ≤ ro
 left_from way room (inl h) = or_left (nat_le room 7) (nat_le (frame_bits way) room) (le-leb room 7 h)
 left_from way room (inr h) = or_right (nat_le room 7) (nat_le (frame_bits way) room) (le-leb (frame_bits way) room h)
 
-pub some_message : (way : Way) (found : Option (List Var)) (len : ℕ) → Fits way found len → Goes (Behind way found len)
+pub some_message : (way : Way) (found : Option (List Var)) (len : ℕ) → Fits way found len → Goes (AfterMessageLength way found len)
 some_message way None len (least, most) = let b = some_bits OTHER_DATA refl (8 * len - 18) in (b.0, (least, most, b.1))
 some_message way (Some vs) len (fits, most, left) =
     let room = 8 * len - front_bits vs in
@@ -48,14 +48,14 @@ some_message way (Some vs) len (fits, most, left) =
     let b = some_bits PADDING refl (room - length (spelled p.0)) in
     (f.0 ++ (p.0 ++ b.0), (fits, most, (f.0, p.0 ++ b.0, refl, f.1, (p.0, b.0, refl, p.1, b.1))))
 
-pub message_some : (way : Way) (found : Option (List Var)) (len : ℕ) → Goes (Behind way found len) → Fits way found len
+pub message_some : (way : Way) (found : Option (List Var)) (len : ℕ) → Goes (AfterMessageLength way found len) → Fits way found len
 message_some way None len (r, (least, most, b)) = (least, most)
 message_some way (Some vs) len (r, (fits, most, (a, q, e, fields, (p, b, f, run, padding)))) = (fits, most, left_from way (8 * len - front_bits vs) (message_run way (8 * len - front_bits vs) p run))
 
 -- ---- L_MESSAGE.
 
 -- by ranges of these numbers it can be said which of its first bits continue
-length_tested : (way : Way) (nid : ℕ) (rs : List (ℕ × ℕ)) (rest bits : ℕ) → ordered rs ≡ true → ((n : ℕ) → IsTrue (inside rs n) ↔ Goes (Behind way (front_row way nid) n)) → IsTrue (begins rs rest bits) ↔ Starts (LengthLeft way nid) L_MESSAGE rest bits
+length_tested : (way : Way) (nid : ℕ) (rs : List (ℕ × ℕ)) (rest bits : ℕ) → ordered rs ≡ true → ((n : ℕ) → IsTrue (inside rs n) ↔ Goes (AfterMessageLength way (front_row way nid) n)) → IsTrue (begins rs rest bits) ↔ Starts (LengthLeft way nid) L_MESSAGE rest bits
 length_tested way nid rs rest bits order fits = (
   λ t.
       let (n, i, q) = begins_some rs rest bits order t in
@@ -63,7 +63,7 @@ length_tested way nid rs rest bits order fits = (
       (n, r, (length_opens way nid).closes n r h, q),
   λ (n, r, (m, r', e, h), q).
       let number : m ≡ n = (head_of L_MESSAGE n m r r' e).0 in
-      let h' : Behind way (front_row way nid) n r' = subst (λ k. Behind way (front_row way nid) k r') number h in
+      let h' : AfterMessageLength way (front_row way nid) n r' = subst (λ k. AfterMessageLength way (front_row way nid) k r') number h in
       rw q at (begins_from rs rest n ((fits n).1 (r', h'))),
 )
 
@@ -97,7 +97,7 @@ module _ {S : Type 0} (s : MessageState S) (x : Var) (rest bits : ℕ) (next : n
       let same : NID_MESSAGE ≡ x = cc in
       rw (e, ← same) (number_start s.way rest bits (rw (← same) at lt) (rw (← same) at fits))
 
-  pub begins_length : (rs : List (ℕ × ℕ)) → s.phase ≡ phase.Length → ordered rs ≡ true → ((n : ℕ) → IsTrue (inside rs n) ↔ Goes (Behind s.way (front_row s.way s.nid) n)) → IsTrue (begins rs rest bits) ↔ Starts (Left s) x rest bits
+  pub begins_length : (rs : List (ℕ × ℕ)) → s.phase ≡ phase.Length → ordered rs ≡ true → ((n : ℕ) → IsTrue (inside rs n) ↔ Goes (AfterMessageLength s.way (front_row s.way s.nid) n)) → IsTrue (begins rs rest bits) ↔ Starts (Left s) x rest bits
   begins_length rs e order fits =
       let next' : next_at s.way s.nid phase.Length s.left ≡ Some x = rw e at next in
       let same : L_MESSAGE ≡ x = cc in

@@ -21,7 +21,7 @@ use Rattle.etcs_messages.specs.Kinds.{OfRow}
 use Rattle.etcs_tables.specs.Headers.{head_row}
 use Rattle.etcs_messages.proofs.Ways.{header_is, header_few, head_some, head_short, few, row_flat, row_few}
 use Rattle.etcs_messages.proofs.Fields.{fields_length, widths_append}
-use Rattle.etcs_messages.specs.Lefts.{own_row, front_behind, front_row, some_row, front_vars, front_bits, var_of}
+use Rattle.etcs_messages.specs.Lefts.{own_row, front_after, front_row, some_row, front_vars, front_bits, var_of}
 
 -- ---- A row of variables alone.
 
@@ -87,9 +87,9 @@ own_few way n own e =
     (λ row is its. few_are (variables row) own (row_few way n row is) its)
 
 -- the front of a typed message
-front_own : (way : Way) (n : ℕ) (o : Option (List Var)) (vs : List Var) → own_row way n ≡ o → option_map (front_behind way) o ≡ Some vs → (own : List Var) × (own_row way n ≡ Some own) × (front_behind way own ≡ vs)
+front_own : (way : Way) (n : ℕ) (o : Option (List Var)) (vs : List Var) → own_row way n ≡ o → option_map (front_after way) o ≡ Some vs → (own : List Var) × (own_row way n ≡ Some own) × (front_after way own ≡ vs)
 front_own way n None vs is f = absurd cc
-front_own way n (Some own) vs is f = (own, is, (let same : front_behind way own ≡ vs = cc in same))
+front_own way n (Some own) vs is f = (own, is, (let same : front_after way own ≡ vs = cc in same))
 
 -- at most 107 bits
 pub front_small : (way : Way) (n : ℕ) (vs : List Var) → front_row way n ≡ Some vs → front_bits vs ≤ 107
@@ -143,7 +143,7 @@ pub none_asked : (way : Way) {A : Type 0} (f : Layout → A) (nid : ℕ) → Non
 none_asked way {A} f nid e = of (own_row way nid) refl (e ∙ ap (option_map f) (rows_alike way nid))
   where
     of : (o : Option (List Var)) → own_row way nid ≡ o → None ≡ option_map f (option_map as_row o) → front_row way nid ≡ None
-    of None is same = ap (option_map (front_behind way)) is
+    of None is same = ap (option_map (front_after way)) is
     of (Some own) is same = absurd cc
 
 pub as_items : (own : List Var) → items (as_row own) ≡ map One own
@@ -163,17 +163,17 @@ pub count_is : (way : Way) (nid : ℕ) (table : List RowItem) → Some table ≡
 count_is way nid table e =
     let (own, is, same) = own_asked way items nid table e in
     let long : length table ≡ length own = ap length (same ∙ as_items own) ∙ length-map own One in
-    let count : length (head_row way) + length table ≡ length (front_behind way own) = (let all = length-append (head_row way) own in omega (arith, long, all)) in
-    ap (λ (n : ℕ). Some n) count ∙ sym (ap (λ (o : Option (List Var)). option_map length (option_map (front_behind way) o)) is)
+    let count : length (head_row way) + length table ≡ length (front_after way own) = (let all = length-append (head_row way) own in omega (arith, long, all)) in
+    ap (λ (n : ℕ). Some n) count ∙ sym (ap (λ (o : Option (List Var)). option_map length (option_map (front_after way) o)) is)
 
 -- and how many bits
 pub bits_are : (way : Way) (nid bits : ℕ) → Some bits ≡ option_map row_bits (message_row_to way nid) → (bits ≤ 32) × (Some (header_bits way + bits) ≡ option_map front_bits (front_row way nid))
 bits_are way nid bits e =
     let (own, is, same) = own_asked way row_bits nid bits e in
     let wide : bits ≡ widths own = same ∙ as_bits own in
-    let all : header_bits way + bits ≡ front_bits (front_behind way own) = (let a = widths_append (head_row way) own in let h = header_is way in omega (arith, wide, a, h)) in
+    let all : header_bits way + bits ≡ front_bits (front_after way own) = (let a = widths_append (head_row way) own in let h = header_is way in omega (arith, wide, a, h)) in
     let few = (own_few way nid own is).0 in
-    (omega (arith, wide, few), ap (λ (n : ℕ). Some n) all ∙ sym (ap (λ (o : Option (List Var)). option_map front_bits (option_map (front_behind way) o)) is))
+    (omega (arith, wide, few), ap (λ (n : ℕ). Some n) all ∙ sym (ap (λ (o : Option (List Var)). option_map front_bits (option_map (front_after way) o)) is))
 
 -- ---- The variable at a place of the front.
 

@@ -25,7 +25,7 @@ use Rattle.etcs_sequence.proofs.LabelLaws.{numbers_labelled}
 use Rattle.etcs_sequence.proofs.RowBits.{found_inside}
 use Rattle.etcs_messages.specs.Kinds.{IsHeadNumbers, IsOwnNumbers}
 use Rattle.etcs_tables.specs.Headers.{head_row}
-use Rattle.etcs_messages.specs.Lefts.{own_row, front_behind, front_row, front_vars, front_bits, some_row}
+use Rattle.etcs_messages.specs.Lefts.{own_row, front_after, front_row, front_vars, front_bits, some_row}
 use Rattle.etcs_messages.proofs.Ways.{head_short}
 use Rattle.etcs_messages.proofs.Fields.{fields_append, fields_length}
 use Rattle.etcs_messages.proofs.Fronts.{as_row, as_items, fields_row, rows_alike, own_asked, own_few, table_long}
@@ -175,7 +175,7 @@ whole_front way nid vars table xs hs f mid end typed long found h o =
     let count : length hs ≡ n = h.count in
     let firsts : take n f ≡ hs = ap (take n) f_is ∙ ap (λ k. take k (hs ++ ns)) (sym count) ∙ take-append_seam hs ns in
     let others : drop n f ≡ ns = ap (drop n) f_is ∙ ap (λ k. drop k (hs ++ ns)) (sym count) ∙ drop-append_seam hs ns in
-    let all : front_row way nid ≡ Some (row ++ own) = ap (option_map (front_behind way)) is in
+    let all : front_row way nid ≡ Some (row ++ own) = ap (option_map (front_after way)) is in
     let both : Some vars ≡ Some (row ++ own) = sym typed ∙ all in
     let same : vars ≡ row ++ own = cc in
     let front = front_both row own xs 18 mid end hs ns h g in

@@ -26,7 +26,7 @@ use Rattle.etcs_sequence.proofs.Begun.{begun_of, nothing_held, none_listed}
 use Rattle.etcs_messages.specs.declared.phase.Phase.{Phase}
 use Rattle.etcs_messages.specs.declared.phase.Phase.TheVariants.{Number, Length, Front, Packets, Padding, Data, Whole}
 use Rattle.etcs_messages.specs.Messages.{values_of}
-use Rattle.etcs_messages.specs.Lefts.{front_vars, some_row, headed, left_at, next_at, is_message, stands_at, PacketsBehind, HoldsBy, FrontHeld, PacketsHeld, PaddingHeld, DataHeld, MessageState, Left, next_var, HoldsIn}
+use Rattle.etcs_messages.specs.Lefts.{front_vars, some_row, headed, left_at, next_at, is_message, stands_at, PacketsAfter, HoldsBy, FrontHeld, PacketsHeld, PaddingHeld, DataHeld, MessageState, Left, next_var, HoldsIn}
 use Rattle.etcs_messages.specs.Readers.{Standing, Members}
 use Rattle.etcs_messages.proofs.Faults.{carried_packets}
 use Rattle.etcs_messages.proofs.Listing.{in_list}
@@ -46,7 +46,7 @@ front_members way form nid at front l ps f k q stands h =
     let vars = ap (λ o. length (some_row o)) h.typed in
     inl (inr (inr (nid, h.len, h.vars, front, h.typed, omega (arith, same, less, vars), h.reading_is)), ps_is, f_is, k_is)
 
-packets_members : {P : Type 0} (way : Way) (form : P → Form) (nid : ℕ) (front : List ℕ) (l : PacketsState) (ps : List P) (f : List ℕ) (k : List Bool) (q : Reading) → l.carrier ≡ Message way → is_closed l.stage ≡ false → Goes (PacketsBehind l) → PacketsHeld way nid front l (list_holds form ps f k) q → Standing way form ps f k q
+packets_members : {P : Type 0} (way : Way) (form : P → Form) (nid : ℕ) (front : List ℕ) (l : PacketsState) (ps : List P) (f : List ℕ) (k : List Bool) (q : Reading) → l.carrier ≡ Message way → is_closed l.stage ≡ false → Goes (PacketsAfter l) → PacketsHeld way nid front l (list_holds form ps f k) q → Standing way form ps f k q
 packets_members way form nid front l ps f k q same more g h =
     let (vs, m, b, r, (vs_is, (made, (m_is, b_is))), carried, here, e) = h.held in
     let begun : Begun way r m b = subst (λ (c : Carrier). Begun (way_of c) r m b) same (begun_of l.carrier l.room l.stage m b r l.stands more (first_goes l g) here) in

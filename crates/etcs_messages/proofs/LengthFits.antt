@@ -13,7 +13,7 @@ use Rattle.etcs_reader.specs.Fields.{ReadsFields}
 use Rattle.etcs_reader.proofs.FieldLaws.{some_fields}
 use Rattle.etcs_rows.specs.Messages.{MessageLengthFits}
 use Rattle.etcs_sequence.specs.Labels.{widths}
-use Rattle.etcs_messages.specs.Lefts.{own_row, front_behind, front_row, front_bits, Behind}
+use Rattle.etcs_messages.specs.Lefts.{own_row, front_after, front_row, front_bits, AfterMessageLength}
 use Rattle.etcs_tables.specs.Headers.{head_row}
 use Rattle.etcs_messages.proofs.Ways.{header_is}
 use Rattle.etcs_messages.proofs.Fields.{fields_length, widths_append}
@@ -27,24 +27,24 @@ fits_row way nid n (most, inl (row, m, e, (r, rest, reads, none, len, small), (l
     let bits : widths own ≡ m = sym (fields_length own rest fields) ∙ len in
     let wide = widths_append (head_row way) own in
     let head = header_is way in
-    let room : 8 * n - (header_bits way + m) ≡ 8 * n - front_bits (front_behind way own) = omega (arith, bits, wide, head) in
-    let fits : Fits way (Some (front_behind way own)) n = (omega (arith, bits, wide, head, le), most, subst (λ k. IsTrue (may_be_left (Message way) k)) room left) in
-    subst (λ (o : Option (List Var)). Fits way o n) (sym (ap (option_map (front_behind way)) found)) fits
+    let room : 8 * n - (header_bits way + m) ≡ 8 * n - front_bits (front_after way own) = omega (arith, bits, wide, head) in
+    let fits : Fits way (Some (front_after way own)) n = (omega (arith, bits, wide, head, le), most, subst (λ k. IsTrue (may_be_left (Message way) k)) room left) in
+    subst (λ (o : Option (List Var)). Fits way o n) (sym (ap (option_map (front_after way)) found)) fits
 fits_row way nid n (most, inr (untyped, least)) =
     let found = kept_own (own_row way nid) (sym (rows_alike way nid) ∙ untyped) in
-    subst (λ (o : Option (List Var)). Fits way o n) (sym (ap (option_map (front_behind way)) found)) (least, most)
+    subst (λ (o : Option (List Var)). Fits way o n) (sym (ap (option_map (front_after way)) found)) (least, most)
 
-row_fits : (way : Way) (nid n : ℕ) (found : Option (List Var)) → own_row way nid ≡ found → Fits way (option_map (front_behind way) found) n → MessageLengthFits way nid n
+row_fits : (way : Way) (nid n : ℕ) (found : Option (List Var)) → own_row way nid ≡ found → Fits way (option_map (front_after way) found) n → MessageLengthFits way nid n
 row_fits way nid n None is (least, most) = (most, inr (rows_alike way nid ∙ ap (option_map as_row) is, least))
 row_fits way nid n (Some own) is (fits, most, left) =
     let m = widths own in
     let (r, reads) = some_fields own in
-    let short = front_small way nid (front_behind way own) (ap (option_map (front_behind way)) is) in
+    let short = front_small way nid (front_after way own) (ap (option_map (front_after way)) is) in
     let wide = widths_append (head_row way) own in
     let head = header_is way in
-    let room : 8 * n - front_bits (front_behind way own) ≡ 8 * n - (header_bits way + m) = omega (arith, wide, head) in
+    let room : 8 * n - front_bits (front_after way own) ≡ 8 * n - (header_bits way + m) = omega (arith, wide, head) in
     (most, inl (as_row own, m, rows_alike way nid ∙ ap (option_map as_row) is, ([], r, fields_row own [] r reads, refl, fields_length own r reads, omega (arith, short, wide)), (omega (arith, fits, wide, head), subst (λ k. IsTrue (may_be_left (Message way) k)) room left)))
 
 -- a number of L_MESSAGE fits exactly where some message of this NID_MESSAGE continues with it
-pub length_fits : (way : Way) (nid n : ℕ) → MessageLengthFits way nid n ↔ Goes (Behind way (front_row way nid) n)
+pub length_fits : (way : Way) (nid n : ℕ) → MessageLengthFits way nid n ↔ Goes (AfterMessageLength way (front_row way nid) n)
 length_fits way nid n = (λ h. some_message way (front_row way nid) n (fits_row way nid n h), λ g. row_fits way nid n (own_row way nid) refl (message_some way (front_row way nid) n g))

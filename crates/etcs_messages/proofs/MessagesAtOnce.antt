@@ -23,7 +23,7 @@ use Rattle.etcs_messages.specs.declared.message.Content.{Content}
 use Rattle.etcs_messages.specs.declared.message.Content.TheVariants.{Typed, Kept}
 use Rattle.etcs_messages.specs.Kinds.{HeadOf, OwnOf, HeadLaws, OwnLaws, IsFrontBy}
 use Rattle.etcs_tables.specs.Headers.{head_row}
-use Rattle.etcs_messages.specs.Lefts.{front_row, front_vars, front_bits, some_row, headed, Behind}
+use Rattle.etcs_messages.specs.Lefts.{front_row, front_vars, front_bits, some_row, headed, AfterMessageLength}
 use Rattle.etcs_messages.specs.Messages.{MessageReads, MessageLanguage, message_value, IsMessage}
 use Rattle.etcs_messages.specs.Readings.{bytes_of}
 use Rattle.etcs_messages.proofs.Bytes.{bits_counted}
@@ -92,17 +92,17 @@ module _ (way : Way) (nid len front left : ℕ) (vars : List Var) (f : List ℕ)
       let start : 8 * len - left ≡ front + (room - left) = omega (arith, within, left_within) in
       let last : pad ≡ part (front + (room - left)) left xs = padded ∙ ap (λ k. part k left xs) start in
       let wide_pad : length pad ≡ left = ap length padded ∙ length-part (8 * len - left) left xs (omega (arith, within, left_within, inside)) in
-      let behind : spelled q ≡ part front room xs =
+      let beyond : spelled q ≡ part front room xs =
       spelled-append p (kept PADDING pad) ∙ ap (λ (t : List Bool). spelled p ++ t) (bits_spelled PADDING pad refl)
       ∙ parts front (room - left) left room xs (spelled p) pad reads last (omega (arith, left_within)) in
-      let next : spelled q ≡ part (18 + (front - 18)) room xs = (let same : front ≡ 18 + (front - 18) = omega (arith, least) in behind ∙ ap (λ k. part k room xs) same) in
+      let next : spelled q ≡ part (18 + (front - 18)) room xs = (let same : front ≡ 18 + (front - 18) = omega (arith, least) in beyond ∙ ap (λ k. part k room xs) same) in
       let all : spelled (labelled vars f ++ q) ≡ part 18 (8 * len - 18) xs =
       spelled-append (labelled vars f) q ∙ parts 18 (front - 18) room (8 * len - 18) xs (spelled (labelled vars f)) (spelled q) own next (omega (arith, least, within)) in
       let wanted : length pad ≡ 8 * len - front_bits vars - length (spelled p) = omega (arith, wide_pad, long, wide) in
-      let lefts : Behind way (Some vars) len (labelled vars f ++ q) =
+      let lefts : AfterMessageLength way (Some vars) len (labelled vars f ++ q) =
       (omega (arith, wide, within), most, (labelled vars f, q, refl, there.reads, (p, kept PADDING pad, refl, (vs, whole), (pad, wanted, refl)))) in
       record {
-        lang = (new_left way _).0 (nid, _, small, refl, (len, _, refl, subst (λ (o : Option (List Var)). Behind way o len (labelled vars f ++ q)) (sym typed) lefts));
+        lang = (new_left way _).0 (nid, _, small, refl, (len, _, refl, subst (λ (o : Option (List Var)). AfterMessageLength way o len (labelled vars f ++ q)) (sym typed) lefts));
         bits = headed_bits nid len (8 * len) (labelled vars f ++ q) xs first second (omega (arith, least, within)) all;
       }
 

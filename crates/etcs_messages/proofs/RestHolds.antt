@@ -37,9 +37,9 @@ use Rattle.etcs_sequence.specs.Lefts.{left_of, ahead, is_closed, HoldsAt, Moved}
 use Rattle.etcs_sequence.proofs.StageLaws.{closed_stage}
 use Rattle.etcs_messages.specs.declared.phase.Phase.{Phase}
 use Rattle.etcs_messages.specs.declared.phase.Phase.TheVariants as phase
-use Rattle.etcs_messages.specs.Lefts.{front_row, front_vars, some_row, front_bits, headed, LengthLeft, next_at, is_message, stands_at, behind_packets, behind_front, behind_padding, behind_data, DataFits, PacketsHeld, PaddingHeld, DataHeld, HoldsBy, MessageState, Left, next_var, Follows}
+use Rattle.etcs_messages.specs.Lefts.{front_row, front_vars, some_row, front_bits, headed, LengthLeft, next_at, is_message, stands_at, after_packets, beyond_front, after_padding, after_data, DataFits, PacketsHeld, PaddingHeld, DataHeld, HoldsBy, MessageState, Left, next_var, Follows}
 use Rattle.etcs_messages.proofs.Fronts.{drop_bits}
-use Rattle.etcs_messages.proofs.RestSteps.{by_test, below_false, number_behind, typed_behind, kept_behind, typed_bounds, kept_bounds, front_behind, packets_behind, padding_behind, data_behind}
+use Rattle.etcs_messages.proofs.RestSteps.{by_test, below_false, number_after, typed_after, kept_after, typed_bounds, kept_bounds, front_after, packets_after, padding_after, data_after}
 use Rattle.etcs_messages.proofs.RestStands.{begin_parts, front_parts, message_inner, packets_message}
 
 -- this many bits more
@@ -51,7 +51,7 @@ kept_bits q x t w = (let a = both_length q (kept x t) in let b = ap (λ (s : Lis
 
 -- ---- PADDING.
 
-padding_first : (way : Way) (nid left : ℕ) (front : List ℕ) (l : PacketsState) (padding : ℕ) (holds : Holds) (q : Reading) → PaddingHeld way nid front holds padding left q → HoldsBy way nid (behind_padding left) front l padding holds q
+padding_first : (way : Way) (nid left : ℕ) (front : List ℕ) (l : PacketsState) (padding : ℕ) (holds : Holds) (q : Reading) → PaddingHeld way nid front holds padding left q → HoldsBy way nid (after_padding left) front l padding holds q
 padding_first way nid left front l padding holds q h =
     by_test (ltb 0 left) (λ x. HoldsBy way nid x front l padding holds q) (phase.Padding left) phase.Whole
     (λ _. h)
@@ -116,10 +116,10 @@ closed_held way nid front c room padding holds len vars here q same short none t
     }
 
 -- all of the front, and packets
-packets_first : (way : Way) (nid : ℕ) (front : List ℕ) (l : PacketsState) (padding : ℕ) (holds : Holds) (q : Reading) → IsTrue (is_message way l) → padding ≡ 0 → PacketsHeld way nid front l holds q → HoldsBy way nid (behind_packets l) front l padding holds q
+packets_first : (way : Way) (nid : ℕ) (front : List ℕ) (l : PacketsState) (padding : ℕ) (holds : Holds) (q : Reading) → IsTrue (is_message way l) → padding ≡ 0 → PacketsHeld way nid front l holds q → HoldsBy way nid (after_packets l) front l padding holds q
 packets_first way nid front l padding holds q m none h =
     let parts = message_inner way l m in
-    by_test (is_closed l.stage) (λ x. HoldsBy way nid x front l padding holds q) (behind_padding l.room) phase.Packets
+    by_test (is_closed l.stage) (λ x. HoldsBy way nid x front l padding holds q) (after_padding l.room) phase.Packets
     (λ t. let e = closed_stage l.stage t in
     let room : length (spelled q) + l.room ≡ 8 * h.len = rw e at h.room_is in
     let held : HoldsAt l.carrier stage.Closed holds h.here = rw e at h.held in
@@ -128,7 +128,7 @@ packets_first way nid front l padding holds q m none h =
     (λ _. (none, h))
 
 packets_held : (way : Way) (nid : ℕ) (front : List ℕ) (l l' : PacketsState) (padding : ℕ) (holds holds' : Holds) (p : Reading) → IsTrue (is_message way l') → Moved l.carrier l.room l.stage p l'.carrier l'.room l'.stage
-    → ((q : Reading) → HoldsAt l.carrier l.stage holds q → HoldsAt l'.carrier l'.stage holds' (q ++ p)) → (q : Reading) → HoldsBy way nid phase.Packets front l padding holds q → HoldsBy way nid (behind_packets l') front l' padding holds' (q ++ p)
+    → ((q : Reading) → HoldsAt l.carrier l.stage holds q → HoldsAt l'.carrier l'.stage holds' (q ++ p)) → (q : Reading) → HoldsBy way nid phase.Packets front l padding holds q → HoldsBy way nid (after_packets l') front l' padding holds' (q ++ p)
 packets_held way nid front l l' padding holds holds' p m moved more q (none, h) =
     packets_first way nid front l' padding holds' (q ++ p) m none record {
       len = h.len;
@@ -144,7 +144,7 @@ packets_held way nid front l l' padding holds holds' p m moved more q (none, h) 
 -- ---- The front.
 
 front_held : (way : Way) (nid at : ℕ) (front : List ℕ) (l : PacketsState) (padding : ℕ) (holds : Holds) (x : Var) (n : ℕ) (q : Reading) → at < length (front_vars way nid) → length front ≡ at → IsTrue (is_message way l) → next_at way nid (phase.Front at) l ≡ Some x → HoldsBy way nid (phase.Front at) front l padding holds q
-    → HoldsBy way nid (behind_front (length (front_vars way nid)) (at + 1) l) (front ++ n ∷ []) l padding holds (q ++ (x, n) ∷ [])
+    → HoldsBy way nid (beyond_front (length (front_vars way nid)) (at + 1) l) (front ++ n ∷ []) l padding holds (q ++ (x, n) ∷ [])
 front_held way nid at front l padding holds x n q below len m next (none, h) =
     let vars : front_vars way nid ≡ h.vars = ap some_row h.typed in
     let first : first_of (drop at h.vars) ≡ Some x = rw vars at next in
@@ -153,7 +153,7 @@ front_held way nid at front l padding holds x n q below len m next (none, h) =
     let room : length (spelled (q ++ (x, n) ∷ [])) + (widths (drop (suc at) h.vars) + ahead l.carrier l.room l.stage) ≡ 8 * h.len = (let a = more_bits q x n in let b = h.room_is in let d = drop_bits h.vars at x first in omega (arith, a, b, d)) in
     let long : length (front ++ n ∷ []) ≡ suc at = length-append front (n ∷ []) ∙ omega (arith, len) in
     let next_at-is : at + 1 ≡ suc at = omega arith in
-    by_test (ltb (at + 1) (length (front_vars way nid))) (λ p. HoldsBy way nid p (front ++ n ∷ []) l padding holds (q ++ (x, n) ∷ [])) (phase.Front (at + 1)) (behind_packets l)
+    by_test (ltb (at + 1) (length (front_vars way nid))) (λ p. HoldsBy way nid p (front ++ n ∷ []) l padding holds (q ++ (x, n) ∷ [])) (phase.Front (at + 1)) (after_packets l)
     (λ _. (none, record { len = h.len; vars = h.vars; typed = h.typed; none = h.none; reading_is = reading; room_is = rw next_at-is room }))
     (λ t. let over = below_false (at + 1) (length (front_vars way nid)) t in
     let size = ap (λ (vs : List Var). length vs) vars in
@@ -172,7 +172,7 @@ front_held way nid at front l padding holds x n q below len m next (none, h) =
 
 -- ---- Bits that are kept.
 
-data_first : (way : Way) (nid left : ℕ) (front : List ℕ) (l : PacketsState) (padding : ℕ) (holds : Holds) (q : Reading) → DataHeld way nid holds left q → HoldsBy way nid (behind_data left) front l padding holds q
+data_first : (way : Way) (nid left : ℕ) (front : List ℕ) (l : PacketsState) (padding : ℕ) (holds : Holds) (q : Reading) → DataHeld way nid holds left q → HoldsBy way nid (after_data left) front l padding holds q
 data_first way nid left front l padding holds q h =
     by_test (ltb 0 left) (λ x. HoldsBy way nid x front l padding holds q) (phase.Data left) phase.Whole
     (λ _. h)
@@ -217,7 +217,7 @@ module _ {S : Type 0} (holds : S → Holds) (s : MessageState S) where
       let from : (q : Reading) → HoldsBy s.way s.nid phase.Number s.front s.left s.padding (holds s.store) q → HoldsBy s.way n phase.Length s.front s.left s.padding (holds s.store) (q ++ (NID_MESSAGE, n) ∷ []) = (λ q (none, k, is). (none, k, ap (λ (x : Reading). x ++ (NID_MESSAGE, n) ∷ []) is)) in
       record {
         same = refl;
-        residual = rw e (number_behind s.way n (rw e at goes));
+        residual = rw e (number_after s.way n (rw e at goes));
         held = λ q k. from q (rw e at k);
       }
 
@@ -241,7 +241,7 @@ module _ {S : Type 0} (holds : S → Holds) (s : MessageState S) where
       )) in
       record {
         same = refl;
-        residual = rw e (typed_behind s.way s.nid len vs s.left l found goes' room left);
+        residual = rw e (typed_after s.way s.nid len vs s.left l found goes' room left);
         held = λ q k. from q (rw e at k);
       }
 
@@ -261,48 +261,48 @@ module _ {S : Type 0} (holds : S → Holds) (s : MessageState S) where
       }) in
       record {
         same = refl;
-        residual = rw (e, left_is) (kept_behind s.way s.nid len found goes');
+        residual = rw (e, left_is) (kept_after s.way s.nid len found goes');
         held = λ q k. from q (rw e at k);
       }
 
-  pub front_follows : (here : Phase) (front : List ℕ) (stands : IsTrue (stands_at s.way s.nid here (length front) s.left)) (at : ℕ) (x : Var) (n : ℕ) → s.phase ≡ phase.Front at → here ≡ behind_front (length (front_vars s.way s.nid)) (at + 1) s.left → front ≡ s.front ++ n ∷ []
+  pub front_follows : (here : Phase) (front : List ℕ) (stands : IsTrue (stands_at s.way s.nid here (length front) s.left)) (at : ℕ) (x : Var) (n : ℕ) → s.phase ≡ phase.Front at → here ≡ beyond_front (length (front_vars s.way s.nid)) (at + 1) s.left → front ≡ s.front ++ n ∷ []
       → next_var s ≡ Some x → Starts (Left s) x 0 n → Follows holds s ((x, n) ∷ []) (state s.way s.nid here front s.left s.padding s.store stands)
   front_follows here front stands at x n e e' more next goes =
       let parts = front_parts s at e in
       let next' : next_at s.way s.nid (phase.Front at) s.left ≡ Some x = rw e at next in
       record {
         same = refl;
-        residual = rw (e, e') (front_behind s.way s.nid at s.left x n parts.0 next' (rw e at goes));
+        residual = rw (e, e') (front_after s.way s.nid at s.left x n parts.0 next' (rw e at goes));
         held = λ q k. rw (e', more) (front_held s.way s.nid at s.front s.left s.padding (holds s.store) x n q parts.0 parts.1 parts.2 next' (rw e at k));
       }
 
-  pub packets_follow : (here : Phase) (l : PacketsState) (store : S) (stands : IsTrue (stands_at s.way s.nid here (length s.front) l)) (p : Reading) → s.phase ≡ phase.Packets → here ≡ behind_packets l → Goes (left_of l.carrier l.room l.stage) → Steps s.left l (holds s.store) (holds store) p
+  pub packets_follow : (here : Phase) (l : PacketsState) (store : S) (stands : IsTrue (stands_at s.way s.nid here (length s.front) l)) (p : Reading) → s.phase ≡ phase.Packets → here ≡ after_packets l → Goes (left_of l.carrier l.room l.stage) → Steps s.left l (holds s.store) (holds store) p
       → Follows holds s p (state s.way s.nid here s.front l s.padding store stands)
   packets_follow here l store stands p e e' some (moved, held) =
       let m = packets_message s l p e moved in
       record {
         same = refl;
-        residual = rw (e, e') (packets_behind s.way s.nid s.left l p moved some);
+        residual = rw (e, e') (packets_after s.way s.nid s.left l p moved some);
         held = λ q k. rw e' (packets_held s.way s.nid s.front s.left l s.padding (holds s.store) (holds store) p m moved held q (rw e at k));
       }
 
-  pub padding_follows : (here : Phase) (stands : IsTrue (stands_at s.way s.nid here (length s.front) s.left)) (left c number : ℕ) → s.phase ≡ phase.Padding left → here ≡ behind_padding (left - c) → c ≤ left → number < 2 ^ c
+  pub padding_follows : (here : Phase) (stands : IsTrue (stands_at s.way s.nid here (length s.front) s.left)) (left c number : ℕ) → s.phase ≡ phase.Padding left → here ≡ after_padding (left - c) → c ≤ left → number < 2 ^ c
       → Follows holds s (kept PADDING (num c number)) (state s.way s.nid here s.front s.left (bit_or (s.padding * 2 ^ c % 256) number) s.store stands)
   padding_follows here stands left c number e e' le fits =
       let wide : length (num c number) ≡ c = length-num c number in
-      let behind = padding_behind s.way s.nid left s.left (num c number) (omega (arith, wide, le)) in
+      let beyond = padding_after s.way s.nid left s.left (num c number) (omega (arith, wide, le)) in
       let to = bit_or (s.padding * 2 ^ c % 256) number in
       record {
         same = refl;
-        residual = rw (e, e') (rw wide at behind);
+        residual = rw (e, e') (rw wide at beyond);
         held = λ q k. rw e' (padding_first s.way s.nid (left - c) s.front s.left to (holds s.store) (q ++ kept PADDING (num c number)) (padding_more s.way s.nid left c number s.padding s.front (holds s.store) q le fits (rw e at k)));
       }
 
-  pub data_follows : (here : Phase) (store : S) (stands : IsTrue (stands_at s.way s.nid here (length s.front) s.left)) (left : ℕ) (t : List Bool) → s.phase ≡ phase.Data left → here ≡ behind_data (left - length t) → length t ≤ left → ((vs : List PacketValue) (k : List Bool) → holds s.store vs [] k → holds store vs [] (k ++ t))
+  pub data_follows : (here : Phase) (store : S) (stands : IsTrue (stands_at s.way s.nid here (length s.front) s.left)) (left : ℕ) (t : List Bool) → s.phase ≡ phase.Data left → here ≡ after_data (left - length t) → length t ≤ left → ((vs : List PacketValue) (k : List Bool) → holds s.store vs [] k → holds store vs [] (k ++ t))
       → Follows holds s (kept OTHER_DATA t) (state s.way s.nid here s.front s.left s.padding store stands)
   data_follows here store stands left t e e' le more = record {
     same = refl;
-    residual = rw (e, e') (data_behind s.way s.nid left s.left t le);
+    residual = rw (e, e') (data_after s.way s.nid left s.left t le);
     held = λ q k. rw e' (data_first s.way s.nid (left - length t) s.front s.left s.padding (holds store) (q ++ kept OTHER_DATA t) (data_more s.way s.nid left (holds s.store) (holds store) t q le more (rw e at k)));
   }
 
@@ -313,15 +313,15 @@ data_room here left n holds e le h =
     let (vs, k, held, small) = subst (λ (x : Phase). DataFits x holds) e h in
     (vs, ([], (k, (held, omega (arith, small, le)))))
 
-data_fits : (left : ℕ) (holds holds' : Holds) (t : List Bool) → length t ≤ left → ((vs : List PacketValue) (k : List Bool) → holds vs [] k → holds' vs [] (k ++ t)) → DataFits (phase.Data left) holds → DataFits (behind_data (left - length t)) holds'
+data_fits : (left : ℕ) (holds holds' : Holds) (t : List Bool) → length t ≤ left → ((vs : List PacketValue) (k : List Bool) → holds vs [] k → holds' vs [] (k ++ t)) → DataFits (phase.Data left) holds → DataFits (after_data (left - length t)) holds'
 data_fits left holds holds' t le more (vs, k, h, small) =
     by_test (ltb 0 (left - length t)) (λ x. DataFits x holds') (phase.Data (left - length t)) phase.Whole
     (λ _. (vs, k ++ t, more vs k h, omega (arith, length-append k t, small, le)))
     (λ _. tt)
 
-pub fits_behind : (here here' : Phase) (left : ℕ) (holds holds' : Holds) (t : List Bool) → here ≡ phase.Data left → here' ≡ behind_data (left - length t) → length t ≤ left
+pub fits_after : (here here' : Phase) (left : ℕ) (holds holds' : Holds) (t : List Bool) → here ≡ phase.Data left → here' ≡ after_data (left - length t) → length t ≤ left
     → ((vs : List PacketValue) (k : List Bool) → holds vs [] k → holds' vs [] (k ++ t)) → DataFits here holds → DataFits here' holds'
-fits_behind here here' left holds holds' t e e' le more h =
+fits_after here here' left holds holds' t e e' le more h =
     subst (λ (x : Phase). DataFits x holds') (sym e') (data_fits left holds holds' t le more (subst (λ (x : Phase). DataFits x holds) e h))
 
 pub begun_fits : {S : Type 0} (s : MessageState S) (holds : Holds) (len : ℕ) → s.phase ≡ phase.Length → front_row s.way s.nid ≡ None → Starts (Left s) L_MESSAGE 0 len → DataFits s.phase holds → DataFits (phase.Data (8 * len - 18)) holds

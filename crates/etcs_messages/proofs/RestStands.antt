@@ -16,7 +16,7 @@ use Rattle.etcs_sequence.specs.Lefts.{left_of, ahead, is_stage, is_closed, Moved
 use Rattle.etcs_sequence.proofs.StageLaws.{closed_stage, closed_room, begun_room}
 use Rattle.etcs_messages.specs.declared.phase.Phase.{Phase}
 use Rattle.etcs_messages.specs.declared.phase.Phase.TheVariants as phase
-use Rattle.etcs_messages.specs.Lefts.{front_row, front_vars, some_row, MessageState, next_var, is_message, stands_at, behind_packets, behind_front, behind_padding}
+use Rattle.etcs_messages.specs.Lefts.{front_row, front_vars, some_row, MessageState, next_var, is_message, stands_at, after_packets, beyond_front, after_padding}
 use Rattle.etcs_messages.specs.Kinds.{is_carrier}
 use Rattle.etcs_messages.proofs.Ways.{carrier_is, carrier_to}
 use Rattle.etcs_messages.proofs.RestSteps.{by_test}
@@ -96,25 +96,25 @@ module _ {S : Type 0} (s : MessageState S) where
 
 -- ---- What follows a variable.
 
-pub padding_stands : (way : Way) (nid left m : ℕ) (l : PacketsState) → left < 8 → IsTrue (stands_at way nid (behind_padding left) m l)
+pub padding_stands : (way : Way) (nid left m : ℕ) (l : PacketsState) → left < 8 → IsTrue (stands_at way nid (after_padding left) m l)
 padding_stands way nid left m l short =
     by_test (ltb 0 left) (λ x. IsTrue (stands_at way nid x m l)) (phase.Padding left) phase.Whole
     (λ t. and_from (nat_lt 0 left) (nat_lt left 8) t (lt-ltb left 8 short))
     (λ _. refl)
 
-packets_stand : (way : Way) (nid m : ℕ) (l : PacketsState) → IsTrue (is_message way l) → IsTrue (stands_at way nid (behind_packets l) m l)
+packets_stand : (way : Way) (nid m : ℕ) (l : PacketsState) → IsTrue (is_message way l) → IsTrue (stands_at way nid (after_packets l) m l)
 packets_stand way nid m l h =
-    by_test (is_closed l.stage) (λ x. IsTrue (stands_at way nid x m l)) (behind_padding l.room) phase.Packets
+    by_test (is_closed l.stage) (λ x. IsTrue (stands_at way nid x m l)) (after_padding l.room) phase.Packets
     (λ t. padding_stands way nid l.room m l ((message_inner way l h).1 t))
     (λ f. and_from (is_message way l) (not (is_closed l.stage)) h (ap not f))
 
-pub front_stands : (way : Way) (nid at m : ℕ) (l : PacketsState) → m ≡ at → IsTrue (is_message way l) → IsTrue (stands_at way nid (behind_front (length (front_vars way nid)) at l) m l)
+pub front_stands : (way : Way) (nid at m : ℕ) (l : PacketsState) → m ≡ at → IsTrue (is_message way l) → IsTrue (stands_at way nid (beyond_front (length (front_vars way nid)) at l) m l)
 front_stands way nid at m l same h =
-    by_test (ltb at (length (front_vars way nid))) (λ x. IsTrue (stands_at way nid x m l)) (phase.Front at) (behind_packets l)
+    by_test (ltb at (length (front_vars way nid))) (λ x. IsTrue (stands_at way nid x m l)) (phase.Front at) (after_packets l)
     (λ t. and_from (nat_lt at (length (front_vars way nid))) ((m == at) && is_message way l) t (and_from (m == at) (is_message way l) (eq-eqb m at same) h))
     (λ _. packets_stand way nid m l h)
 
-pub packets_stands : {S : Type 0} (s : MessageState S) (here : Phase) (l : PacketsState) (p : Reading) → s.phase ≡ phase.Packets → here ≡ behind_packets l → Moved s.left.carrier s.left.room s.left.stage p l.carrier l.room l.stage → IsTrue (stands_at s.way s.nid here (length s.front) l)
+pub packets_stands : {S : Type 0} (s : MessageState S) (here : Phase) (l : PacketsState) (p : Reading) → s.phase ≡ phase.Packets → here ≡ after_packets l → Moved s.left.carrier s.left.room s.left.stage p l.carrier l.room l.stage → IsTrue (stands_at s.way s.nid here (length s.front) l)
 packets_stands s here l p e e' moved = rw e' (packets_stand s.way s.nid (length s.front) l (packets_message s l p e moved))
 
 -- ---- What is wanted has room.

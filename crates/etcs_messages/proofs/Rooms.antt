@@ -167,13 +167,13 @@ module _ (way : Way) (nid len : ℕ) (h : Reading) (row : Layout) (body : Readin
         bytes = omega (arith, pads, sizes, count, begun_length, room, run.fills.0);
         reading_is = refl;
       } in
-      let behind = spelled more ++ spelled (kept PADDING padding) in
-      let cut : spelled r ≡ spelled (begun way nid len h body vs) ++ behind =
+      let beyond = spelled more ++ spelled (kept PADDING padding) in
+      let cut : spelled r ≡ spelled (begun way nid len h body vs) ++ beyond =
       spelled-append ((head ++ body) ++ readings_to way (vs ++ us)) (kept PADDING padding)
       ∙ ap (λ (t : Reading). spelled ((head ++ body) ++ t) ++ spelled (kept PADDING padding)) both
       ∙ ap (λ (t : Reading). spelled t ++ spelled (kept PADDING padding)) (sym (append_assoc (head ++ body) sent more))
       ∙ both_spelled (begun way nid len h body vs) more (spelled (kept PADDING padding)) in
-      (r, behind, (typed_message nid h body (vs ++ us) padding, x), cut)
+      (r, beyond, (typed_message nid h body (vs ++ us) padding, x), cut)
 
   enough : Leaves way (8 * len) bits → Viable (MessageLanguage way) (spelled (begun way nid len h body vs))
   enough (room, left) =

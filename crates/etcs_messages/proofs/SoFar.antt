@@ -23,7 +23,7 @@ use Rattle.etcs_sequence.proofs.Holding.{packets_far}
 use Rattle.etcs_messages.specs.declared.phase.Phase.{Phase}
 use Rattle.etcs_messages.specs.declared.phase.Phase.TheVariants.{Number, Length, Front, Packets, Padding, Data, Whole}
 use Rattle.etcs_messages.specs.Messages.{values_of, padding_room}
-use Rattle.etcs_messages.specs.Lefts.{front_row, front_vars, some_row, headed, left_at, next_at, is_message, stands_at, may_ask, PacketsBehind, HoldsBy, FrontHeld, PacketsHeld, PaddingHeld, DataHeld, MessageState, Left, next_var, MayAsk, HoldsIn}
+use Rattle.etcs_messages.specs.Lefts.{front_row, front_vars, some_row, headed, left_at, next_at, is_message, stands_at, may_ask, PacketsAfter, HoldsBy, FrontHeld, PacketsHeld, PaddingHeld, DataHeld, MessageState, Left, next_var, MayAsk, HoldsIn}
 use Rattle.etcs_messages.specs.Readers.{measured, padded, packed, whole_far, far_at, so_far}
 use Rattle.etcs_messages.proofs.Listing.{in_list}
 use Rattle.etcs_tables.specs.declared.row.Way.{Way}
@@ -49,10 +49,10 @@ front_far way nid at front l holds q h =
     let m = measured_is nid h.len (widths (drop at h.vars) + ahead l.carrier l.room l.stage) (labelled h.vars front) q h.reading_is h.room_is in
     subst (λ (vs : List Var). q ≡ measured nid (labelled vs front) (widths (drop at vs) + ahead l.carrier l.room l.stage)) (sym (ap some_row h.typed)) m
 
-pub first_goes : (l : PacketsState) → Goes (PacketsBehind l) → Goes (left_of l.carrier l.room l.stage)
+pub first_goes : (l : PacketsState) → Goes (PacketsAfter l) → Goes (left_of l.carrier l.room l.stage)
 first_goes l (r, (a, b, e, h, k)) = (a, h)
 
-packets_are : {P : Type 0} (way : Way) (form : P → Form) (nid : ℕ) (front : List ℕ) (l : PacketsState) (store : PacketList P) (q : Reading) → Goes (PacketsBehind l) → PacketsHeld way nid front l (list_holds form store.packets.items store.numbers.items store.bits) q
+packets_are : {P : Type 0} (way : Way) (form : P → Form) (nid : ℕ) (front : List ℕ) (l : PacketsState) (store : PacketList P) (q : Reading) → Goes (PacketsAfter l) → PacketsHeld way nid front l (list_holds form store.packets.items store.numbers.items store.bits) q
     → q ≡ measured nid (labelled (front_vars way nid) front ++ packets_so_far form l.carrier l.stage store.packets.items store.numbers.items store.bits) (ahead l.carrier l.room l.stage)
 packets_are way form nid front l store q g h =
     let here = packets_far form l.carrier l.room l.stage store.packets.items store.numbers.items store.bits h.here (first_goes l g) h.held in

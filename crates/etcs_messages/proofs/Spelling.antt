@@ -228,8 +228,8 @@ one_content way hd bd form hl ol one (Kept nid k) (Kept nid' k') hm hn e =
     rw (number, held) refl
 
 pub one_spelled : {H B P : Type 0} (way : Way) (hd : HeadOf H) (bd : OwnOf B) (form : P → Form) {sent_head : H → Reading} {sent_own : B → Reading} (hl : HeadLaws way H sent_head hd) (ol : OwnLaws way B sent_own bd) (one : OnePacket form) → OneSpelling way hd bd form
-one_spelled way hd bd form hl ol one m n a b behind hm hn x y e =
+one_spelled way hd bd form hl ol one m n a b beyond hm hn x y e =
     let r = regular way in
-    let both = apart b a [] behind (r.agree b a (message_value way hd bd form n, y) (message_value way hd bd form m, x)) (r.fit b (message_value way hd bd form n, y)) (r.fit a (message_value way hd bd form m, x)) (append-nil (spelled b) ∙ e) in
+    let both = apart b a [] beyond (r.agree b a (message_value way hd bd form n, y) (message_value way hd bd form m, x)) (r.fit b (message_value way hd bd form n, y)) (r.fit a (message_value way hd bd form m, x)) (append-nil (spelled b) ∙ e) in
     let y' : MessageReads way (message_value way hd bd form n) a = rw both.0 at y in
     (one_content way hd bd form hl ol one m n hm hn (one_value way (message_value way hd bd form m) (message_value way hd bd form n) a x y'), sym both.1)

@@ -22,7 +22,7 @@ use Rattle.etcs_messages.specs.declared.phase.Phase.{Phase}
 use Rattle.etcs_messages.specs.declared.phase.Phase.TheVariants.{Whole}
 use Rattle.etcs_messages.specs.declared.message.Content.TheVariants as content
 use Rattle.etcs_messages.specs.Messages.{values_of, typed_message, kept_message, TypedReads, KeptReads, MessageReads, MessageLanguage, IsMessage, message_value, head_reading, front_of, all_bits, padding_room}
-use Rattle.etcs_messages.specs.Lefts.{own_row, front_behind, front_row, headed, HoldsBy, PaddingHeld, DataHeld, MessageState, next_var}
+use Rattle.etcs_messages.specs.Lefts.{own_row, front_after, front_row, headed, HoldsBy, PaddingHeld, DataHeld, MessageState, next_var}
 use Rattle.etcs_messages.specs.laws.RestLaws.{ended_whole}
 use Rattle.etcs_messages.specs.Kinds.{HeadOf, OwnOf, HeadLaws, OwnLaws, IsHead, IsMadeOf, IsHeadNumbers, IsOwnNumbers}
 use Rattle.etcs_tables.specs.Headers.{head_row}
@@ -37,11 +37,11 @@ use Rattle.etcs_messages.proofs.Fronts.{as_row, row_fields, rows_alike}
 
 -- ---- The front's row.
 
-own_of : (way : Way) (o : Option (List Var)) (vars : List Var) → option_map (front_behind way) o ≡ Some vars → (own : List Var) × (o ≡ Some own) × (front_behind way own ≡ vars)
+own_of : (way : Way) (o : Option (List Var)) (vars : List Var) → option_map (front_after way) o ≡ Some vars → (own : List Var) × (o ≡ Some own) × (front_after way own ≡ vars)
 own_of way None vars e = absurd cc
-own_of way (Some own) vars e = (own, refl, (let same : front_behind way own ≡ vars = cc in same))
+own_of way (Some own) vars e = (own, refl, (let same : front_after way own ≡ vars = cc in same))
 
-no_own : (way : Way) (o : Option (List Var)) → option_map (front_behind way) o ≡ None → o ≡ None
+no_own : (way : Way) (o : Option (List Var)) → option_map (front_after way) o ≡ None → o ≡ None
 no_own way None e = refl
 no_own way (Some own) e = absurd cc
 
@@ -111,18 +111,18 @@ typed_of way hd bd form hl ol nid h body f g ps bits number q r firsts nums made
 front_is : {H B P : Type 0} (way : Way) (hd : HeadOf H) (bd : OwnOf B) (form : P → Form) {sent_head : H → Reading} {sent_own : B → Reading} (hl : HeadLaws way H sent_head hd) (ol : OwnLaws way B sent_own bd) (nid len : ℕ) (own : List Var) (f g : List ℕ) (ps : List P) (bits : List Bool) (number : ℕ) (q : Reading) → own_row way nid ≡ Some own → length f ≡ length (head_row way) → length g ≡ length own → All (λ p. (form p).made) ps → All (Carries (Message way)) (values_of form ps) → length bits ≤ 7 → number < 2 ^ length bits → bits ≡ num (length bits) number
     → q ≡ headed nid len (labelled (head_row way) f ++ (labelled own g ++ (readings_to way (values_of form ps) ++ kept PADDING bits))) → MessageLanguage way q → TypedParts way hd bd form nid f g ps number q
 front_is way hd bd form hl ol nid len own f g ps bits number q found firsts count made carried short small bits_are e (typed_message nid' h body vs padding, r) =
-    let behind = readings_to way (values_of form ps) ++ kept PADDING bits in
+    let beyond = readings_to way (values_of form ps) ++ kept PADDING bits in
     let rest' = readings_to way vs ++ kept PADDING padding in
-    let far : headed nid len (labelled (head_row way) f ++ (labelled own g ++ behind)) ≡ headed nid' r.len (h ++ (body ++ rest')) =
+    let far : headed nid len (labelled (head_row way) f ++ (labelled own g ++ beyond)) ≡ headed nid' r.len (h ++ (body ++ rest')) =
     sym e ∙ r.reading_is ∙ append_assoc (head_reading nid' r.len h ++ body) (readings_to way vs) (kept PADDING padding) ∙ ap (headed nid' r.len) (append_assoc h body rest') in
     let same : nid ≡ nid' = ap first_number far in
-    let front : labelled (head_row way) f ++ (labelled own g ++ behind) ≡ h ++ (body ++ rest') = ap (λ (x : Reading). rest_of (rest_of x)) far in
-    let heads = cut (labelled (head_row way) f) h (labelled own g ++ behind) (body ++ rest') (labelled_count (head_row way) f firsts ∙ sym (fields_count (head_row way) h r.head_reads)) front in
+    let front : labelled (head_row way) f ++ (labelled own g ++ beyond) ≡ h ++ (body ++ rest') = ap (λ (x : Reading). rest_of (rest_of x)) far in
+    let heads = cut (labelled (head_row way) f) h (labelled own g ++ beyond) (body ++ rest') (labelled_count (head_row way) f firsts ∙ sym (fields_count (head_row way) h r.head_reads)) front in
     let r' = subst (λ (n : ℕ). TypedReads way n h body vs padding q) (sym same) r in
     let row : ◌≡◌ {A = Option Layout} (Some r'.row) (Some (as_row own)) = sym r'.typed_number ∙ rows_alike way nid ∙ ap (option_map as_row) found in
     let row_is : r'.row ≡ as_row own = cc in
     let reads = row_fields own [] body (subst (λ (x : Layout). Reads x [] body) row_is r'.body_reads) in
-    let rest = cut (labelled own g) body behind rest' (labelled_count own g count ∙ sym (fields_count own body reads)) heads.1 in
+    let rest = cut (labelled own g) body beyond rest' (labelled_count own g count ∙ sym (fields_count own body reads)) heads.1 in
     let nums : numbers body ≡ g = ap numbers (sym rest.0) ∙ numbers_labelled own g count in
     let head_nums : numbers h ≡ f = ap numbers (sym heads.0) ∙ numbers_labelled (head_row way) f firsts in
     typed_of way hd bd form hl ol nid h body f g ps bits number q (with_packets way nid h body vs (values_of form ps) padding bits q r' carried short rest.1) head_nums nums made carried short small bits_are
@@ -144,7 +144,7 @@ typed_is way hd bd form hl ol nid front ps f k number q lang h =
     let others : length (drop n front) ≡ length own = length-drop n front ∙ omega (arith, count) in
     let tail : Reading = readings_to way (values_of form ps) ++ kept PADDING h.bits in
     let is : q ≡ headed nid h.len (labelled row (take n front) ++ (labelled own (drop n front) ++ tail)) =
-    h.reading_is ∙ ap (λ (v : List Var). headed nid h.len (labelled v front ++ (readings_to way h.packets ++ kept PADDING h.bits))) (sym vars) ∙ ap (λ (v : List PacketValue). headed nid h.len (labelled (front_behind way own) front ++ (readings_to way v ++ kept PADDING h.bits))) vs_is
+    h.reading_is ∙ ap (λ (v : List Var). headed nid h.len (labelled v front ++ (readings_to way h.packets ++ kept PADDING h.bits))) (sym vars) ∙ ap (λ (v : List PacketValue). headed nid h.len (labelled (front_after way own) front ++ (readings_to way v ++ kept PADDING h.bits))) vs_is
     ∙ ap (λ (x : Reading). headed nid h.len (x ++ tail)) (labelled_cut row own front) ∙ ap (headed nid h.len) (append_assoc (labelled row (take n front)) (labelled own (drop n front)) tail) in
     front_is way hd bd form hl ol nid h.len own (take n front) (drop n front) ps h.bits number q found firsts others made carried (omega (arith, h.short)) h.small h.padding_is is lang
 

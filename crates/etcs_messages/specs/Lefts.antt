@@ -33,12 +33,12 @@ use Rattle.etcs_messages.specs.declared.phase.Phase.TheVariants as phase
 abbrev pub own_row : (way : Way) → ℕ → Option (List Var)
 own_row way n = option_and_then variables (message_row_to way n)
 
-abbrev pub front_behind : (way : Way) → List Var → List Var
-front_behind way own = head_row way ++ own
+abbrev pub front_after : (way : Way) → List Var → List Var
+front_after way own = head_row way ++ own
 
 -- none where the number isn't typed
 abbrev pub front_row : (way : Way) → ℕ → Option (List Var)
-front_row way n = option_map (front_behind way) (own_row way n)
+front_row way n = option_map (front_after way) (own_row way n)
 
 -- the variable of an item
 abbrev pub var_of : Option RowItem → Option Var
@@ -72,21 +72,21 @@ PaddedBy room p r = PaddingLeft (room - length (spelled p)) r
 abbrev pub Padded : (Reading → Type 0) → ℕ → Reading → Type 0
 Padded P room r = Chain P (PaddedBy room) r
 
-abbrev pub PacketsBehind : PacketsState → Reading → Type 0
-PacketsBehind l r = Padded (left_of l.carrier l.room l.stage) (ahead l.carrier l.room l.stage) r
+abbrev pub PacketsAfter : PacketsState → Reading → Type 0
+PacketsAfter l r = Padded (left_of l.carrier l.room l.stage) (ahead l.carrier l.room l.stage) r
 
 -- packets and PADDING, as many bits as these bytes have after this many
 abbrev pub PacketsFrom : (way : Way) → ℕ → ℕ → Reading → Type 0
 PacketsFrom way front len r = Padded (PacketsIn (Message way) (8 * len - front)) (8 * len - front) r
 
 -- after an L_MESSAGE of this many bytes: a message of these variables before its packets, or one that is kept
-abbrev pub Behind : (way : Way) → Option (List Var) → ℕ → Reading → Type 0
-Behind way None len r = (3 ≤ len) × (len < 2 ^ 10) × KeptIn (8 * len - 18) r
-Behind way (Some vs) len r = (front_bits vs ≤ 8 * len) × (len < 2 ^ 10) × Then (ReadsFields vs) (PacketsFrom way (front_bits vs) len) r
+abbrev pub AfterMessageLength : (way : Way) → Option (List Var) → ℕ → Reading → Type 0
+AfterMessageLength way None len r = (3 ≤ len) × (len < 2 ^ 10) × KeptIn (8 * len - 18) r
+AfterMessageLength way (Some vs) len r = (front_bits vs ≤ 8 * len) × (len < 2 ^ 10) × Then (ReadsFields vs) (PacketsFrom way (front_bits vs) len) r
 
 -- after this NID_MESSAGE
 abbrev pub LengthLeft : (way : Way) → ℕ → Reading → Type 0
-LengthLeft way nid r = (len : ℕ) × (rest : Reading) × (r ≡ (L_MESSAGE, len) ∷ rest) × Behind way (front_row way nid) len rest
+LengthLeft way nid r = (len : ℕ) × (rest : Reading) × (r ≡ (L_MESSAGE, len) ∷ rest) × AfterMessageLength way (front_row way nid) len rest
 
 abbrev pub NumberLeft : (way : Way) → Reading → Type 0
 NumberLeft way r = (nid : ℕ) × (rest : Reading) × (nid < 2 ^ 8) × (r ≡ (NID_MESSAGE, nid) ∷ rest) × LengthLeft way nid rest
@@ -94,8 +94,8 @@ NumberLeft way r = (nid : ℕ) × (rest : Reading) × (nid < 2 ^ 8) × (r ≡ (N
 abbrev pub left_at : (way : Way) → ℕ → Phase → PacketsState → Reading → Type 0
 left_at way nid phase.Number l r = NumberLeft way r
 left_at way nid phase.Length l r = LengthLeft way nid r
-left_at way nid (phase.Front at) l r = Then (ReadsFields (drop at (front_vars way nid))) (PacketsBehind l) r
-left_at way nid phase.Packets l r = PacketsBehind l r
+left_at way nid (phase.Front at) l r = Then (ReadsFields (drop at (front_vars way nid))) (PacketsAfter l) r
+left_at way nid phase.Packets l r = PacketsAfter l r
 left_at way nid (phase.Padding left) l r = PaddingLeft left r
 left_at way nid (phase.Data left) l r = KeptIn left r
 left_at way nid phase.Whole l r = r ≡ []
@@ -134,19 +134,19 @@ may_ask (phase.Padding left) l = false
 may_ask (phase.Data left) l = true
 may_ask phase.Whole l = false
 
-abbrev pub behind_padding : ℕ → Phase
-behind_padding left = if nat_lt 0 left then phase.Padding left else phase.Whole
+abbrev pub after_padding : ℕ → Phase
+after_padding left = if nat_lt 0 left then phase.Padding left else phase.Whole
 
 -- what comes after a variable of the packets
-abbrev pub behind_packets : PacketsState → Phase
-behind_packets l = if is_closed l.stage then behind_padding l.room else phase.Packets
+abbrev pub after_packets : PacketsState → Phase
+after_packets l = if is_closed l.stage then after_padding l.room else phase.Packets
 
 -- what comes after the variables of the front that come before this place
-abbrev pub behind_front : ℕ → ℕ → PacketsState → Phase
-behind_front count at l = if nat_lt at count then phase.Front at else behind_packets l
+abbrev pub beyond_front : ℕ → ℕ → PacketsState → Phase
+beyond_front count at l = if nat_lt at count then phase.Front at else after_packets l
 
-abbrev pub behind_data : ℕ → Phase
-behind_data left = if nat_lt 0 left then phase.Data left else phase.Whole
+abbrev pub after_data : ℕ → Phase
+after_data left = if nat_lt 0 left then phase.Data left else phase.Whole
 
 -- ---- What is kept of it.
 

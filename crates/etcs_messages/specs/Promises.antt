@@ -17,7 +17,7 @@ use Rattle.etcs_messages.specs.Messages.{IsAdmitted, IsMessage, MessageReads, Me
 
 -- messages with one spelling are one, and no spelling begins another
 abbrev pub OneSpelling : {H B P : Type 0} → Way → HeadOf H → OwnOf B → (P → Form) → Type 0
-OneSpelling {H} {B} {P} way k o form = (m n : Content H B P) (a b : Reading) (behind : List Bool) → IsMessage way k o form m → IsMessage way k o form n → MessageReads way (message_value way k o form m) a → MessageReads way (message_value way k o form n) b → spelled b ≡ spelled a ++ behind → (m ≡ n) × (behind ≡ [])
+OneSpelling {H} {B} {P} way k o form = (m n : Content H B P) (a b : Reading) (beyond : List Bool) → IsMessage way k o form m → IsMessage way k o form n → MessageReads way (message_value way k o form m) a → MessageReads way (message_value way k o form n) b → spelled b ≡ spelled a ++ beyond → (m ≡ n) × (beyond ≡ [])
 
 -- a header, the variables of its row and packets
 abbrev pub begun : Way → ℕ → ℕ → Reading → Reading → List PacketValue → Reading

@@ -216,7 +216,7 @@ impl<H: Head, B: Own<Front = H>> MessageOf<H, B> {
                 packets,
                 padding,
                 ..
-            } => (left_behind(*body, packets.as_slice()) % 8, *padding),
+            } => (left_after(*body, packets.as_slice()) % 8, *padding),
             Content::Kept { .. } => (0, 0),
         }
     }
@@ -324,7 +324,7 @@ pub(crate) fn bytes_in<H: Head, B: Own<Front = H>>(content: &Content<H, B, H::Pa
 {
     let bits = match content {
         Content::Typed { body, packets, .. } => {
-            MOST_BITS - left_behind(*body, packets.as_slice()) / 8 * 8
+            MOST_BITS - left_after(*body, packets.as_slice()) / 8 * 8
         }
         Content::Kept { bits, .. } => 18 + bits.len(),
     };
@@ -356,7 +356,7 @@ fn bits_left<H: Head, B: Own<Front = H>>(body: B, packets: &[H::Packet]) -> Opti
 }
 
 /// The same of packets that fit.
-fn left_behind<H: Head, B: Own<Front = H>>(body: B, packets: &[H::Packet]) -> usize
+fn left_after<H: Head, B: Own<Front = H>>(body: B, packets: &[H::Packet]) -> usize
     requires { all_bits H.Packet.WAY B.own H.Packet.form body packets.now ≤ 8184 }
     ensures { all_bits H.Packet.WAY B.own H.Packet.form body packets.now + result ≡ 8184 }
 {

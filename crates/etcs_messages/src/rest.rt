@@ -11,7 +11,7 @@ ghost use Rattle.etcs_rows.specs.declared.frames.Carrier.TheVariants.{Message};
 ghost use Rattle.etcs_packets.specs.PacketValues.{PacketValue};
 ghost use Rattle.etcs_sequence.specs.AtOnce.{RunFirst};
 ghost use Rattle.etcs_messages.specs.Messages.{MessageLanguage};
-ghost use Rattle.etcs_messages.specs.Lefts.{stands_at, behind_packets, behind_front, Left, next_var, MayAsk, HoldsIn, Follows, Leaps};
+ghost use Rattle.etcs_messages.specs.Lefts.{stands_at, after_packets, beyond_front, Left, next_var, MayAsk, HoldsIn, Follows, Leaps};
 ghost use Rattle.etcs_messages.specs.laws.RestLaws.{rest_regular, rest_begins, rest_ended, follows_none, follows_along};
 
 use crate::kind::{Head, Own};
@@ -59,30 +59,30 @@ impl<H: Head, B: Own<Front = H>> Model for MessageRest<H, B> {
 }
 
 /// What comes where this many bits of a phase are left.
-fn behind_bits(left: usize, phase: Phase) -> Phase
+fn after_bits(left: usize, phase: Phase) -> Phase
     ensures { result ≡ if nat_lt 0 left then phase else Phase.Whole }
 {
     if left > 0 { phase } else { Phase::Whole }
 }
 
 /// What comes after a variable of the packets.
-fn behind_packets(left: &PacketsState) -> Phase
-    ensures { result ≡ behind_packets left.now }
+fn after_packets(left: &PacketsState) -> Phase
+    ensures { result ≡ after_packets left.now }
 {
     match &left.stage {
-        Stage::Closed => behind_bits(left.room, Phase::Padding(left.room)),
+        Stage::Closed => after_bits(left.room, Phase::Padding(left.room)),
         _ => Phase::Packets,
     }
 }
 
 /// What comes next at this place among the variables before the packets, which are this many.
-fn behind_front(count: usize, at: usize, left: &PacketsState) -> Phase
-    ensures { result ≡ behind_front count at left.now }
+fn beyond_front(count: usize, at: usize, left: &PacketsState) -> Phase
+    ensures { result ≡ beyond_front count at left.now }
 {
     if at < count {
         Phase::Front(at)
     } else {
-        behind_packets(left)
+        after_packets(left)
     }
 }
 
@@ -141,7 +141,7 @@ impl<H: Head, B: Own<Front = H>> MessageRest<H, B> {
             Some(count) => count,
             None => unreachable!(),
         };
-        let next = behind_front(count, at + 1, &self.packets.left);
+        let next = beyond_front(count, at + 1, &self.packets.left);
         self.front.push(number);
         self.phase = next;
     }
@@ -157,7 +157,7 @@ impl<H: Head, B: Own<Front = H>> MessageRest<H, B> {
         self.phase = Phase::Whole;
         let packets = &mut self.packets;
         packets.pass(var, number)?;
-        self.phase = behind_packets(&packets.left);
+        self.phase = after_packets(&packets.left);
         Ok(())
     }
 
@@ -189,7 +189,7 @@ impl<H: Head, B: Own<Front = H>> MessageRest<H, B> {
         self.phase = Phase::Whole;
         let packets = &mut self.packets;
         packets.resume(store, left);
-        self.phase = behind_packets(&packets.left);
+        self.phase = after_packets(&packets.left);
     }
 
     /// Takes variables of the packets together where a piece has such, and says how many bits they are.
@@ -206,7 +206,7 @@ impl<H: Head, B: Own<Front = H>> MessageRest<H, B> {
         self.phase = Phase::Whole;
         let packets = &mut self.packets;
         let leapt = packets.leap(piece, at)?;
-        self.phase = behind_packets(&packets.left);
+        self.phase = after_packets(&packets.left);
         Ok(leapt)
     }
 
@@ -222,7 +222,7 @@ impl<H: Head, B: Own<Front = H>> MessageRest<H, B> {
         let packets = &mut self.packets;
         packets.store.bits(slice)?;
         let wanted = left - slice.len();
-        self.phase = behind_bits(wanted, Phase::Data(wanted));
+        self.phase = after_bits(wanted, Phase::Data(wanted));
         Ok(())
     }
 
@@ -267,7 +267,7 @@ impl<H: Head, B: Own<Front = H>> MessageRest<H, B> {
     {
         self.padding = (self.padding << count) | number as u8;
         let wanted = left - count;
-        self.phase = behind_bits(wanted, Phase::Padding(wanted));
+        self.phase = after_bits(wanted, Phase::Padding(wanted));
     }
 
     /// Takes the bits of PADDING that a piece has, of which `left` are wanted, and says how many it was.

@@ -44,19 +44,19 @@ none_yet old count = rw (drop_all count (take count old) (omega (arith, length-t
 -- the digits of one byte more, before the others
 one_more : (xs rest text new : List ℕ) (k : ℕ) → k < length xs → drop (2 * (k + 1)) text ≡ encode_upper (drop (k + 1) xs) ++ rest → drop (2 * k) new ≡ encode_upper (slice_index xs k ∷ []) ++ drop (2 * k + 2) text → drop (2 * k) new ≡ encode_upper (drop k xs) ++ rest
 unfolding encode_with
-one_more xs rest text new k inside behind written =
+one_more xs rest text new k inside beyond written =
     let e : 2 * k + 2 ≡ 2 * (k + 1) = omega arith in
-    rw (written, encode_with-drop upper_digits xs k inside, e, behind) refl
+    rw (written, encode_with-drop upper_digits xs k inside, e, beyond) refl
 
 pub one_before : (old text new : List ℕ) (count left : ℕ) → 0 < left → left ≤ count → 2 * count ≤ length old → take left text ≡ take left old → drop (2 * left) text ≡ encode_upper (drop left (take count old)) ++ drop (2 * count) old → drop (2 * (left - 1)) new ≡ encode_upper (slice_index text (left - 1) ∷ []) ++ drop (2 * (left - 1) + 2) text → take (2 * (left - 1)) new ≡ take (2 * (left - 1)) text → (left - 1 ≤ count) × (take (left - 1) new ≡ take (left - 1) old) × (drop (2 * (left - 1)) new ≡ encode_upper (drop (left - 1) (take count old)) ++ drop (2 * count) old)
-one_before old text new count left some most room front behind written before =
+one_before old text new count left some most room front beyond written before =
     let k = left - 1 in
     let e : left ≡ k + 1 = omega arith in
     let shorter = λ (n : ℕ) (xs ys : List ℕ) (h : k ≤ n) (same : take n xs ≡ take n ys). sym (take-take k n xs h) ∙ ap (take k) same ∙ take-take k n ys h in
     let byte : slice_index text k ≡ slice_index (take count old) k = sym (get_or-take left text k 0 (omega arith)) ∙ ap (λ (xs : List ℕ). slice_index xs k) front ∙ get_or-take left old k 0 (omega arith) ∙ sym (get_or-take count old k 0 (omega arith)) in (
       omega arith,
       shorter (2 * k) new text (omega arith) before ∙ shorter left text old (omega arith) front,
-      one_more (take count old) (drop (2 * count) old) text new k (omega (arith, length-take count old)) (rw e at behind) (rw byte at written),
+      one_more (take count old) (drop (2 * count) old) text new k (omega (arith, length-take count old)) (rw e at beyond) (rw byte at written),
     )
 
 -- one place is left after the digits
@@ -75,11 +75,11 @@ line_is old items slice new start count len n all same_length end filled cut wri
     let left : start + 2 * count + 1 - n ≡ count + 1 = omega arith in
     let items_are : items ≡ old ++ room = filled ∙ ap (λ (xs : List ℕ). xs ++ replicate (start + 2 * count + 1 - n) 10) (take_all (start + 2 * count + 1) old (omega arith)) ∙ ap (λ (n : ℕ). old ++ replicate n 10) left in
     let front : take start items ≡ take start old = ap (take start) items_are ∙ take-append-le start old room (omega arith) in
-    let behind : drop start items ≡ bytes ++ room = ap (drop start) items_are ∙ drop-append-le start old room (omega arith) in
+    let beyond : drop start items ≡ bytes ++ room = ap (drop start) items_are ∙ drop-append-le start old room (omega arith) in
     let last : drop (2 * count) (bytes ++ room) ≡ 10 ∷ [] = last_left bytes count few in
-    let new_is : new ≡ encode_upper bytes ++ 10 ∷ [] = rw (cut, behind, take_at bytes room count few, last) at written in
+    let new_is : new ≡ encode_upper bytes ++ 10 ∷ [] = rw (cut, beyond, take_at bytes room count few, last) at written in
     let long : length new ≡ 2 * count + 1 = omega (arith, ap (λ (xs : List ℕ). length xs) new_is, length-append (encode_upper bytes) (10 ∷ []), length-encode_with upper_digits bytes, few) in
-    let none : drop (length new) (drop start items) ≡ [] = drop_all (length new) (drop start items) (omega (arith, long, ap (λ (xs : List ℕ). length xs) behind, length-append bytes room, length-replicate {A = ℕ} (count + 1) 10, few)) in
+    let none : drop (length new) (drop start items) ≡ [] = drop_all (length new) (drop start items) (omega (arith, long, ap (λ (xs : List ℕ). length xs) beyond, length-append bytes room, length-replicate {A = ℕ} (count + 1) 10, few)) in
     let text : List ℕ = take start items ++ new in
     let same : take start items ++ (new ++ drop (length new) (drop start items)) ≡ text = ap (λ (xs : List ℕ). take start items ++ (new ++ xs)) none ∙ ap (λ (xs : List ℕ). take start items ++ xs) (append-nil new) in
     let whole : length text ≡ len = length-append (take start items) new ∙ omega (arith, long, ap (λ (xs : List ℕ). length xs) front, length-take-le start old (omega arith), end) in

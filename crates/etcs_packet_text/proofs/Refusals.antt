@@ -20,6 +20,6 @@ on_error (Ok x) old mid new more e p = tt
 on_error (Err f) old mid new more e p = begins_more old mid new more e p
 
 -- a text that was appended, before what follows it
-pub behind_ok : {T E : Type 0} (r : Result T E) (old a one rest new : List ℕ) → one ≡ old ++ a → OnOk r (new ≡ one ++ rest) → OnOk r (new ≡ old ++ (a ++ rest))
-behind_ok (Ok x) old a one rest new e h = h ∙ ap (λ (z : List ℕ). z ++ rest) e ∙ append_assoc old a rest
-behind_ok (Err f) old a one rest new e h = tt
+pub after_ok : {T E : Type 0} (r : Result T E) (old a one rest new : List ℕ) → one ≡ old ++ a → OnOk r (new ≡ one ++ rest) → OnOk r (new ≡ old ++ (a ++ rest))
+after_ok (Ok x) old a one rest new e h = h ∙ ap (λ (z : List ℕ). z ++ rest) e ∙ append_assoc old a rest
+after_ok (Err f) old a one rest new e h = tt

@@ -126,9 +126,9 @@ frame_short ToTrack dir bits r h =
     omega (arith, k, variable_short (L_PACKET, bits) h.0)
 
 -- L_PACKET and what follows it
-behind_frame : (way : Way) (dir bits : ℕ) (r : Reading) → AllFit (directed way dir ((L_PACKET, bits) ∷ r)) → (bits < 2 ^ width L_PACKET) × AllFit r
-behind_frame ToTrain dir bits r h = h.1
-behind_frame ToTrack dir bits r h = h
+after_frame : (way : Way) (dir bits : ℕ) (r : Reading) → AllFit (directed way dir ((L_PACKET, bits) ∷ r)) → (bits < 2 ^ width L_PACKET) × AllFit r
+after_frame ToTrain dir bits r h = h.1
+after_frame ToTrack dir bits r h = h
 
 packet_short : (way : Way) (v : PacketValue) → AllFit (reading_to way v) → length (packet_text way v) ≤ 128 * length (spelled (reading_to way v))
 packet_short way (packet.marker n) h =
@@ -141,7 +141,7 @@ packet_short way (packet.typed nid dir r) h =
     let b = bits_are way (packet.typed nid dir r) in
     let f = frame_short way dir bits r h.1 in
     let n = number_line_short nid (small_number NID_PACKET nid h.0) in
-    let rest = behind_frame way dir bits r h.1 in
+    let rest = after_frame way dir bits r h.1 in
     omega (arith, l, b, f, n, frame_wide way, variables_short r rest.1)
 packet_short way (packet.kept nid dir bs) h =
     let bits = frame_bits way + length bs in
@@ -149,7 +149,7 @@ packet_short way (packet.kept nid dir bs) h =
     let b = bits_are way (packet.kept nid dir bs) in
     let f = frame_short way dir bits (kept OTHER_DATA bs) h.1 in
     let n = number_line_short nid (small_number NID_PACKET nid h.0) in
-    let rest = behind_frame way dir bits (kept OTHER_DATA bs) h.1 in
+    let rest = after_frame way dir bits (kept OTHER_DATA bs) h.1 in
     let small : bits < 2 ^ 64 = small_number L_PACKET bits rest.0 in
     let k = line_short (codes "OTHER_DATA") bs (omega (arith, small)) (omega arith) in
     omega (arith, l, b, f, n, frame_wide way, k)
@@ -158,9 +158,9 @@ pub fit_front : (a b : Reading) → AllFit (a ++ b) → AllFit a
 fit_front [] b h = tt
 fit_front (p ∷ a) b h = (h.0, fit_front a b h.1)
 
-pub fit_behind : (a b : Reading) → AllFit (a ++ b) → AllFit b
-fit_behind [] b h = h
-fit_behind (p ∷ a) b h = fit_behind a b h.1
+pub fit_after : (a b : Reading) → AllFit (a ++ b) → AllFit b
+fit_after [] b h = h
+fit_after (p ∷ a) b h = fit_after a b h.1
 
 pub spelled_long : (a b : Reading) → length (spelled (a ++ b)) ≡ length (spelled a) + length (spelled b)
 spelled_long a b = ap length (spelled-append a b) ∙ length-append (spelled a) (spelled b)
@@ -169,7 +169,7 @@ pub packets_short : (way : Way) (vs : List PacketValue) → AllFit (readings_to 
 packets_short way [] h = omega arith
 packets_short way (v ∷ vs) h =
     let first = packet_short way v (fit_front (reading_to way v) (readings_to way vs) h) in
-    let rest = packets_short way vs (fit_behind (reading_to way v) (readings_to way vs) h) in
+    let rest = packets_short way vs (fit_after (reading_to way v) (readings_to way vs) h) in
     let l = length-append (packet_text way v) (packets_text way vs) in
     let b = spelled_long (reading_to way v) (readings_to way vs) in
     omega (arith, first, rest, l, b)
@@ -222,8 +222,8 @@ pair_json_short : (p : Sent) → p.1 < 2 ^ width p.0 → length (compact_text (p
 pair_json_short (v, n) h =
     let same = length-append (escape (name v)) (34 ∷ []) in
     let whole = length-append (escape (name v) ++ 34 ∷ []) (44 ∷ (compact_text (number_tree v n) ++ 93 ∷ [])) in
-    let behind = length-append (compact_text (number_tree v n)) (93 ∷ []) in
-    omega (arith, same, whole, behind, named_short v n (decimal_short n (small_number v n h)))
+    let beyond = length-append (compact_text (number_tree v n)) (93 ∷ []) in
+    omega (arith, same, whole, beyond, named_short v n (decimal_short n (small_number v n h)))
 
 pair_items_short : (later : Bool) (r : Reading) → AllFit r → length (items_text later (items_of (map pair_tree r))) ≤ 64 * length (spelled r) + 1
 pair_items_short later [] h = omega arith
@@ -268,7 +268,7 @@ packet_items_short way later (v ∷ vs) h =
     let a = length-append (comma_if later) (compact_text (packet_tree way v) ++ rest) in
     let b = length-append (compact_text (packet_tree way v)) rest in
     let first = packet_json_short way v (fit_front (reading_to way v) (readings_to way vs) h) in
-    let more = packet_items_short way true vs (fit_behind (reading_to way v) (readings_to way vs) h) in
+    let more = packet_items_short way true vs (fit_after (reading_to way v) (readings_to way vs) h) in
     omega (arith, a, b, comma_short later, first, more, spelled_long (reading_to way v) (readings_to way vs))
 
 pub packets_json_short : (way : Way) (vs : List PacketValue) → AllFit (readings_to way vs) → length (compact_text (packets_tree way vs)) ≤ 64 * length (spelled (readings_to way vs)) + 2

@@ -29,10 +29,10 @@ abbrev pub fields_text : Way → PacketValue → List ℕ
 fields_text way v = fields_front (sent_dir way v) ++ (compact_text (pairs_tree (variables_of v)) ++ (codes ",\"nid\":" ++ (decimal (nid_of v) ++ codes "}")))
 
 -- what is in a packet that is kept as bits after these
-abbrev pub data_behind : Option ℕ → List ℕ
-data_behind None = codes "\",\"nid\":"
-data_behind (Some dir) = codes "\",\"dir\":" ++ (decimal dir ++ codes ",\"nid\":")
+abbrev pub data_after : Option ℕ → List ℕ
+data_after None = codes "\",\"nid\":"
+data_after (Some dir) = codes "\",\"dir\":" ++ (decimal dir ++ codes ",\"nid\":")
 
 -- a packet that is kept as bits
 abbrev pub data_text : Way → PacketValue → List Bool → List ℕ
-data_text way v b = codes "{\"data\":\"" ++ (map bit_digit b ++ (data_behind (sent_dir way v) ++ (decimal (nid_of v) ++ codes "}")))
+data_text way v b = codes "{\"data\":\"" ++ (map bit_digit b ++ (data_after (sent_dir way v) ++ (decimal (nid_of v) ++ codes "}")))

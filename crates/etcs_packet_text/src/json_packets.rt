@@ -3,7 +3,7 @@
 ghost use Rattle.std.specs.Prelude.{◌≡◌, ◌++◌, OnErr, OnOk, false, map};
 ghost use Rattle.serde_json.specs.Written.{comma_if, compact_text};
 ghost use Rattle.etcs_packet_text.specs.Fronts.{Begins};
-ghost use Rattle.etcs_packet_text.specs.JsonParts.{data_behind, data_text, fields_front, fields_text, sent_dir};
+ghost use Rattle.etcs_packet_text.specs.JsonParts.{data_after, data_text, fields_front, fields_text, sent_dir};
 ghost use Rattle.etcs_packet_text.specs.Trees.{packet_tree, packets_tree};
 
 use crate::json_page::JsonPage;
@@ -46,8 +46,8 @@ fn write_sent<P: AnyPacket>(packet: &P, page: &mut JsonPage) -> Result<(), Alloc
 }
 
 /// Appends what is after a packet's bits, up to its number.
-fn write_behind<P: AnyPacket>(packet: &P, page: &mut JsonPage) -> Result<(), AllocError>
-    ensures ok { OnOk result (page.new.0 ≡ page.old.0 ++ data_behind (sent_dir P.WAY (P.form packet.now).value)) }
+fn write_after<P: AnyPacket>(packet: &P, page: &mut JsonPage) -> Result<(), AllocError>
+    ensures ok { OnOk result (page.new.0 ≡ page.old.0 ++ data_after (sent_dir P.WAY (P.form packet.now).value)) }
     ensures err { OnErr result (Begins page.old.0 page.new.0) }
 {
     match sent_dir(packet) {
@@ -67,7 +67,7 @@ fn write_kept<P: AnyPacket>(
 {
     page.put(b"{\"data\":\"")?;
     page.put_slice(bits)?;
-    write_behind(packet, page)?;
+    write_after(packet, page)?;
     page.put_decimal_and(u64::from(packet.nid()), b'}')
 }
 

@@ -143,7 +143,7 @@ impl VarSink for JsonPage {
 
     ghost with_both = { with_pairs_both };
 
-    ghost failed_behind = { with_pairs_begins };
+    ghost failed_after = { with_pairs_begins };
 
     #[inline(always)]
     fn send(&mut self, sent: &[(Var, u64)]) -> Result<(), AllocError> {

@@ -337,7 +337,7 @@ impl VarSink for Page {
 
     ghost with_both = { with_lines_both };
 
-    ghost failed_behind = { with_lines_begins };
+    ghost failed_after = { with_lines_begins };
 
     #[inline(always)]
     fn send(&mut self, sent: &[(Var, u64)]) -> Result<(), AllocError> {

@@ -23,13 +23,13 @@ module _ {P : Type 0} (way : Way) (value : P → PacketValue) where
   pub packets_room : (ps : List P) (i : ℕ) (p : P) → i < length ps → p ≡ get_or ps i p → length (spelled (readings_to way (map value (take i ps)))) + bits_to way (value p) ≤ length (spelled (readings_to way (map value ps)))
   packets_room ps i p h e =
       let before = readings_to way (map value (take i ps)) in
-      let behind = readings_to way (map value (drop (i + 1) ps)) in
+      let beyond = readings_to way (map value (drop (i + 1) ps)) in
       let one = reading_to way (value p) in
-      let cut : readings_to way (map value ps) ≡ (before ++ one) ++ behind =
+      let cut : readings_to way (map value ps) ≡ (before ++ one) ++ beyond =
       ap (λ (qs : List P). readings_to way (map value qs)) (sym (take-append-drop (i + 1) ps))
       ∙ ap (readings_to way) (map-append value (take (i + 1) ps) (drop (i + 1) ps))
       ∙ flat_map-append (reading_to way) (map value (take (i + 1) ps)) (map value (drop (i + 1) ps))
-      ∙ ap (λ (r : Reading). r ++ behind) (packets_more ps i p h e) in
-      let all : length (spelled (readings_to way (map value ps))) ≡ length (spelled before) + length (spelled one) + length (spelled behind) =
-      ap (λ (r : Reading). length (spelled r)) cut ∙ length-spelled (before ++ one) behind ∙ ap (λ (k : ℕ). k + length (spelled behind)) (length-spelled before one) in
+      ∙ ap (λ (r : Reading). r ++ beyond) (packets_more ps i p h e) in
+      let all : length (spelled (readings_to way (map value ps))) ≡ length (spelled before) + length (spelled one) + length (spelled beyond) =
+      ap (λ (r : Reading). length (spelled r)) cut ∙ length-spelled (before ++ one) beyond ∙ ap (λ (k : ℕ). k + length (spelled beyond)) (length-spelled before one) in
       omega (arith, all, bits_are way (value p))

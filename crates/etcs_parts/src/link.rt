@@ -149,15 +149,15 @@ impl Part for Link {
     #[inline(always)]
     fn take<L: Numbers>(_alloc: Global, numbers: &mut L) -> Result<Option<Link>, AllocError> {
         let (d_link, far) = taken!(numbers.run((Var::D_LINK, Flag(Var::Q_NEWCOUNTRY))));
-        let behind = (
+        let beyond = (
             Flag(Var::Q_LINKORIENTATION),
             (Var::Q_LINKREACTION, Var::Q_LOCACC),
         );
         let (nid_c, (nid_bg, (q_linkorientation, (q_linkreaction, q_locacc)))) = if far {
-            let (country, rest) = taken!(numbers.run((Var::NID_C, (Var::NID_BG, behind))));
+            let (country, rest) = taken!(numbers.run((Var::NID_C, (Var::NID_BG, beyond))));
             (Some(country as u16), rest)
         } else {
-            (None, taken!(numbers.run((Var::NID_BG, behind))))
+            (None, taken!(numbers.run((Var::NID_BG, beyond))))
         };
         Ok(Some(Link {
             d_link: d_link as u16,

@@ -94,7 +94,7 @@ impl Section {
         ensures none { IfNone result (from end_format (L.left numbers.old) ≡ None) }
     {
         let (length, timed) = numbers.run((Var::L_ENDSECTION, Flag(Var::Q_SECTIONTIMER)))?;
-        let timer = timer_behind(timed, numbers)?;
+        let timer = timer_after(timed, numbers)?;
         Some(Section {
             length: length as u16,
             timer,
@@ -130,7 +130,7 @@ fn send_timer<S: VarSink>(timer: Option<(u16, u16)>, out: &mut S) -> Result<(), 
 
 /// The timer that the numbers begin with, where its flag is set.
 #[inline(always)]
-fn timer_behind<L: Numbers>(timed: bool, numbers: &mut L) -> Option<Option<(u16, u16)>>
+fn timer_after<L: Numbers>(timed: bool, numbers: &mut L) -> Option<Option<(u16, u16)>>
     ensures part { IfSome result (λ t. Is timer_format t) }
     ensures from { IfSome result (λ t. opened (from times_format) timed (L.left numbers.old) ≡ Some (t, L.left numbers.new)) }
     ensures none { IfNone result (opened (from times_format) timed (L.left numbers.old) ≡ None) }
@@ -177,7 +177,7 @@ impl Part for Section {
 
     fn take<L: Numbers>(_alloc: Global, numbers: &mut L) -> Result<Option<Section>, AllocError> {
         let (length, timed) = taken!(numbers.run((Var::L_SECTION, Flag(Var::Q_SECTIONTIMER))));
-        let timer = taken!(timer_behind(timed, numbers));
+        let timer = taken!(timer_after(timed, numbers));
         Ok(Some(Section {
             length: length as u16,
             timer,

@@ -41,8 +41,8 @@ fields_tested (v ∷ vs) x rest bits e lt fits =
     )
 
 -- after its number
-pub fields_behind : (v : Var) (vs : List Var) (x : Var) (number : ℕ) → first_of (v ∷ vs) ≡ Some x → Starts (ReadsFields (v ∷ vs)) x 0 number → Residual (ReadsFields (v ∷ vs)) ((x, number) ∷ []) (ReadsFields vs)
-fields_behind v vs x number e (n, r, l, q) =
+pub fields_after : (v : Var) (vs : List Var) (x : Var) (number : ℕ) → first_of (v ∷ vs) ≡ Some x → Starts (ReadsFields (v ∷ vs)) x 0 number → Residual (ReadsFields (v ∷ vs)) ((x, number) ∷ []) (ReadsFields vs)
+fields_after v vs x number e (n, r, l, q) =
     let same : v ≡ x = cc in
     let whole : n ≡ number = (let one : n / 2 ^ 0 ≡ n = omega arith in sym one ∙ q) in
     let l' : ReadsFields (x ∷ vs) ((x, number) ∷ r) = rw (same, whole) at l in

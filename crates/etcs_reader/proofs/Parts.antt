@@ -138,8 +138,8 @@ passed_one F x n number taken b le f e =
       bits = rw none (append-nil (num (width x) n ++ []) ∙ append-nil (num (width x) n) ∙ e);
     }
 
-pub goes_behind : (L R : Reading → Type 0) (x : Var) (number rest : ℕ) → rest ≡ 0 → Residual L ((x, number) ∷ []) R → Starts L x rest number → Goes R
-goes_behind L R x number rest none residual (n, r, l, e) =
+pub goes_after : (L R : Reading → Type 0) (x : Var) (number rest : ℕ) → rest ≡ 0 → Residual L ((x, number) ∷ []) R → Starts L x rest number → Goes R
+goes_after L R x number rest none residual (n, r, l, e) =
     let one : n / 2 ^ rest ≡ n = ap (λ j. n / 2 ^ j) none ∙ omega arith in
     let same : n ≡ number = sym one ∙ e in
     (r, residual.to r (rw same at l))

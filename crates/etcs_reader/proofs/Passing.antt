@@ -20,12 +20,12 @@ use Rattle.etcs_reader.specs.Feeders.{FedFrom}
 use Rattle.etcs_reader.proofs.Parts.{unfinished_owner, unfinished_ended}
 
 -- what is passed after what was
-pub passed_along : (F G H : Reading → Type 0) → ((p q : Reading) → F p → G q → H (p ++ q)) → (b front behind xs : List Bool) → Passed F b front → Passed G (front ++ xs) behind → Passed H (b ++ xs) behind
-passed_along F G H both b front behind xs f g = record {
+pub passed_along : (F G H : Reading → Type 0) → ((p q : Reading) → F p → G q → H (p ++ q)) → (b front beyond xs : List Bool) → Passed F b front → Passed G (front ++ xs) beyond → Passed H (b ++ xs) beyond
+passed_along F G H both b front beyond xs f g = record {
   whole = f.whole ++ g.whole;
   follows = both f.whole g.whole f.follows g.follows;
-  bits = ap (λ (t : List Bool). t ++ behind) (spelled-append f.whole g.whole)
-      ∙ append_assoc (spelled f.whole) (spelled g.whole) behind
+  bits = ap (λ (t : List Bool). t ++ beyond) (spelled-append f.whole g.whole)
+      ∙ append_assoc (spelled f.whole) (spelled g.whole) beyond
       ∙ ap (λ (t : List Bool). spelled f.whole ++ t) g.bits
       ∙ sym (append_assoc (spelled f.whole) front xs)
       ∙ ap (λ (t : List Bool). t ++ xs) f.bits;
@@ -78,13 +78,13 @@ module _ (L : Reading → Type 0) (regular : Regular L) (R : Reading → Type 0)
 -- ---- Where s is, of all bits b, and m after them with the bits front of the next variable.
 
 module _ {R : Type 0} (left : R → Reading → Type 0) (regular : (s : R) → Regular (left s)) (follows : R → Reading → R → Type 0) (residual : (s t : R) (p : Reading) → follows s p t → Residual (left s) p (left t)) (both : (s t u : R) (p q : Reading) → follows s p t → follows t q u → follows s (p ++ q) u) (s m : R) (b front : List Bool) (f : Passed (λ p. follows s p m) b front) (xs : List Bool) (n : ℕ) where
-  along : (t : R) (behind : List Bool) → Passed (λ p. follows m p t) (front ++ take n xs) behind → Passed (λ p. follows s p t) (b ++ take n xs) behind
-  along t behind g = passed_along (λ p. follows s p m) (λ p. follows m p t) (λ p. follows s p t) (both s m t) b front behind (take n xs) f g
+  along : (t : R) (beyond : List Bool) → Passed (λ p. follows m p t) (front ++ take n xs) beyond → Passed (λ p. follows s p t) (b ++ take n xs) beyond
+  along t beyond g = passed_along (λ p. follows s p m) (λ p. follows m p t) (λ p. follows s p t) (both s m t) b front beyond (take n xs) f g
 
-  pub takes_behind : (next : R → Option Var) (t : R) (behind : List Bool) → Takes R left next follows m front xs n t behind → Takes R left next follows s b xs n t behind
-  takes_behind next t behind h = record {
+  pub takes_after : (next : R → Option Var) (t : R) (beyond : List Bool) → Takes R left next follows m front xs n t beyond → Takes R left next follows s b xs n t beyond
+  takes_after next t beyond h = record {
     within = h.within;
-    passed = along t behind h.passed;
+    passed = along t beyond h.passed;
     done = λ e. passed_language (left s) (regular s) (left m) (λ p. follows s p m) (residual s m) b front f (take n xs) (h.done e);
     more = λ x e.
         let (all, o) = h.more x e in
@@ -92,18 +92,18 @@ module _ {R : Type 0} (left : R → Reading → Type 0) (regular : (s : R) → R
         (all, passed_owners (left s) (regular s) (left m) (λ p. follows s p m) (residual s m) b front f (take n xs) (r, l) x o);
   }
 
-  pub refuses_behind : (x : Var) (t : R) (behind : List Bool) → RefusesAt R left follows m front xs n x t behind → RefusesAt R left follows s b xs n x t behind
-  refuses_behind x t behind h =
+  pub refuses_after : (x : Var) (t : R) (beyond : List Bool) → RefusesAt R left follows m front xs n x t beyond → RefusesAt R left follows s b xs n x t beyond
+  refuses_after x t beyond h =
       let (r, c, l, i) = h.refuses.owned.viable in
       record {
         refuses = passed_refuses (left s) (regular s) (left m) (λ p. follows s p m) (residual s m) b front f (r, l) xs n x h.refuses;
-        passed = along t behind h.passed;
+        passed = along t beyond h.passed;
         short = h.short;
         goes = h.goes;
       }
 
-  pub starves_behind : (fails : R → Type 0) → StarvesAt R left follows fails m front xs n → StarvesAt R left follows fails s b xs n
-  starves_behind fails h = record {
+  pub starves_after : (fails : R → Type 0) → StarvesAt R left follows fails m front xs n → StarvesAt R left follows fails s b xs n
+  starves_after fails h = record {
     within = h.within;
     viable = passed_viable (left s) (regular s) (left m) (λ p. follows s p m) (residual s m) b front f (take (n + 1) xs) h.viable;
     place = h.place;
@@ -122,13 +122,13 @@ pub front_of : (b xs : List Bool) (at n : ℕ) → (b ++ take at xs) ++ take n (
 front_of b xs at n = append_assoc b (take at xs) (take n (drop at xs)) ∙ ap (λ (t : List Bool). b ++ t) (sym (take-add at n xs))
 
 module _ {R : Type 0} (left : R → Reading → Type 0) (follows : R → Reading → R → Type 0) (s : R) (b xs : List Bool) (at n : ℕ) where
-  pub refuses_further : (x : Var) (t : R) (behind : List Bool) → at ≤ length xs → RefusesAt R left follows s (b ++ take at xs) (drop at xs) n x t behind → RefusesAt R left follows s b xs (at + n) x t behind
-  refuses_further x t behind le h =
+  pub refuses_further : (x : Var) (t : R) (beyond : List Bool) → at ≤ length xs → RefusesAt R left follows s (b ++ take at xs) (drop at xs) n x t beyond → RefusesAt R left follows s b xs (at + n) x t beyond
+  refuses_further x t beyond le h =
       let same : (b ++ take at xs) ++ drop at xs ≡ b ++ xs = append_assoc b (take at xs) (drop at xs) ∙ ap (λ (u : List Bool). b ++ u) (take-append-drop at xs) in
       let place : length (b ++ take at xs) + n ≡ length b + (at + n) = omega (arith, length-append b (take at xs), length-take at xs) in
       record {
         refuses = rw (same, place) at h.refuses;
-        passed = subst (λ (u : List Bool). Passed (λ p. follows s p t) u behind) (front_of b xs at n) h.passed;
+        passed = subst (λ (u : List Bool). Passed (λ p. follows s p t) u beyond) (front_of b xs at n) h.passed;
         short = h.short;
         goes = h.goes;
       }
@@ -149,13 +149,13 @@ module _ {R : Type 0} (left : R → Reading → Type 0) (follows : R → Reading
       }
 
 -- why no more is taken, of all bits
-pub halts_behind : {R : Type 0} (left : R → Reading → Type 0) → ((s : R) → Regular (left s)) → (follows : R → Reading → R → Type 0) → ((s t : R) (p : Reading) → follows s p t → Residual (left s) p (left t)) → ((s t u : R) (p q : Reading) → follows s p t → follows t q u → follows s (p ++ q) u) → (fails : R → Type 0) (s : R) (b : List Bool) (m t : Reader R) (xs : List Bool) (at : ℕ)
+pub halts_after : {R : Type 0} (left : R → Reading → Type 0) → ((s : R) → Regular (left s)) → (follows : R → Reading → R → Type 0) → ((s t : R) (p : Reading) → follows s p t → Residual (left s) p (left t)) → ((s t u : R) (p q : Reading) → follows s p t → follows t q u → follows s (p ++ q) u) → (fails : R → Type 0) (s : R) (b : List Bool) (m t : Reader R) (xs : List Bool) (at : ℕ)
     → Passed (λ p. follows s p m.rest) (b ++ take at xs) (part_of m) → at ≤ length xs → (h : Halt) → Halts R left follows fails m xs at h t → HaltsIn R left follows fails s b xs h t
-halts_behind {R} left regular follows residual both fails s b m t xs at f le (Refused i x) (n, i_is, h) =
-    let l = refuses_behind left regular follows residual both s m.rest (b ++ take at xs) (part_of m) f (drop at xs) n x t.rest (part_of t) h in
+halts_after {R} left regular follows residual both fails s b m t xs at f le (Refused i x) (n, i_is, h) =
+    let l = refuses_after left regular follows residual both s m.rest (b ++ take at xs) (part_of m) f (drop at xs) n x t.rest (part_of t) h in
     subst (λ k. RefusesAt R left follows s b xs k x t.rest (part_of t)) (sym i_is) (refuses_further left follows s b xs at n x t.rest (part_of t) le l)
-halts_behind {R} left regular follows residual both fails s b m t xs at f le (Memory i) (n, i_is, h) =
-    let l = starves_behind left regular follows residual both s m.rest (b ++ take at xs) (part_of m) f (drop at xs) n fails h in
+halts_after {R} left regular follows residual both fails s b m t xs at f le (Memory i) (n, i_is, h) =
+    let l = starves_after left regular follows residual both s m.rest (b ++ take at xs) (part_of m) f (drop at xs) n fails h in
     subst (λ k. StarvesAt R left follows fails s b xs k) (sym i_is) (starves_further left follows s b xs at n fails le l)
 
 pub halts_within : {R : Type 0} (left : R → Reading → Type 0) (follows : R → Reading → R → Type 0) (fails : R → Type 0) (m t : Reader R) (xs : List Bool) (at : ℕ) → at ≤ length xs → (h : Halt) → Halts R left follows fails m xs at h t → place_of h ≤ length xs
@@ -177,10 +177,10 @@ takes_all {R} left regular next begins_with ended follows residual s b t xs n f 
 }
 
 -- what a feeder answers, of all bits
-pub feeds_behind : {R : Type 0} (left : R → Reading → Type 0) → ((s : R) → Regular (left s)) → (next : R → Option Var) (follows : R → Reading → R → Type 0) → ((s t : R) (p : Reading) → follows s p t → Residual (left s) p (left t)) → ((s t u : R) (p q : Reading) → follows s p t → follows t q u → follows s (p ++ q) u) → (fails : R → Type 0) → FedFrom R left next follows fails
-feeds_behind {R} left regular next follows residual both fails start b old xs (Ok n) new f (stop, count, h) =
-    (stop, count, takes_behind left regular follows residual both start old.rest b old.part f xs n next new.rest new.part h)
-feeds_behind {R} left regular next follows residual both fails start b old xs (Err (stop.Refused i x)) new f (stop, count, n, i_is, h) =
-    (stop, count, n, i_is, refuses_behind left regular follows residual both start old.rest b old.part f xs n x new.rest new.part h)
-feeds_behind {R} left regular next follows residual both fails start b old xs (Err stop.Memory) new f (stop, n, count, h) =
-    (stop, n, count, starves_behind left regular follows residual both start old.rest b old.part f xs n fails h)
+pub feeds_after : {R : Type 0} (left : R → Reading → Type 0) → ((s : R) → Regular (left s)) → (next : R → Option Var) (follows : R → Reading → R → Type 0) → ((s t : R) (p : Reading) → follows s p t → Residual (left s) p (left t)) → ((s t u : R) (p q : Reading) → follows s p t → follows t q u → follows s (p ++ q) u) → (fails : R → Type 0) → FedFrom R left next follows fails
+feeds_after {R} left regular next follows residual both fails start b old xs (Ok n) new f (stop, count, h) =
+    (stop, count, takes_after left regular follows residual both start old.rest b old.part f xs n next new.rest new.part h)
+feeds_after {R} left regular next follows residual both fails start b old xs (Err (stop.Refused i x)) new f (stop, count, n, i_is, h) =
+    (stop, count, n, i_is, refuses_after left regular follows residual both start old.rest b old.part f xs n x new.rest new.part h)
+feeds_after {R} left regular next follows residual both fails start b old xs (Err stop.Memory) new f (stop, n, count, h) =
+    (stop, n, count, starves_after left regular follows residual both start old.rest b old.part f xs n fails h)

@@ -94,7 +94,7 @@ impl VarSink for Trace {
 
     ghost with_both = { pairs_both };
 
-    ghost failed_behind = { λ s a t h. h };
+    ghost failed_after = { λ s a t h. h };
 
     fn send(&mut self, sent: &[(Var, u64)]) -> Result<(), AllocError> {
         self.fields.extend_from_slice(sent)

@@ -116,7 +116,7 @@ impl<'a> Table<'a> {
     }
 
     /// Writes the line of the next variable, after which these items of its row come.
-    fn line(&mut self, depth: usize, behind: &[RowItem]) {
+    fn line(&mut self, depth: usize, beyond: &[RowItem]) {
         let Some((var, number)) = self.field() else {
             return;
         };
@@ -127,7 +127,7 @@ impl<'a> Table<'a> {
         self.sheet.clear();
         write_number(var, number, &mut self.sheet.value);
         write_meaning(var, number, self.scale, &mut self.sheet.meaning);
-        self.write_effect(var, number, behind);
+        self.write_effect(var, number, beyond);
         self.sheet.line(depth, bits, var, false);
         if var == Var::L_TEXT {
             self.text(depth.saturating_add(1), number);
@@ -155,10 +155,10 @@ impl<'a> Table<'a> {
     }
 
     /// Appends what a number means for what follows it.
-    fn write_effect(&mut self, var: Var, number: u64, behind: &[RowItem]) {
+    fn write_effect(&mut self, var: Var, number: u64, beyond: &[RowItem]) {
         let next = self.next();
         let out = &mut self.sheet.meaning;
-        match (var, behind.first()) {
+        match (var, beyond.first()) {
             (Var::L_PACKET, _) => write_end("packet", self.start, number, out),
             (Var::L_MESSAGE, _) => write_end("message", 0, number.saturating_mul(8), out),
             (Var::NID_MESSAGE, _) => out.push(message_name(number).unwrap_or("")),
@@ -168,7 +168,7 @@ impl<'a> Table<'a> {
                 1 => out.push("1 entry follows"),
                 _ => write!(out, "{number} entries follow"),
             },
-            (_, Some(RowItem::When(_, _))) if enters(behind, number) => {
+            (_, Some(RowItem::When(_, _))) if enters(beyond, number) => {
                 if let Some(next) = next {
                     let comma = if out.as_str().is_empty() { "" } else { ", " };
                     write!(out, "{comma}{next} is next");

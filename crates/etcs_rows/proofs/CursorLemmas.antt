@@ -20,9 +20,9 @@ pub leave_again : (old : Cursor) (stack ps : List Pending) (top next : Pending) 
 leave_again old stack ps top next ended e f times group items before = rw (ended, e, f, group, items, before, times) refl
 
 -- a group that does not
-pub leave_behind : (old : Cursor) (stack : List Pending) (top : Pending) → old.items.now ≡ [] → reverse old.pending.items ≡ top ∷ reverse stack
+pub leave_after : (old : Cursor) (stack : List Pending) (top : Pending) → old.items.now ≡ [] → reverse old.pending.items ≡ top ∷ reverse stack
     → top.times ≡ 0 → left_of old ≡ onto top.before (layout top.items.now) (waiting (reverse stack))
-leave_behind old stack top ended e times = rw (ended, e, times) refl
+leave_after old stack top ended e times = rw (ended, e, times) refl
 
 pub enter_guarded : (old : Cursor) (stack : List Pending) (g : Guard) (group rest : Layout) (next : Pending) → layout old.items.now ≡ guarded g group rest → passes g.test old.before ≡ true
     → stack ≡ old.pending.items ++ next ∷ [] → next.times ≡ 0 → layout next.items.now ≡ rest → next.before ≡ old.before → left_of old ≡ onto old.before group (waiting (reverse stack))

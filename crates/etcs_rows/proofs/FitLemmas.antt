@@ -13,7 +13,7 @@ use Rattle.etcs_rows.specs.declared.total.Total.{Total}
 use Rattle.etcs_tables.specs.Layouts.{Layout, whole, layout}
 use Rattle.etcs_rows.specs.Places.{onto, append}
 use Rattle.etcs_rows.specs.Cursors.{waiting, left_of, WaitsNest, KnowsTail}
-use Rattle.etcs_rows.specs.Lengths.{LengthsBy, front, behind, GroupsWithin, FirstWithin, FitsWithin}
+use Rattle.etcs_rows.specs.Lengths.{LengthsBy, front, beyond, GroupsWithin, FirstWithin, FitsWithin}
 use Rattle.etcs_rows.specs.Progressions.{InProgression, IsProgression, AtMost}
 use Rattle.etcs_rows.specs.Totals.{InTotal, AreTotal}
 use Rattle.etcs_rows.specs.Sums.{Plus, SumOf}
@@ -57,8 +57,8 @@ answer_same None P Q same h = tt
 answer_same (Some b) P Q same h = (λ x. same.0 (h.0 x), λ y. h.1 (same.1 y))
 
 -- a part by another name, in front of what follows groups
-pub chosen : (r : Option Bool) (S A G : ℕ → Type 0) (items : List RowItem) (row : Layout) (ps : List Pending) (m : ℕ) → SameSet A G → layout items ≡ behind row → IfSome r (λ b. IsTrue b ↔ Plus S (Plus A (Onward items ps)) m)
-    → IfSome r (λ b. IsTrue b ↔ Plus S (Plus G (Plus (LengthsBy (behind row) 0) (Tails (reverse ps)))) m)
+pub chosen : (r : Option Bool) (S A G : ℕ → Type 0) (items : List RowItem) (row : Layout) (ps : List Pending) (m : ℕ) → SameSet A G → layout items ≡ beyond row → IfSome r (λ b. IsTrue b ↔ Plus S (Plus A (Onward items ps)) m)
+    → IfSome r (λ b. IsTrue b ↔ Plus S (Plus G (Plus (LengthsBy (beyond row) 0) (Tails (reverse ps)))) m)
 chosen r S A G items row ps m same is h =
     let X = Onward items ps in
     let there = answer_same r (Plus S (Plus A X) m) (Plus S (Plus G X) m) (Plus-same S (Plus A X) S (Plus G X) (set_self S) (Plus-same A X G X same (set_self X)) m) h in
@@ -113,11 +113,11 @@ moved_two A S W G B T L hs same =
     (moved A S W (Plus G B) T L hs same)
 
 -- after the innermost group that waits
-pub leave_sum : (g : Progression) (p : Pending) (outer ps : List Pending) (items : List RowItem) → ps ≡ outer ++ p ∷ [] → IsProgression g (LengthsBy (front (layout p.items.now)) p.before) → layout items ≡ behind (layout p.items.now)
+pub leave_sum : (g : Progression) (p : Pending) (outer ps : List Pending) (items : List RowItem) → ps ≡ outer ++ p ∷ [] → IsProgression g (LengthsBy (front (layout p.items.now)) p.before) → layout items ≡ beyond (layout p.items.now)
     → SameSet (Plus (InProgression g) (Onward items outer)) (Tails (reverse ps))
 leave_sum g p outer ps items e hg is =
     let row = layout p.items.now in let n = p.before in let T = Tails (reverse outer) in
-    let F = LengthsBy (front row) n in let B = LengthsBy (behind row) 0 in
+    let F = LengthsBy (front row) n in let B = LengthsBy (beyond row) 0 in
     rw (e, reverse-push, is) (set_along (Plus (InProgression g) (Plus B T)) (Plus F (Plus B T)) (Plus (LengthsBy row n) T)
     (Plus-same (InProgression g) (Plus B T) F (Plus B T) hg (set_self (Plus B T)))
     (set_along (Plus F (Plus B T)) (Plus (Plus F B) T) (Plus (LengthsBy row n) T) (set_back (Plus (Plus F B) T) (Plus F (Plus B T)) (Plus-assoc F B T))
@@ -208,11 +208,11 @@ waiting_split (p ∷ ps) =
     (cross G A I T))
 
 -- what is left, where the groups that wait come first
-pub reaches_sum : (c : Cursor) (again g : Progression) (items : List RowItem) → IsProgression again (Agains (reverse c.pending.items)) → IsProgression g (LengthsBy (front (layout c.items.now)) c.before) → layout items ≡ behind (layout c.items.now)
+pub reaches_sum : (c : Cursor) (again g : Progression) (items : List RowItem) → IsProgression again (Agains (reverse c.pending.items)) → IsProgression g (LengthsBy (front (layout c.items.now)) c.before) → layout items ≡ beyond (layout c.items.now)
     → SameSet (Plus (InProgression again) (Plus (InProgression g) (Onward items c.pending.items))) (LengthsBy (left_of c) 0)
 reaches_sum c again g items ha hg is =
     let row = layout c.items.now in let n = c.before in let ps = reverse c.pending.items in
-    let A = Agains ps in let T = Tails ps in let F = LengthsBy (front row) n in let B = LengthsBy (behind row) 0 in let L = LengthsBy row n in let W = LengthsBy (waiting ps) 0 in
+    let A = Agains ps in let T = Tails ps in let F = LengthsBy (front row) n in let B = LengthsBy (beyond row) 0 in let L = LengthsBy row n in let W = LengthsBy (waiting ps) 0 in
     rw is (set_along (Plus (InProgression again) (Plus (InProgression g) (Plus B T))) (Plus A (Plus L T)) (LengthsBy (left_of c) 0)
     (Plus-same (InProgression again) (Plus (InProgression g) (Plus B T)) A (Plus L T) ha
     (set_along (Plus (InProgression g) (Plus B T)) (Plus (Plus (InProgression g) B) T) (Plus L T) (set_back (Plus (Plus (InProgression g) B) T) (Plus (InProgression g) (Plus B T)) (Plus-assoc (InProgression g) B T))
@@ -237,10 +237,10 @@ meets_sum A Y L t low high most ht same le is = (
 
 -- the same, where a variable comes next
 pub fits_sum : (c : Cursor) (v : Var) (rest : List RowItem) (low high m : ℕ) (again : Progression) (S : ℕ → Type 0) → c.items.now ≡ One v ∷ rest → IsProgression again (Agains (reverse c.pending.items)) → SameSet S (Plus (InProgression again) (λ k. k ≡ width v)) → m ≤ 8191
-    → Plus S (Plus (GroupsWithin v (layout rest) low high) (Plus (LengthsBy (behind (layout rest)) 0) (Tails (reverse c.pending.items)))) m ↔ FitsWithin (left_of c) low high m
+    → Plus S (Plus (GroupsWithin v (layout rest) low high) (Plus (LengthsBy (beyond (layout rest)) 0) (Tails (reverse c.pending.items)))) m ↔ FitsWithin (left_of c) low high m
 fits_sum c v rest low high m again S e ha hs small =
     let ps = reverse c.pending.items in let row = layout rest in
-    let A = Agains ps in let T = Tails ps in let G = GroupsWithin v row low high in let B = LengthsBy (behind row) 0 in let L = FirstWithin v row low high in let W = LengthsBy (waiting ps) 0 in
+    let A = Agains ps in let T = Tails ps in let G = GroupsWithin v row low high in let B = LengthsBy (beyond row) 0 in let L = FirstWithin v row low high in let W = LengthsBy (waiting ps) 0 in
     let all : SameSet (Plus S (Plus G (Plus B T))) (FirstWithin v (append row (waiting ps)) low high) =
     set_along (Plus S (Plus G (Plus B T))) (Plus (InProgression again) (Plus L T)) (FirstWithin v (append row (waiting ps)) low high)
     (moved_two S (InProgression again) (λ k. k ≡ width v) G B T L hs (first_sum v row low high))

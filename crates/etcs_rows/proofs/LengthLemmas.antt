@@ -11,7 +11,7 @@ use Rattle.etcs_tables.specs.Layouts.{Layout, whole, one, guarded, counted, pass
 use Rattle.etcs_rows.specs.Places.{append, iterate, onto}
 use Rattle.etcs_rows.specs.Sums.{Plus, SumOf}
 use Rattle.etcs_rows.specs.Lengths.{LengthOf, LengthsBy}
-use Rattle.etcs_rows.proofs.Behind.{ReadsBy, by_number, by-append, by-onto, by-iterate, open_free}
+use Rattle.etcs_rows.proofs.Following.{ReadsBy, by_number, by-append, by-onto, by-iterate, open_free}
 use Rattle.etcs_rows.proofs.PlaceLemmas.{Open, Open-onto}
 
 -- two sets of the same numbers

@@ -1,5 +1,5 @@
 pub mod Additions
-pub mod Behind
+pub mod Following
 pub mod Blocks
 pub mod CursorLemmas
 pub mod Cuts

@@ -14,7 +14,7 @@ use Rattle.etcs_tables.specs.Rows.{message_row_to, message_rows_to}
 use Rattle.etcs_rows.specs.Frames.{Leaves}
 use Rattle.etcs_rows.specs.Lengths.{LengthsBy}
 use Rattle.etcs_tables.specs.Frames.{frame_bits}
-use Rattle.etcs_tables.specs.MessageRows.{header_bits, row_bits, behind_bits, lengths_behind}
+use Rattle.etcs_tables.specs.MessageRows.{header_bits, row_bits, after_bits, lengths_after}
 use Rattle.etcs_rows.specs.Messages.{MessageLengthFits}
 use Rattle.etcs_tables.proofs.EachRow.{of_each}
 use Rattle.etcs_rows.proofs.LengthLemmas.{lengths_are}
@@ -59,8 +59,8 @@ within low high l = (
 )
 
 -- the two ranges after this many bits
-behind_fits : (way : Way) (bits l : ℕ) → bits ≤ 8000 → IsTrue (inside (behind_bits way bits) l) ↔ ((l < 2 ^ 10) × Leaves (Message way) (8 * l) bits)
-behind_fits way bits l short =
+beyond_fits : (way : Way) (bits l : ℕ) → bits ≤ 8000 → IsTrue (inside (after_bits way bits) l) ↔ ((l < 2 ^ 10) × Leaves (Message way) (8 * l) bits)
+beyond_fits way bits l short =
     let n = frame_bits way in
     let a = (bits + 7) / 8 in
     let b = (bits + (n + 7)) / 8 in
@@ -81,7 +81,7 @@ behind_fits way bits l short =
       ],
     )
 
-kept_fits : (way : Way) (l : ℕ) → IsTrue (inside (lengths_behind way None) l) ↔ ((l < 2 ^ 10) × (3 ≤ l))
+kept_fits : (way : Way) (l : ℕ) → IsTrue (inside (lengths_after way None) l) ↔ ((l < 2 ^ 10) × (3 ≤ l))
 kept_fits way l =
     let all = leb 3 l && leb l 1023 in (
       λ h. elim (or_cases all false h) [
@@ -137,24 +137,24 @@ untyped_fits way nid l e = (
   ],
 )
 
-fits_as : (way : Way) (nid : ℕ) (o : Option Layout) → message_row_to way nid ≡ o → IsShort o → (l : ℕ) → IsTrue (inside (lengths_behind way o) l) ↔ MessageLengthFits way nid l
+fits_as : (way : Way) (nid : ℕ) (o : Option Layout) → message_row_to way nid ≡ o → IsShort o → (l : ℕ) → IsTrue (inside (lengths_after way o) l) ↔ MessageLengthFits way nid l
 fits_as way nid None e short l =
     let k = kept_fits way l in let m = untyped_fits way nid l e in (λ h. m.0 (k.0 h), λ h. k.1 (m.1 h))
 fits_as way nid (Some row) e short l =
-    let k = behind_fits way (header_bits way + row_bits row) l (omega (arith, short.1, (few_bits way).0)) in
+    let k = beyond_fits way (header_bits way + row_bits row) l (omega (arith, short.1, (few_bits way).0)) in
     let m = typed_fits way nid l row e short.0 short.1 in (λ h. m.0 (k.0 h), λ h. k.1 (m.1 h))
 
-pub lengths_fit : (way : Way) (nid l : ℕ) → IsTrue (inside (lengths_behind way (message_row_to way nid)) l) ↔ MessageLengthFits way nid l
+pub lengths_fit : (way : Way) (nid l : ℕ) → IsTrue (inside (lengths_after way (message_row_to way nid)) l) ↔ MessageLengthFits way nid l
 lengths_fit way nid l = fits_as way nid (message_row_to way nid) refl (rows_short way nid (message_row_to way nid) refl) l
 
-ordered_behind : (way : Way) (o : Option Layout) → IsShort o → IsTrue (list_all (λ r. nat_le r.0 r.1) (lengths_behind way o))
-ordered_behind way None h = refl
-ordered_behind way (Some row) h =
+ordered_after : (way : Way) (o : Option Layout) → IsShort o → IsTrue (list_all (λ r. nat_le r.0 r.1) (lengths_after way o))
+ordered_after way None h = refl
+ordered_after way (Some row) h =
     let bits = header_bits way + row_bits row in
     let a = (bits + 7) / 8 in
     let b = (bits + (frame_bits way + 7)) / 8 in
     let few = few_bits way in
     and_from (leb a a) (leb b 1023 && true) (le-leb a a (omega arith)) (and_from (leb b 1023) true (le-leb b 1023 (omega (arith, h.1, few.0, few.1))) refl)
 
-pub lengths_ordered : (way : Way) (nid : ℕ) → IsTrue (list_all (λ r. nat_le r.0 r.1) (lengths_behind way (message_row_to way nid)))
-lengths_ordered way nid = ordered_behind way (message_row_to way nid) (rows_short way nid (message_row_to way nid) refl)
+pub lengths_ordered : (way : Way) (nid : ℕ) → IsTrue (list_all (λ r. nat_le r.0 r.1) (lengths_after way (message_row_to way nid)))
+lengths_ordered way nid = ordered_after way (message_row_to way nid) (rows_short way nid (message_row_to way nid) refl)

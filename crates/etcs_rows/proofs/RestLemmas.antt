@@ -11,7 +11,7 @@ use Rattle.etcs_vars.proofs.Sent.{length-sent}
 use Rattle.etcs_tables.specs.Layouts.{Layout, whole, one, guarded, counted, looks, Reads, ReadsIn}
 use Rattle.etcs_rows.specs.Places.{first_variable, after_any, after_number, onto}
 use Rattle.etcs_rows.specs.Lengths.{FirstWithin, FitsWithin}
-use Rattle.etcs_rows.proofs.Behind.{follows}
+use Rattle.etcs_rows.proofs.Following.{follows}
 use Rattle.etcs_rows.proofs.RowWalkLemmas.{may_from, may_only}
 use Rattle.etcs_rows.proofs.WholeWalks.{after_one, one_looks}
 use Rattle.etcs_reader.specs.Rests.{Starts, Goes}
@@ -84,9 +84,9 @@ row_admits (guarded g group rest) v len number f s = absurd cc
 row_admits (counted group rest) v len number f s = absurd cc
 
 -- what is left after an admitted number for which there is room
-pub row_behind : (row new : Layout) (v : Var) (len number : ℕ) → first_variable row ≡ Some v → IsTrue (looks None row) → after_any row number ≡ Some new → IsTrue (admits v number) → width v ≤ len → (after_number row number ≡ Some new) × Residual (ReadsIn row len) ((v, number) ∷ []) (ReadsIn new (len - width v))
-row_behind whole new v len number f look a ok wide = absurd cc
-row_behind (one w rest) new v len number f look a admitted wide =
+pub row_after : (row new : Layout) (v : Var) (len number : ℕ) → first_variable row ≡ Some v → IsTrue (looks None row) → after_any row number ≡ Some new → IsTrue (admits v number) → width v ≤ len → (after_number row number ≡ Some new) × Residual (ReadsIn row len) ((v, number) ∷ []) (ReadsIn new (len - width v))
+row_after whole new v len number f look a ok wide = absurd cc
+row_after (one w rest) new v len number f look a admitted wide =
     let same : w ≡ v = cc in
     let is : onto number rest whole ≡ new = cc in
     let ok : IsTrue (admits w number) = subst (λ (u : Var). IsTrue (admits u number)) (sym same) admitted in
@@ -103,8 +103,8 @@ row_behind (one w rest) new v len number f look a admitted wide =
             subst (λ (u : Var). ReadsIn (one w rest) len ((u, number) ∷ q)) same all;
       },
     )
-row_behind (guarded g group rest) new v len number f look a ok wide = absurd cc
-row_behind (counted group rest) new v len number f look a ok wide = absurd cc
+row_after (guarded g group rest) new v len number f look a ok wide = absurd cc
+row_after (counted group rest) new v len number f look a ok wide = absurd cc
 
 -- the same by what is left
 pub row_step : (row new : Layout) (v : Var) (len number : ℕ) → first_variable row ≡ Some v → IsTrue (looks None row) → after_number row number ≡ Some new → width v ≤ len → Residual (ReadsIn row len) ((v, number) ∷ []) (ReadsIn new (len - width v)) × IsTrue (looks None new)
@@ -112,7 +112,7 @@ row_step whole new v len number f look a wide = absurd cc
 row_step (one w rest) new v len number f look a wide =
     let same : w ≡ v = cc in
     let is = after_one w rest new number a in
-    let b = row_behind (one w rest) new v len number f look (ap (λ (x : Layout). Some x) is.1) (subst (λ (u : Var). IsTrue (admits u number)) same is.0) wide in
+    let b = row_after (one w rest) new v len number f look (ap (λ (x : Layout). Some x) is.1) (subst (λ (u : Var). IsTrue (admits u number)) same is.0) wide in
     (b.1, one_looks w rest new number look a)
 row_step (guarded g group rest) new v len number f look a wide = absurd cc
 row_step (counted group rest) new v len number f look a wide = absurd cc

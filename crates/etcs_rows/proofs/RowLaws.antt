@@ -8,9 +8,9 @@ use Rattle.etcs_vars.specs.Vars.{admits}
 use Rattle.etcs_vars.specs.Reading.{Sent, Reading, spelled, numbers}
 use Rattle.etcs_vars.proofs.Apart.{Agree}
 use Rattle.etcs_tables.specs.Layouts.{Layout, whole, one, guarded, counted, Reads, Spells, AdmitsFields, ROW_LIMIT, looks}
-use Rattle.etcs_rows.specs.Places.{onto, left_behind, one_more, read_of, StandsFor, PlacesStand, PlacesMeasure}
+use Rattle.etcs_rows.specs.Places.{onto, left_after, one_more, read_of, StandsFor, PlacesStand, PlacesMeasure}
 use Rattle.etcs_rows.specs.Writing.{OneSpelling}
-use Rattle.etcs_rows.proofs.Behind.{follows, looks-onto, tail_of}
+use Rattle.etcs_rows.proofs.Following.{follows, looks-onto, tail_of}
 use Rattle.etcs_rows.specs.laws.OneReading.{Reads-agree, Reads-apart}
 use Rattle.etcs_rows.proofs.WriteLemmas.{first_of_row}
 
@@ -29,18 +29,18 @@ first_pair v rest n f ((w, m) ∷ r) tail look reads e =
     (r, ap (λ (p : Sent). p ∷ r) pair, others, x.3, subst (λ (t : Reading). Reads (onto n rest whole) [] t) same x.4)
 
 -- what stands for the numbers after the first stands for all
-behind_first : (v : Var) (rest : Layout) (n : ℕ) (f : List ℕ) (front : Reading) (left : Option Layout) → IsTrue (looks None (one v rest)) → IsTrue (admits v n)
+after_first : (v : Var) (rest : Layout) (n : ℕ) (f : List ℕ) (front : Reading) (left : Option Layout) → IsTrue (looks None (one v rest)) → IsTrue (admits v n)
     → StandsFor (onto n rest whole) f front left → StandsFor (one v rest) (n ∷ f) ((v, n) ∷ front) left
-behind_first v rest n f front (Some left) look ok (same, reads, alone) = (
+after_first v rest n f front (Some left) look ok (same, reads, alone) = (
   ap (λ (g : List ℕ). n ∷ g) same,
   λ tail. (let first = follows v rest n look ok (front ++ tail) in (λ x. (reads tail).0 (first.0 x), λ y. first.1 ((reads tail).1 y))),
   λ r tail h e. (let x = first_pair v rest n f r tail look h e in x.1 ∙ ap (λ (t : Reading). (v, n) ∷ t) (alone x.0 tail x.4 x.2)),
 )
-behind_first v rest n f front None look ok none = λ r tail h e. (let x = first_pair v rest n f r tail look h e in none x.0 tail x.4 x.2)
+after_first v rest n f front None look ok none = λ r tail h e. (let x = first_pair v rest n f r tail look h e in none x.0 tail x.4 x.2)
 
-by_first : (v : Var) (rest : Layout) (n : ℕ) (f : List ℕ) (b : Bool) → IsTrue (looks None (one v rest)) → admits v n ≡ b → StandsFor (onto n rest whole) f (read_of (onto n rest whole) f) (left_behind (onto n rest whole) f)
-    → StandsFor (one v rest) (n ∷ f) (one_more (Some v) (if b then Some (onto n rest whole) else None) n (λ mid. read_of mid f)) (option_and_then (λ left. left_behind left f) (if b then Some (onto n rest whole) else None))
-by_first v rest n f true look ok h = behind_first v rest n f (read_of (onto n rest whole) f) (left_behind (onto n rest whole) f) look ok h
+by_first : (v : Var) (rest : Layout) (n : ℕ) (f : List ℕ) (b : Bool) → IsTrue (looks None (one v rest)) → admits v n ≡ b → StandsFor (onto n rest whole) f (read_of (onto n rest whole) f) (left_after (onto n rest whole) f)
+    → StandsFor (one v rest) (n ∷ f) (one_more (Some v) (if b then Some (onto n rest whole) else None) n (λ mid. read_of mid f)) (option_and_then (λ left. left_after left f) (if b then Some (onto n rest whole) else None))
+by_first v rest n f true look ok h = after_first v rest n f (read_of (onto n rest whole) f) (left_after (onto n rest whole) f) look ok h
 by_first v rest n f false look refused h = λ r tail reads e. (let x = first_pair v rest n f r tail look reads e in let ok : admits v n ≡ true = x.3 in absurd cc)
 
 none_of : (r : Reading) → numbers r ≡ [] → r ≡ []
@@ -76,7 +76,7 @@ stands_alone row read q None reads stands = absurd (stands read q reads refl)
 
 -- the pairs with which a reading of the row begins are those of their numbers
 pub read_is : (row : Layout) (read q : Reading) → IsTrue (looks None row) → Reads row [] (read ++ q) → read_of row (numbers read) ≡ read
-read_is row read q look reads = stands_alone row read q (left_behind row (numbers read)) reads (places_stand row (numbers read) look)
+read_is row read q look reads = stands_alone row read q (left_after row (numbers read)) reads (places_stand row (numbers read) look)
 
 -- ---- Spellings.
 

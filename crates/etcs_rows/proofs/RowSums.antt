@@ -5,7 +5,7 @@ use Rattle.etcs_vars.specs.Vars.{width}
 use Rattle.etcs_vars.proofs.Prefixes.{admits_from, some_number}
 use Rattle.etcs_tables.specs.declared.item.Guard.{Guard}
 use Rattle.etcs_tables.specs.Layouts.{Layout, whole, one, guarded, counted, passes}
-use Rattle.etcs_rows.specs.Lengths.{LengthsBy, front, behind, begins_with_group, GroupsWithin, FirstWithin}
+use Rattle.etcs_rows.specs.Lengths.{LengthsBy, front, beyond, begins_with_group, GroupsWithin, FirstWithin}
 use Rattle.etcs_rows.specs.Sums.{Plus, SumOf}
 use Rattle.etcs_rows.proofs.LengthLemmas.{SameSet, set_along, set_back, set_self, Plus-same, SumOf-same, lengths-free}
 use Rattle.etcs_rows.proofs.SumLemmas.{lengths-parts, admitted_word, no_front, is_open_false}
@@ -59,7 +59,7 @@ unfolding LengthsBy
 counted_sum row group rest n e = rw e (λ m. (λ x. x, λ x. x))
 
 -- the first variable, the groups on its number, and what follows them
-pub first_sum : (v : Var) (rest : Layout) (low high : ℕ) → SameSet (Plus (λ k. k ≡ width v) (Plus (GroupsWithin v rest low high) (LengthsBy (behind rest) 0))) (FirstWithin v rest low high)
+pub first_sum : (v : Var) (rest : Layout) (low high : ℕ) → SameSet (Plus (λ k. k ≡ width v) (Plus (GroupsWithin v rest low high) (LengthsBy (beyond rest) 0))) (FirstWithin v rest low high)
 first_sum v rest low high m = (
   λ (w, j, is, (a, b, (n, l, u, ok, x), y, e), t). (n, j, l, u, ok, (lengths-parts rest n j).1 (a, b, x, y, e), (let f : width v + j ≡ m = omega (arith, is, t) in f)),
   λ (n, j, l, u, ok, x, t). (let p = (lengths-parts rest n j).0 x in (width v, j, refl, (p.0, p.1, (n, l, u, ok, p.2), p.3, p.4), t)),
@@ -131,8 +131,8 @@ front_ends items left n w none sum =
     set_along W (Plus W Z) (LengthsBy (front items) n) (Plus-zero W)
     (set_along (Plus W Z) (Plus W F) (LengthsBy (front items) n) (Plus-same W Z W F (set_self W) (whole_sum (front left) n (no_front left none))) (set_back (LengthsBy (front items) n) (Plus W F) sum))
 
-pub behind_none : (row : Layout) → begins_with_group row ≡ false → behind row ≡ row
-behind_none whole e = refl
-behind_none (one v rest) e = refl
-behind_none (guarded g group rest) e = absurd cc
-behind_none (counted group rest) e = absurd cc
+pub after_none : (row : Layout) → begins_with_group row ≡ false → beyond row ≡ row
+after_none whole e = refl
+after_none (one v rest) e = refl
+after_none (guarded g group rest) e = absurd cc
+after_none (counted group rest) e = absurd cc

@@ -14,7 +14,7 @@ use Rattle.etcs_vars.proofs.Sent.{length-sent}
 use Rattle.etcs_tables.specs.Layouts.{Layout, one, looks, Reads, ReadsIn, Lengths}
 use Rattle.etcs_rows.specs.Places.{first_variable}
 use Rattle.etcs_rows.specs.Lengths.{LengthsBy, FitsWithin, is_free}
-use Rattle.etcs_rows.proofs.Behind.{ReadsBy, by_number, head_number, tail_of}
+use Rattle.etcs_rows.proofs.Following.{ReadsBy, by_number, head_number, tail_of}
 use Rattle.etcs_rows.proofs.LengthLemmas.{lengths_by, nothing_left}
 use Rattle.etcs_rows.proofs.SumLemmas.{free_fits}
 

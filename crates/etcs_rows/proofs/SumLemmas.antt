@@ -22,7 +22,7 @@ use Rattle.etcs_rows.specs.declared.place.Pending.{Pending}
 use Rattle.etcs_rows.specs.declared.place.Cursor.{Cursor}
 use Rattle.etcs_rows.specs.Sets.{In, IsSet}
 use Rattle.etcs_rows.specs.Sums.{Plus, SumOf}
-use Rattle.etcs_rows.specs.Lengths.{LengthsBy, front, behind, begins_with_group, GroupsWithin, SetsWithin, FirstWithin, FitsWithin, is_free}
+use Rattle.etcs_rows.specs.Lengths.{LengthsBy, front, beyond, begins_with_group, GroupsWithin, SetsWithin, FirstWithin, FitsWithin, is_free}
 use Rattle.etcs_rows.proofs.SetLemmas.{SumsOf, times_more}
 use Rattle.etcs_rows.proofs.PlaceLemmas.{Open, Open-onto, Open-waiting}
 use Rattle.etcs_rows.proofs.LengthLemmas.{SameSet, set_back, lengths-append, lengths-free, lengths-onto, lengths-iterate}
@@ -54,28 +54,28 @@ set_times n a s A ha h m = (
 
 -- ---- The parts of a row.
 
-pub front-behind : (row : Layout) → append (front row) (behind row) ≡ row
-front-behind whole = refl
-front-behind (one v rest) = refl
-front-behind (guarded g group rest) = ap (guarded g group) (front-behind rest)
-front-behind (counted group rest) = ap (counted group) (front-behind rest)
+pub front-beyond : (row : Layout) → append (front row) (beyond row) ≡ row
+front-beyond whole = refl
+front-beyond (one v rest) = refl
+front-beyond (guarded g group rest) = ap (guarded g group) (front-beyond rest)
+front-beyond (counted group rest) = ap (counted group) (front-beyond rest)
 
-pub behind-open : (row : Layout) → Open (behind row)
-behind-open whole = tt
-behind-open (one v rest) = tt
-behind-open (guarded g group rest) = behind-open rest
-behind-open (counted group rest) = behind-open rest
+pub beyond-open : (row : Layout) → Open (beyond row)
+beyond-open whole = tt
+beyond-open (one v rest) = tt
+beyond-open (guarded g group rest) = beyond-open rest
+beyond-open (counted group rest) = beyond-open rest
 
-pub behind_begins : (row : Layout) → begins_with_group (behind row) ≡ false
-behind_begins whole = refl
-behind_begins (one v rest) = refl
-behind_begins (guarded g group rest) = behind_begins rest
-behind_begins (counted group rest) = behind_begins rest
+pub after_begins : (row : Layout) → begins_with_group (beyond row) ≡ false
+after_begins whole = refl
+after_begins (one v rest) = refl
+after_begins (guarded g group rest) = after_begins rest
+after_begins (counted group rest) = after_begins rest
 
-pub lengths-parts : (row : Layout) (n : ℕ) → SameSet (LengthsBy row n) (Plus (LengthsBy (front row) n) (LengthsBy (behind row) 0))
+pub lengths-parts : (row : Layout) (n : ℕ) → SameSet (LengthsBy row n) (Plus (LengthsBy (front row) n) (LengthsBy (beyond row) 0))
 lengths-parts row n m =
-    let x = lengths-append (front row) (behind row) n (behind-open row) m in
-    let e = front-behind row in (
+    let x = lengths-append (front row) (beyond row) n (beyond-open row) m in
+    let e = front-beyond row in (
       λ l. x.0 (rw e l),
       λ p. (let t = x.1 p in rw e at t),
     )
@@ -145,7 +145,7 @@ set_free_one b s row rest v n e none hb h =
     ))
 
 -- the first variable and the rest, by the groups in front of the rest and what follows them
-pub set_first : (a w b s : LengthSet) (v : Var) (rest : Layout) (low high : ℕ) → IsSet a (GroupsWithin v rest low high) → ((m : ℕ) → In w m ↔ ((k : ℕ) × In a k × (k + width v ≡ m) × (m ≤ 8191))) → IsSet b (LengthsBy (behind rest) 0)
+pub set_first : (a w b s : LengthSet) (v : Var) (rest : Layout) (low high : ℕ) → IsSet a (GroupsWithin v rest low high) → ((m : ℕ) → In w m ↔ ((k : ℕ) × In a k × (k + width v ≡ m) × (m ≤ 8191))) → IsSet b (LengthsBy (beyond rest) 0)
     → ((m : ℕ) → In s m ↔ (Plus (In w) (In b) m × (m ≤ 8191))) → IsSet s (FirstWithin v rest low high)
 set_first a w b s v rest low high ha hw hb h m = (
   λ x.

@@ -26,12 +26,12 @@ pub some_same : {v w : Var} → ◌≡◌ {A = Option Var} (Some v) (Some w) →
 some_same e = cc
 
 -- a row that continues takes bits
-goes_on : (row : Layout) (w : Var) (m : ℕ) → first_variable row ≡ Some w → ((r : Reading) × ReadsIn row m r) → 0 < m
+goes_further : (row : Layout) (w : Var) (m : ℕ) → first_variable row ≡ Some w → ((r : Reading) × ReadsIn row m r) → 0 < m
 unfolding Reads
-goes_on whole w m f (r, l) = absurd cc
-goes_on (one x rest) w m f (r, ((n, r', ok, is, reads), l)) = let e = length-sent x n r' in let p = width_pos x in omega (arith, ap (λ (t : Reading). length (spelled t)) is, e, p, l)
-goes_on (guarded g group rest) w m f (r, l) = absurd cc
-goes_on (counted group rest) w m f (r, l) = absurd cc
+goes_further whole w m f (r, l) = absurd cc
+goes_further (one x rest) w m f (r, ((n, r', ok, is, reads), l)) = let e = length-sent x n r' in let p = width_pos x in omega (arith, ap (λ (t : Reading). length (spelled t)) is, e, p, l)
+goes_further (guarded g group rest) w m f (r, l) = absurd cc
+goes_further (counted group rest) w m f (r, l) = absurd cc
 
 -- the numbers of a walk fit their types
 pub walk_room : (bits taken wide : ℕ) → bits < 2 ^ taken → taken < wide → wide ≤ 64 → bits * 2 + 1 < 2 ^ 64
@@ -161,7 +161,7 @@ module _ (old new : FeederValue RowRest) (b : Bool) (x : Var) (first : first_var
               absurd (omega (arith, ap length part ∙ grown, short, w, long))
           by_read (inr (n, after, len, part, is)) =
               let o = (h.2.more y next).1 in
-              (kept_ended part len, (rw none refl, (ends n after len part is, o.viable, o.open_end, goes_on new.rest.place y new.rest.len next (own.viable.0, own.viable.2))))
+              (kept_ended part len, (rw none refl, (ends n after len part is, o.viable, o.open_end, goes_further new.rest.place y new.rest.len next (own.viable.0, own.viable.2))))
 
       pub whole_step : first_variable new.rest.place ≡ None → ReadsIn new.rest.place new.rest.len [] → Kept new × TakesBit (walk old) b (Ok (Whole x (bits * 2 + d))) (walk new)
       whole_step next reads = by_read read

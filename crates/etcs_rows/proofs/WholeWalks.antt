@@ -14,7 +14,7 @@ use Rattle.etcs_vars.proofs.Sent.{length-sent, holder-append}
 use Rattle.etcs_tables.specs.Layouts.{Layout, whole, one, guarded, counted, looks, Reads, ReadsIn}
 use Rattle.etcs_rows.specs.Places.{onto, after_number}
 use Rattle.etcs_rows.specs.Walks.{ReadTo, WalksWhole}
-use Rattle.etcs_rows.proofs.Behind.{follows, looks-onto}
+use Rattle.etcs_rows.proofs.Following.{follows, looks-onto}
 use Rattle.etcs_rows.proofs.PlaceLemmas.{sound_parts}
 
 -- ---- One variable.

@@ -14,7 +14,7 @@ use Rattle.etcs_tables.specs.Layouts.{Layout, whole, one, guarded, counted, Read
 use Rattle.etcs_rows.specs.Places.{onto, first_variable, after_any}
 use Rattle.etcs_rows.specs.Writing.{AdmitsRest, Admits, Writes, Appends, Puts}
 use Rattle.etcs_rows.proofs.PlaceLemmas.{sound_open}
-use Rattle.etcs_rows.proofs.Behind.{follows, looks-onto}
+use Rattle.etcs_rows.proofs.Following.{follows, looks-onto}
 use Rattle.etcs_rows.proofs.LengthLemmas.{nothing_left}
 
 -- ---- One number of what is left.

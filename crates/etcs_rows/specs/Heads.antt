@@ -8,7 +8,7 @@ use Rattle.etcs_rows.specs.declared.head.Alone.{Alone}
 use Rattle.etcs_rows.specs.declared.head.Alone.TheVariants as alone
 use Rattle.etcs_tables.specs.Layouts.{Layout, layout, guarded, counted}
 use Rattle.etcs_rows.specs.declared.head.Looked.{Looked}
-use Rattle.etcs_rows.specs.Lengths.{LengthsBy, behind, begins_with_group, GroupsWithin}
+use Rattle.etcs_rows.specs.Lengths.{LengthsBy, beyond, begins_with_group, GroupsWithin}
 use Rattle.etcs_rows.specs.Sums.{Plus}
 
 -- the items begin so, and each part is shorter than all
@@ -26,4 +26,4 @@ IsAlone (alone.Many group) items = (rest : Layout) × (layout items ≡ counted 
 -- the lengths of the groups that look at a variable and of what follows them, or of nothing where there is none
 abbrev pub AfterLooked : Option Looked → ℕ → Type 0
 AfterLooked None m = m ≡ 0
-AfterLooked (Some l) m = Plus (GroupsWithin l.var (layout l.rest.now) 0 18446744073709551615) (LengthsBy (behind (layout l.rest.now)) 0) m
+AfterLooked (Some l) m = Plus (GroupsWithin l.var (layout l.rest.now) 0 18446744073709551615) (LengthsBy (beyond (layout l.rest.now)) 0) m

@@ -24,11 +24,11 @@ front (one v rest) = whole
 front (guarded g group rest) = guarded g group (front rest)
 front (counted group rest) = counted group (front rest)
 
-abbrev pub behind : Layout → Layout
-behind whole = whole
-behind (one v rest) = one v rest
-behind (guarded g group rest) = behind rest
-behind (counted group rest) = behind rest
+abbrev pub beyond : Layout → Layout
+beyond whole = whole
+beyond (one v rest) = one v rest
+beyond (guarded g group rest) = beyond rest
+beyond (counted group rest) = beyond rest
 
 abbrev pub begins_with_group : Layout → Bool
 begins_with_group whole = false

@@ -46,9 +46,9 @@ after_any (guarded g group rest) n = None
 after_any (counted group rest) n = None
 
 -- what is left of a row after these numbers of it
-abbrev pub left_behind : Layout → List ℕ → Option Layout
-left_behind row [] = Some row
-left_behind row (n ∷ f) = option_and_then (λ left. left_behind left f) (after_number row n)
+abbrev pub left_after : Layout → List ℕ → Option Layout
+left_after row [] = Some row
+left_after row (n ∷ f) = option_and_then (λ left. left_after left f) (after_number row n)
 
 abbrev pub one_more : Option Var → Option Layout → ℕ → (Layout → Reading) → Reading
 one_more None mid n more = []
@@ -73,8 +73,8 @@ StandsFor row f front None = (r : Reading) (tail : Reading) → Reads row [] (r 
 
 -- what is left after numbers of a row stands for them
 abbrev pub PlacesStand : Type 0
-PlacesStand = (row : Layout) (f : List ℕ) → IsTrue (looks None row) → StandsFor row f (read_of row f) (left_behind row f)
+PlacesStand = (row : Layout) (f : List ℕ) → IsTrue (looks None row) → StandsFor row f (read_of row f) (left_after row f)
 
 -- this many bits may follow the numbers as what is left may take
 abbrev pub PlacesMeasure : Type 0
-PlacesMeasure = (row left : Layout) (f : List ℕ) → IsTrue (looks None row) → left_behind row f ≡ Some left → (n : ℕ) → Lengths row f n ↔ Lengths left [] n
+PlacesMeasure = (row left : Layout) (f : List ℕ) → IsTrue (looks None row) → left_after row f ≡ Some left → (n : ℕ) → Lengths row f n ↔ Lengths left [] n

@@ -9,14 +9,14 @@
 ghost use Rattle.std.specs.Prelude.{◌≡◌, ◌↔◌, ℕ, ◌+◌, ◌≤◌, IsTrue, IfSome, reverse};
 ghost use Rattle.etcs_vars.specs.Vars.{width, admits};
 ghost use Rattle.etcs_tables.specs.Layouts.{layout};
-ghost use Rattle.etcs_rows.specs.Lengths.{LengthsBy, behind, GroupsWithin, FitsWithin};
+ghost use Rattle.etcs_rows.specs.Lengths.{LengthsBy, beyond, GroupsWithin, FitsWithin};
 ghost use Rattle.etcs_rows.specs.Sums.{Plus, SumOf};
 ghost use Rattle.etcs_rows.specs.Progressions.{InProgression, IsProgression};
 ghost use Rattle.etcs_rows.specs.Totals.{InTotal};
 ghost use Rattle.etcs_rows.specs.Cursors.{waiting, left_of, Nests, WaitsNest, KnowsSteps};
 ghost use Rattle.etcs_rows.specs.Waiting.{Agains, Tails, Onward};
 
-use crate::head::{Looked, behind_groups};
+use crate::head::{Looked, after_groups};
 use crate::place::{Cursor, Pending};
 use crate::progression::{
     Progression, counted_within, groups_steps, leading, steps_each, steps_of, times_steps,
@@ -135,7 +135,7 @@ fn leave(sum: Total, waiting: &[Pending], bits: usize) -> Option<bool>
                 return leave(sum, outer, bits);
             }
             let groups = groups_steps(pending.items, pending.before)?;
-            spread(sum, groups, behind_groups(pending.items), outer, bits)
+            spread(sum, groups, after_groups(pending.items), outer, bits)
         }
     }
 }
@@ -151,22 +151,22 @@ fn choose(
     waiting: &[Pending],
     bits: usize,
 ) -> Option<bool>
-    ensures { IfSome result (λ b. IsTrue b ↔ Plus (InTotal sum) (Plus (GroupsWithin var (layout rest.now) low high) (Plus (LengthsBy (behind (layout rest.now)) 0) (Tails (reverse waiting.now)))) bits) }
+    ensures { IfSome result (λ b. IsTrue b ↔ Plus (InTotal sum) (Plus (GroupsWithin var (layout rest.now) low high) (Plus (LengthsBy (beyond (layout rest.now)) 0) (Tails (reverse waiting.now)))) bits) }
 {
-    let behind = behind_groups(rest);
+    let beyond = after_groups(rest);
     if low == high {
         if !var.admits(low) {
             return Some(false);
         }
-        return spread(sum, groups_steps(rest, low)?, behind, waiting, bits);
+        return spread(sum, groups_steps(rest, low)?, beyond, waiting, bits);
     }
     match counted_within(var, rest, low, high) {
         Some((group, first, last)) => match times_steps(group, first, last) {
-            Some(all) => spread(sum, all, behind, waiting, bits),
-            None => onward(sum.with(group, first, last)?, behind, waiting, bits),
+            Some(all) => spread(sum, all, beyond, waiting, bits),
+            None => onward(sum.with(group, first, last)?, beyond, waiting, bits),
         },
         None => match steps_each(var, rest, low, high) {
-            Some(groups) => spread(sum, groups, behind, waiting, bits),
+            Some(groups) => spread(sum, groups, beyond, waiting, bits),
             None => choose_each(sum, var, rest, low, high, waiting, bits),
         },
     }
@@ -183,18 +183,18 @@ fn choose_each(
     waiting: &[Pending],
     bits: usize,
 ) -> Option<bool>
-    ensures { IfSome result (λ b. IsTrue b ↔ Plus (InTotal sum) (Plus (GroupsWithin var (layout rest.now) low high) (Plus (LengthsBy (behind (layout rest.now)) 0) (Tails (reverse waiting.now)))) bits) }
+    ensures { IfSome result (λ b. IsTrue b ↔ Plus (InTotal sum) (Plus (GroupsWithin var (layout rest.now) low high) (Plus (LengthsBy (beyond (layout rest.now)) 0) (Tails (reverse waiting.now)))) bits) }
 {
     let most = u64::MAX >> (64 - var.width());
     let end = high.min(most).checked_add(1)?;
     if end.saturating_sub(low) > 256 {
         return None;
     }
-    let behind = behind_groups(rest);
+    let beyond = after_groups(rest);
     for number in low..end {
         if var.admits(number) {
             let groups = groups_steps(rest, number)?;
-            if spread(sum, groups, behind, waiting, bits)? {
+            if spread(sum, groups, beyond, waiting, bits)? {
                 return Some(true);
             }
         }
@@ -286,5 +286,5 @@ pub(crate) fn meets_by_steps(cursor: &Cursor, low: usize, high: usize) -> Option
     let again = waiting_steps(waiting)?;
     let groups = groups_steps(cursor.items, cursor.before)?;
     let sum = Total::new(again, high - low);
-    spread(sum, groups, behind_groups(cursor.items), waiting, high)
+    spread(sum, groups, after_groups(cursor.items), waiting, high)
 }

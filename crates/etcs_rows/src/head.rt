@@ -2,7 +2,7 @@
 
 ghost use Rattle.std.specs.Prelude.{◌≡◌, ◌≤◌, false, length, IsTrue, IfSome};
 ghost use Rattle.etcs_tables.specs.Layouts.{layout};
-ghost use Rattle.etcs_rows.specs.Lengths.{behind, begins_with_group};
+ghost use Rattle.etcs_rows.specs.Lengths.{beyond, begins_with_group};
 ghost use Rattle.etcs_rows.specs.Heads.{IsHead, IsAlone};
 
 use etcs_tables::{Guard, RowItem};
@@ -41,13 +41,13 @@ pub(crate) fn first_item(items: &'static [RowItem]) -> Head
 }
 
 /// What follows the groups in front.
-pub(crate) fn behind_groups(items: &'static [RowItem]) -> &'static [RowItem]
-    ensures behind { layout result.now ≡ behind (layout items.now) }
+pub(crate) fn after_groups(items: &'static [RowItem]) -> &'static [RowItem]
+    ensures beyond { layout result.now ≡ beyond (layout items.now) }
     ensures shorter { length result.now ≤ length items.now }
 {
     match first_item(items) {
-        Head::When(_, _, rest) => behind_groups(rest),
-        Head::Many(_, rest) => behind_groups(rest),
+        Head::When(_, _, rest) => after_groups(rest),
+        Head::Many(_, rest) => after_groups(rest),
         _ => items,
     }
 }

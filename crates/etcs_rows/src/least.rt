@@ -25,15 +25,15 @@ pub(crate) fn some_length(items: &'static [RowItem], before: u64) -> Option<usiz
     match first_item(items) {
         Head::End => Some(0),
         Head::One(var, rest) => {
-            let behind = some_length(rest, least_of(var)?)?;
-            behind.checked_add(var.width())
+            let beyond = some_length(rest, least_of(var)?)?;
+            beyond.checked_add(var.width())
         }
         Head::When(guard, group, rest) => {
-            let behind = some_length(rest, before)?;
+            let beyond = some_length(rest, before)?;
             if guard.test.passes(before) {
-                behind.checked_add(some_length(group, before)?)
+                beyond.checked_add(some_length(group, before)?)
             } else {
-                Some(behind)
+                Some(beyond)
             }
         }
         Head::Many(_, rest) => {

@@ -2,11 +2,11 @@
 
 ghost use Rattle.std.specs.Prelude.{◌≡◌, ◌↔◌, ℕ, ◌+◌, ◌≤◌, ◌<◌, length, false, IsTrue};
 ghost use Rattle.etcs_tables.specs.Layouts.{layout};
-ghost use Rattle.etcs_rows.specs.Lengths.{LengthsBy, front, behind, begins_with_group, GroupsWithin, FirstWithin, SetsWithin};
+ghost use Rattle.etcs_rows.specs.Lengths.{LengthsBy, front, beyond, begins_with_group, GroupsWithin, FirstWithin, SetsWithin};
 ghost use Rattle.etcs_rows.specs.Sums.{SumOf};
 ghost use Rattle.etcs_rows.specs.Sets.{IsSet, In};
 
-use crate::head::{Alone, Head, behind_groups, first_item, has_group, only_group};
+use crate::head::{Alone, Head, after_groups, first_item, has_group, only_group};
 use crate::length_set::LengthSet;
 use etcs_tables::RowItem;
 use etcs_vars::Var;
@@ -16,7 +16,7 @@ use etcs_vars::Var;
 pub(crate) fn lengths_of(items: &'static [RowItem], before: u64) -> LengthSet
     ensures { IsSet result (LengthsBy (layout items.now) before) }
 {
-    groups_at(items, before).plus(&open_lengths(behind_groups(items)))
+    groups_at(items, before).plus(&open_lengths(after_groups(items)))
 }
 
 /// The same of a row that doesn't begin with a group.
@@ -43,11 +43,11 @@ fn groups_at(items: &'static [RowItem], before: u64) -> LengthSet
 {
     match first_item(items) {
         Head::When(guard, group, rest) => {
-            let behind = groups_at(rest, before);
+            let beyond = groups_at(rest, before);
             if guard.test.passes(before) {
-                lengths_of(group, before).plus(&behind)
+                lengths_of(group, before).plus(&beyond)
             } else {
-                behind
+                beyond
             }
         }
         Head::Many(group, rest) => lengths_of(group, before)
@@ -107,5 +107,5 @@ pub(crate) fn first_lengths(var: Var, rest: &'static [RowItem], low: u64, high: 
 {
     groups_within(var, rest, low, high)
         .shift(var.width())
-        .plus(&open_lengths(behind_groups(rest)))
+        .plus(&open_lengths(after_groups(rest)))
 }

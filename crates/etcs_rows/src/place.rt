@@ -193,8 +193,8 @@ impl Cursor {
         let mut all = LengthSet::single(0);
         for pending in self.pending.as_slice() {
             let again = lengths_of(pending.group, pending.before).times(pending.times);
-            let behind = lengths_of(pending.items, pending.before).plus(&all);
-            all = again.plus(&behind);
+            let beyond = lengths_of(pending.items, pending.before).plus(&all);
+            all = again.plus(&beyond);
         }
         all
     }

@@ -2,7 +2,7 @@
 
 ghost use Rattle.std.specs.Prelude.{◌≡◌, ◌↔◌, ℕ, ◌+◌, ◌*◌, ◌<◌, ◌≤◌, true, false, IsTrue, IfSome, ◌⊎◌, length};
 
-use crate::head::{Alone, Head, Looked, behind_groups, first_item, has_group, only_group};
+use crate::head::{Alone, Head, Looked, after_groups, first_item, has_group, only_group};
 use etcs_tables::{RowItem, Test};
 use etcs_vars::Var;
 
@@ -141,7 +141,7 @@ impl Progression {
 
 ghost use Rattle.etcs_vars.specs.Vars.{admits};
 ghost use Rattle.etcs_tables.specs.Layouts.{layout, passes};
-ghost use Rattle.etcs_rows.specs.Lengths.{LengthsBy, front, behind, GroupsWithin, SetsWithin};
+ghost use Rattle.etcs_rows.specs.Lengths.{LengthsBy, front, beyond, GroupsWithin, SetsWithin};
 ghost use Rattle.etcs_rows.specs.Progressions.{IsProgression, InGuarded, InProgression, TimesWithin};
 ghost use Rattle.etcs_rows.specs.Sums.{Plus, SumOf};
 ghost use Rattle.etcs_rows.specs.Heads.{AfterLooked};
@@ -190,7 +190,7 @@ pub(crate) fn steps_of(items: &'static [RowItem], before: u64) -> Option<Progres
     ensures { IfSome result (λ s. IsProgression s (LengthsBy (layout items.now) before)) }
 {
     let groups = groups_steps(items, before)?;
-    groups.plus(open_steps(behind_groups(items))?)
+    groups.plus(open_steps(after_groups(items))?)
 }
 
 /// The same of a group that occurs more than once. How long others are each time isn't asked.
@@ -255,7 +255,7 @@ fn guarded_width(test: Test, group: &'static [RowItem], before: u64) -> Option<u
 /// in those that are there no variable is looked at.
 fn plain_groups(items: &'static [RowItem], before: u64) -> Option<(usize, &'static [RowItem])>
     ensures width { IfSome result (λ r. (m : ℕ) → (m ≡ r.0) ↔ LengthsBy (front (layout items.now)) before m) }
-    ensures behind { IfSome result (λ r. layout r.1.now ≡ behind (layout items.now)) }
+    ensures beyond { IfSome result (λ r. layout r.1.now ≡ beyond (layout items.now)) }
     ensures shorter { IfSome result (λ r. length r.1.now ≤ length items.now) }
 {
     let mut width = 0usize;
@@ -283,7 +283,7 @@ fn open_steps(items: &'static [RowItem]) -> Option<Progression>
         None => Some(front),
         Some(Looked { var, rest }) => {
             let groups = steps_within(var, rest, 0, u64::MAX)?;
-            let tail = groups.plus(open_steps(behind_groups(rest))?)?;
+            let tail = groups.plus(open_steps(after_groups(rest))?)?;
             front.plus(tail)
         }
     }

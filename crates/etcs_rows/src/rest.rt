@@ -100,7 +100,7 @@ impl RowRest {
 
     /// Continues after the number of the variable that comes next.
     #[inline]
-    pub fn go_on(&mut self, var: Var, number: u64)
+    pub fn continue_with(&mut self, var: Var, number: u64)
         requires next { first_variable self.old.place ≡ Some var }
         requires goes { Starts (ReadsIn self.old.place self.old.len) var 0 number }
         ensures len { self.old.len ≡ width var + self.new.len }
@@ -132,7 +132,7 @@ impl Rest for RowRest {
 
     #[inline]
     fn pass(&mut self, var: Var, number: u64) -> Result<(), AllocError> {
-        self.go_on(var, number);
+        self.continue_with(var, number);
         Ok(())
     }
 

@@ -20,6 +20,8 @@ pub struct RowRun {
     pub rest: RowRest,
     pub numbers: ArrayVec<u64, 32>,
     pub bits: usize,
+    /// Whether they were taken one by one, so that the next one has to be asked for by itself.
+    pub singly: bool,
 }
 
 impl RowRun {
@@ -61,6 +63,7 @@ impl RowRun {
             rest: row.copied(),
             numbers: ArrayVec::new(),
             bits: 0,
+            singly: false,
         };
         while let Some((var, number)) = run.next(piece, at + run.bits) {
             run.numbers.push(number);
@@ -110,10 +113,11 @@ impl RowRun {
             rest: row.copied(),
             numbers: ArrayVec::new(),
             bits: 0,
+            singly: true,
         };
         while let Some((var, number)) = run.fitting(piece, at + run.bits) {
             run.numbers.push(number);
-            run.rest.go_on(var, number);
+            run.rest.continue_with(var, number);
             run.bits += var.width();
         }
         if run.bits == 0 {

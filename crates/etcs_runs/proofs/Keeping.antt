@@ -126,6 +126,6 @@ module _ (lines : List (List ℕ)) (raw given part : List ℕ) (is : given ++ pa
 -- ---- The lines of a piece.
 
 -- a line of it isn't taken
-pub piece_stops : (P : List ℕ → Type 0) (given piece front rest line behind : List ℕ) → piece ≡ front ++ rest → rest ≡ line ++ 10 ∷ behind → P ((given ++ front) ++ (line ++ 10 ∷ behind)) → P (given ++ piece)
-piece_stops P given piece front rest line behind h e =
+pub piece_stops : (P : List ℕ → Type 0) (given piece front rest line beyond : List ℕ) → piece ≡ front ++ rest → rest ≡ line ++ 10 ∷ beyond → P ((given ++ front) ++ (line ++ 10 ∷ beyond)) → P (given ++ piece)
+piece_stops P given piece front rest line beyond h e =
     subst P (ap (λ (z : List ℕ). (given ++ front) ++ z) (sym e) ∙ cut_given given piece front rest h)

@@ -8,8 +8,8 @@ pub lines_text-append : (xs ys : List (List ℕ)) → lines_text (xs ++ ys) ≡ 
 lines_text-append xs ys = flat_map-append (λ line. line ++ 10 ∷ []) xs ys
 
 -- one line, and a text after it
-pub one_line : (line behind : List ℕ) → lines_text (line ∷ []) ++ behind ≡ line ++ 10 ∷ behind
-one_line line behind = ap (λ (z : List ℕ). z ++ behind) (append-nil (line ++ 10 ∷ [])) ∙ append_assoc line (10 ∷ []) behind
+pub one_line : (line beyond : List ℕ) → lines_text (line ∷ []) ++ beyond ≡ line ++ 10 ∷ beyond
+one_line line beyond = ap (λ (z : List ℕ). z ++ beyond) (append-nil (line ++ 10 ∷ [])) ∙ append_assoc line (10 ∷ []) beyond
 
 -- each line has a character
 pub lines_few : (lines : List (List ℕ)) → length lines ≤ length (lines_text lines)
@@ -18,11 +18,11 @@ lines_few (line ∷ lines) =
     omega (arith, lines_few lines, length-append (line ++ 10 ∷ []) (lines_text lines), length-append line (10 ∷ []))
 
 -- one more line is taken off
-pub cut_line : (piece front rest line behind : List ℕ) → piece ≡ front ++ rest → rest ≡ line ++ 10 ∷ behind → piece ≡ (front ++ (line ++ 10 ∷ [])) ++ behind
-cut_line piece front rest line behind h e =
+pub cut_line : (piece front rest line beyond : List ℕ) → piece ≡ front ++ rest → rest ≡ line ++ 10 ∷ beyond → piece ≡ (front ++ (line ++ 10 ∷ [])) ++ beyond
+cut_line piece front rest line beyond h e =
     h
-    ∙ ap (λ (z : List ℕ). front ++ z) (e ∙ sym (append_assoc line (10 ∷ []) behind))
-    ∙ sym (append_assoc front (line ++ 10 ∷ []) behind)
+    ∙ ap (λ (z : List ℕ). front ++ z) (e ∙ sym (append_assoc line (10 ∷ []) beyond))
+    ∙ sym (append_assoc front (line ++ 10 ∷ []) beyond)
 
 -- all of the input so far
 pub cut_given : (given piece front rest : List ℕ) → piece ≡ front ++ rest → (given ++ front) ++ rest ≡ given ++ piece

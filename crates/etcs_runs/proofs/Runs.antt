@@ -19,12 +19,12 @@ last_first-last at t before word h =
     ∙ ap reverse (map-append bare (words at before) (word ∷ []))
     ∙ reverse-append (map bare (words at before)) (bare word ∷ [])
 
-run_with : (b : Bool) → b ≡ true → (front w behind : List ℕ) → cond b (front ++ w) [] ++ behind ≡ front ++ (w ++ behind)
-run_with true h front w behind = append_assoc front w behind
-run_with false h front w behind = cc h
+run_with : (b : Bool) → b ≡ true → (front w beyond : List ℕ) → cond b (front ++ w) [] ++ beyond ≡ front ++ (w ++ beyond)
+run_with true h front w beyond = append_assoc front w beyond
+run_with false h front w beyond = cc h
 
-pub run_more : (n : ℕ) (w : List ℕ) (ws : List (List ℕ)) (behind : List ℕ) → are_digits n w ≡ true → run n (w ∷ ws) ++ behind ≡ run n ws ++ (w ++ behind)
-run_more n w ws behind h = run_with (are_digits n w) h (run n ws) w behind
+pub run_more : (n : ℕ) (w : List ℕ) (ws : List (List ℕ)) (beyond : List ℕ) → are_digits n w ≡ true → run n (w ∷ ws) ++ beyond ≡ run n ws ++ (w ++ beyond)
+run_more n w ws beyond h = run_with (are_digits n w) h (run n ws) w beyond
 
 pub run_stops : (n : ℕ) (w : List ℕ) (ws : List (List ℕ)) → are_digits n w ≡ false → run n (w ∷ ws) ≡ []
 run_stops n w ws h = ap (λ (b : Bool). cond b (run n ws ++ w) []) h

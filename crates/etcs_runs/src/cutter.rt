@@ -208,9 +208,9 @@ impl<T: LineHandler> Engine for Lines<T> {
 
     fn feed(&mut self, piece: &[u8], text: &mut Vec<u8>) -> Result<(), RunFault> {
         let mut rest = piece;
-        while let Some((line, behind)) = split_line(rest) {
+        while let Some((line, beyond)) = split_line(rest) {
             self.end_line(line, text)?;
-            rest = behind;
+            rest = beyond;
         }
         self.keep(rest, text)
     }

@@ -152,7 +152,7 @@ fn take_words(cut: Cut, count: usize, text: &[u8], buffer: &mut [u8], end: usize
     requires some { 0 < count }
     ensures before { result ≤ end }
     ensures room { length buffer.new ≡ length buffer.old }
-    ensures bytes { (behind : List ℕ) → decode_of behind ≡ Ok (drop end buffer.old) → decode_of (run count (last_first (parts_at cut) text.now) ++ behind) ≡ Ok (drop result buffer.new) }
+    ensures bytes { (beyond : List ℕ) → decode_of beyond ≡ Ok (drop end buffer.old) → decode_of (run count (last_first (parts_at cut) text.now) ++ beyond) ≡ Ok (drop result buffer.new) }
 {
     let mut rest = text;
     let mut at = end;

@@ -58,9 +58,9 @@ append_ask : (way : Way) (a b : Reading) → AllAsk way a → AllAsk way b → A
 append_ask way [] b h k = k
 append_ask way (p ∷ a) b h k = (h.0, append_ask way a b h.1 k)
 
-behind_ask : (way : Way) (a b : Reading) → AllAsk way (a ++ b) → AllAsk way b
-behind_ask way [] b h = h
-behind_ask way (p ∷ a) b h = behind_ask way a b h.1
+after_ask : (way : Way) (a b : Reading) → AllAsk way (a ++ b) → AllAsk way b
+after_ask way [] b h = h
+after_ask way (p ∷ a) b h = after_ask way a b h.1
 
 then_ask : (way : Way) (P Q : Reading → Type 0) → ((r : Reading) → P r → AllAsk way r) → ((r : Reading) → Q r → AllAsk way r) → (r : Reading) → Then P Q r → AllAsk way r
 then_ask way P Q p q r (a, b, e, h, k) = rw e (append_ask way a b (p a h) (q b k))
@@ -103,7 +103,7 @@ here_asks c room (Row nid dir row) f k h grows (none, is) (r, (u, v, e', l, m)) 
     let way = way_of c in
     let (n, q, begins) = row_begins_with row.place row.len x e u l in
     let all = reads_ask way is.row [] (is.read ++ u) (typed_ask way nid is.row is.typed) (is.residual.from u l).0 in
-    let asks = (subst (AllAsk way) begins (behind_ask way is.read u all)).0 in
+    let asks = (subst (AllAsk way) begins (after_ask way is.read u all)).0 in
     let long = ap (λ (t : Reading). length (spelled t)) is.here ∙ length-in_frame way nid dir is.total is.read in
     (asks.0, omega (arith, asks.1, long, (frame_between way).0))
 here_asks c room (Kept nid dir left) f k h grows here g x e = asks_anywhere (asked_after (way_of c) + length (spelled h)) x OTHER_DATA refl refl cc

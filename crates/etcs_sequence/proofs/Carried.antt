@@ -25,7 +25,7 @@ use Rattle.etcs_sequence.specs.AtOnce.{Holds, FrameAt, WholeAt}
 use Rattle.etcs_sequence.specs.Contents.{Carries, PacketsIn, ReadsPackets}
 use Rattle.etcs_sequence.specs.laws.Agreement.{packet_agree, packet_fit, numbered}
 use Rattle.etcs_sequence.proofs.OneSpelling.{packet_same, closed_apart}
-use Rattle.etcs_sequence.specs.laws.RunSteps.{behind, both_length, in_front, carried_packet}
+use Rattle.etcs_sequence.specs.laws.RunSteps.{beyond, both_length, in_front, carried_packet}
 use Rattle.etcs_sequence.specs.laws.Others.{kept_parts, kept_untyped}
 use Rattle.etcs_sequence.specs.laws.Framed.{frame_head}
 
@@ -40,7 +40,7 @@ begins c room v (u ∷ us) q carried run =
     let way = way_of c in
     let r = reading_to way v in
     let s = reading_to way u in
-    let b = behind c room (bits_to way u) u us (r ++ q) run (bits_are way u) in
+    let b = beyond c room (bits_to way u) u us (r ++ q) run (bits_are way u) in
     let hv = carried_packet c v carried in
     let hu = carried_packet c u (All-head (Carries c) u us run.carried) in
     let whole : spelled r ++ spelled q ≡ spelled s ++ spelled b.0 = sym (spelled-append r q) ∙ ap spelled b.1 ∙ spelled-append s b.0 in
@@ -50,32 +50,32 @@ begins c room v (u ∷ us) q carried run =
     (us, subst (λ (t : Reading). ReadsPackets c (room - bits_to way v) us t) (sym rest.1) (subst (λ (w : PacketValue). ReadsPackets c (room - bits_to way w) us b.0) (sym same) b.3))
 
 -- what is left after a whole packet
-pub behind_packet : (c : Carrier) (room : ℕ) (v : PacketValue) → Carries c v → bits_to (way_of c) v ≤ room → Residual (PacketsIn c room) (reading_to (way_of c) v) (PacketsIn c (room - bits_to (way_of c) v))
-behind_packet c room v carried le = record {
+pub after_packet : (c : Carrier) (room : ℕ) (v : PacketValue) → Carries c v → bits_to (way_of c) v ≤ room → Residual (PacketsIn c room) (reading_to (way_of c) v) (PacketsIn c (room - bits_to (way_of c) v))
+after_packet c room v carried le = record {
   to = λ q (us, run). begins c room v us q carried run;
   from = λ q l. in_front c room (bits_to (way_of c) v) v q carried (bits_are (way_of c) v) le l;
 }
 
 -- so it is after one of a piece
-pub behind_whole : (c : Carrier) (room : ℕ) (H H' : Holds) (xs : List Bool) (at l : ℕ) (w : WholeAt c H H' xs at l) → l ≤ room → Residual (PacketsIn c room) (reading_to (way_of c) w.packet) (PacketsIn c (room - l))
-behind_whole c room H H' xs at l w le =
+pub after_whole : (c : Carrier) (room : ℕ) (H H' : Holds) (xs : List Bool) (at l : ℕ) (w : WholeAt c H H' xs at l) → l ≤ room → Residual (PacketsIn c room) (reading_to (way_of c) w.packet) (PacketsIn c (room - l))
+after_whole c room H H' xs at l w le =
     let long = w.long in
-    subst (λ (n : ℕ). Residual (PacketsIn c room) (reading_to (way_of c) w.packet) (PacketsIn c (room - n))) long (behind_packet c room w.packet w.carried (omega (arith, le, long)))
+    subst (λ (n : ℕ). Residual (PacketsIn c room) (reading_to (way_of c) w.packet) (PacketsIn c (room - n))) long (after_packet c room w.packet w.carried (omega (arith, le, long)))
 
 -- and after several
-pub behind_packets : (c : Carrier) (room left : ℕ) (vs : List PacketValue) → All (Carries c) vs → length (spelled (readings_to (way_of c) vs)) + left ≡ room → Residual (PacketsIn c room) (readings_to (way_of c) vs) (PacketsIn c left)
-behind_packets c room left [] all long =
+pub after_packets : (c : Carrier) (room left : ℕ) (vs : List PacketValue) → All (Carries c) vs → length (spelled (readings_to (way_of c) vs)) + left ≡ room → Residual (PacketsIn c room) (readings_to (way_of c) vs) (PacketsIn c left)
+after_packets c room left [] all long =
     let same : room ≡ left = omega (arith, long) in
     subst (λ (n : ℕ). Residual (PacketsIn c room) [] (PacketsIn c n)) same (residual_none (PacketsIn c room))
-behind_packets c room left (v ∷ vs) all long =
+after_packets c room left (v ∷ vs) all long =
     let way = way_of c in
     let one = reading_to way v in
     let rest = readings_to way vs in
     let bits = bits_to way v in
     let size = bits_are way v in
     let both = both_length one rest in
-    let first = behind_packet c room v (All-head (Carries c) v vs all) (omega (arith, long, both, size)) in
-    let others = behind_packets c (room - bits) left vs (All-tail (Carries c) v vs all) (omega (arith, long, both, size)) in
+    let first = after_packet c room v (All-head (Carries c) v vs all) (omega (arith, long, both, size)) in
+    let others = after_packets c (room - bits) left vs (All-tail (Carries c) v vs all) (omega (arith, long, both, size)) in
     residual_along (PacketsIn c room) one (PacketsIn c (room - bits)) rest (PacketsIn c left) first others
 
 -- the packet of a row, of its bits

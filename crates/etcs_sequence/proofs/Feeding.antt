@@ -202,8 +202,8 @@ module _ {R V W P : Type 0} {left : R → Reading → Type 0} {next : R → Opti
       }
 
     -- memory is refused after what is held
-    starved_behind : (xs : List Bool) (n : ℕ) → (h : StarvesAt R left follows fails old.rest old.part xs n) → length (spelled (far old.rest ++ h.passed.whole)) ≤ old.count + n
-    starved_behind xs n h =
+    starved_after : (xs : List Bool) (n : ℕ) → (h : StarvesAt R left follows fails old.rest old.part xs n) → length (spelled (far old.rest ++ h.passed.whole)) ≤ old.count + n
+    starved_after xs n h =
         let p = h.passed.whole in
         let l1 = ap length (spelled-append (far old.rest) p) ∙ length-append (spelled (far old.rest)) (spelled p) in
         let l2 = sym (length-append (spelled p) h.part) ∙ ap length h.passed.bits ∙ length-append old.part (take n xs) in
@@ -213,7 +213,7 @@ module _ {R V W P : Type 0} {left : R → Reading → Type 0} {next : R → Opti
     starved_far xs n h =
         let p = h.passed.whole in
         let long = w.starved h.place (far old.rest ++ p) h.here (w.held old.rest h.place p (far old.rest) h.passed.follows at.held) in
-        omega (arith, long, starved_behind xs n h)
+        omega (arith, long, starved_after xs n h)
 
     -- at a variable of what was passed that asks for it
     starved_owner : (xs : List Bool) (n : ℕ) → (h : StarvesAt R left follows fails old.rest old.part xs n) → Owner L (seen old ++ take n xs) h.holder
@@ -225,7 +225,7 @@ module _ {R V W P : Type 0} {left : R → Reading → Type 0} {next : R → Opti
     starved_asks xs n h =
         let (r, c, l, e) = h.owned.viable in
         let asks = first_asks h.place (far old.rest ++ h.passed.whole) h.holder (r, l) h.begins h.here (w.held old.rest h.place h.passed.whole (far old.rest) h.passed.follows at.held) in
-        (asks.0, omega (arith, asks.1, starved_behind xs n h))
+        (asks.0, omega (arith, asks.1, starved_after xs n h))
 
   -- ---- A piece, of which these bytes are fed.
 
@@ -314,10 +314,10 @@ module _ {R V W P : Type 0} {left : R → Reading → Type 0} {next : R → Opti
         let cut : take (n + 1) xs ≡ take (n + 1) (bits piece) = ap (take (n + 1)) (bits_take piece taken within) ∙ take-take (n + 1) (8 * taken) (bits piece) (omega (arith, h.within, long)) in
         let whole : seen old ++ take (n + 1) xs ≡ take (new.count + 1) (seen old ++ bits piece) =
         ap (λ (u : List Bool). seen old ++ u) cut ∙ sym (take-append-add (seen old) (bits piece) (n + 1)) ∙ ap (λ (k : ℕ). take k (seen old ++ bits piece)) place in
-        let behind : length (seen old) + n ≡ new.count = omega (arith, count, at.counted) in
+        let beyond : length (seen old) + n ≡ new.count = omega (arith, count, at.counted) in
         let less : take n xs ≡ take n (bits piece) = ap (take n) (bits_take piece taken within) ∙ take-take n (8 * taken) (bits piece) (omega (arith, h.within, long)) in
         let front : seen old ++ take n xs ≡ take new.count (seen old ++ bits piece) =
-        ap (λ (u : List Bool). seen old ++ u) less ∙ sym (take-append-add (seen old) (bits piece) n) ∙ ap (λ (k : ℕ). take k (seen old ++ bits piece)) behind in
+        ap (λ (u : List Bool). seen old ++ u) less ∙ sym (take-append-add (seen old) (bits piece) n) ∙ ap (λ (k : ℕ). take k (seen old ++ bits piece)) beyond in
         record {
           is = rw stop tt;
           fed = (

@@ -26,8 +26,8 @@ module _ (Left : ℕ → Reading → Type 0) where
   abbrev By : ℕ → Reading → Reading → Type 0
   By room p r = Left (room - length (spelled p)) r
 
-  abbrev Behind : PacketsState → Reading → Type 0
-  Behind l r = Chain (left_of l.carrier l.room l.stage) (By (ahead l.carrier l.room l.stage)) r
+  abbrev Following : PacketsState → Reading → Type 0
+  Following l r = Chain (left_of l.carrier l.room l.stage) (By (ahead l.carrier l.room l.stage)) r
 
   -- packets leave so much less to them
   less_left : (room room' : ℕ) (p a : Reading) → room ≡ length (spelled p) + room' → Same (By room (p ++ a)) (By room' a)
@@ -35,8 +35,8 @@ module _ (Left : ℕ → Reading → Type 0) where
       let left : room - length (spelled (p ++ a)) ≡ room' - length (spelled a) = omega (arith, both_length p a, e) in
       (λ f. subst (λ n. Left n r) left f, λ f. subst (λ n. Left n r) (sym left) f)
 
-  pub filled_behind : (l l' : PacketsState) (p : Reading) → Moved l.carrier l.room l.stage p l'.carrier l'.room l'.stage → Goes (left_of l'.carrier l'.room l'.stage) → Residual (Behind l) p (Behind l')
-  filled_behind l l' p m g =
+  pub filled_after : (l l' : PacketsState) (p : Reading) → Moved l.carrier l.room l.stage p l'.carrier l'.room l'.stage → Goes (left_of l'.carrier l'.room l'.stage) → Residual (Following l) p (Following l')
+  filled_after l l' p m g =
       let P : Reading → Type 0 = left_of l.carrier l.room l.stage in
       let R : Reading → Type 0 = left_of l'.carrier l'.room l'.stage in
       let room = ahead l.carrier l.room l.stage in
@@ -45,14 +45,14 @@ module _ (Left : ℕ → Reading → Type 0) where
 
   module _ (some : (n : ℕ) → Goes (Left n)) (l : PacketsState) where
     -- they can follow all of them
-    some_behind : (a : Reading) → left_of l.carrier l.room l.stage a → Goes (By (ahead l.carrier l.room l.stage) a)
-    some_behind a h = some (ahead l.carrier l.room l.stage - length (spelled a))
+    some_beyond : (a : Reading) → left_of l.carrier l.room l.stage a → Goes (By (ahead l.carrier l.room l.stage) a)
+    some_beyond a h = some (ahead l.carrier l.room l.stage - length (spelled a))
 
-    pub filled_starts : (x : Var) (rest bits : ℕ) → next_of l.stage ≡ Some x → Starts (left_of l.carrier l.room l.stage) x rest bits ↔ Starts (Behind l) x rest bits
-    filled_starts x rest bits e = chain_starts (left_of l.carrier l.room l.stage) (By (ahead l.carrier l.room l.stage)) some_behind x rest bits (left_begins l.carrier l.room l.stage l.stands x e)
+    pub filled_starts : (x : Var) (rest bits : ℕ) → next_of l.stage ≡ Some x → Starts (left_of l.carrier l.room l.stage) x rest bits ↔ Starts (Following l) x rest bits
+    filled_starts x rest bits e = chain_starts (left_of l.carrier l.room l.stage) (By (ahead l.carrier l.room l.stage)) some_beyond x rest bits (left_begins l.carrier l.room l.stage l.stands x e)
 
-    pub filled_viable : (t : List Bool) → Viable (left_of l.carrier l.room l.stage) t → Viable (Behind l) t
-    filled_viable t v = chain_viable (left_of l.carrier l.room l.stage) (By (ahead l.carrier l.room l.stage)) some_behind t v
+    pub filled_viable : (t : List Bool) → Viable (left_of l.carrier l.room l.stage) t → Viable (Following l) t
+    filled_viable t v = chain_viable (left_of l.carrier l.room l.stage) (By (ahead l.carrier l.room l.stage)) some_beyond t v
 
-    pub filled_goes : Goes (left_of l.carrier l.room l.stage) → Goes (Behind l)
-    filled_goes g = chain_goes (left_of l.carrier l.room l.stage) (By (ahead l.carrier l.room l.stage)) some_behind g
+    pub filled_goes : Goes (left_of l.carrier l.room l.stage) → Goes (Following l)
+    filled_goes g = chain_goes (left_of l.carrier l.room l.stage) (By (ahead l.carrier l.room l.stage)) some_beyond g

@@ -20,7 +20,7 @@ use Rattle.etcs_packets.specs.PacketReadings.{readings_to}
 use Rattle.etcs_packets.specs.laws.PacketReadings.{bits_are}
 use Rattle.etcs_sequence.specs.Contents.{closing, Carries, PacketsIn, ReadsPackets, BodyIn, AfterLength, AfterNumber}
 use Rattle.etcs_sequence.specs.laws.Others.{kept_fault, kept_framed}
-use Rattle.etcs_sequence.specs.laws.RunSteps.{behind, both_length, in_front, framed_carried}
+use Rattle.etcs_sequence.specs.laws.RunSteps.{beyond, both_length, in_front, framed_carried}
 use Rattle.etcs_sequence.proofs.Padding.{padded}
 use Rattle.etcs_sequence.specs.laws.Framed.{typed_framed, marker_marked, kept_three, some_direction}
 
@@ -70,7 +70,7 @@ run_left : (c : Carrier) (room : ℕ) (vs : List PacketValue) (r : Reading) → 
 run_left Telegram room vs r run = le-leb 8 room (omega (arith, run.fills, closing_bits vs r run.reading_is))
 run_left (Message way) room [] r run = first_of (nat_le room 7) (nat_le (frame_bits way) room) (le-leb room 7 (let none : length (spelled r) ≡ 0 = ap (λ (t : Reading). length (spelled t)) run.reading_is in omega (arith, none, run.fills.1)))
 run_left (Message way) room (v ∷ vs) r run =
-    let b = behind (Message way) room (bits_to way v) v vs r run (bits_are way v) in
+    let b = beyond (Message way) room (bits_to way v) v vs r run (bits_are way v) in
     second_of (nat_le room 7) (nat_le (frame_bits way) room) (le-leb (frame_bits way) room (omega (arith, b.2, framed_bits way v (All-head (Carries (Message way)) v vs run.carried))))
 
 -- ---- Lengths and numbers.
@@ -112,8 +112,8 @@ number_some (Message way) room n small (inl none) = absurd none
 number_some c room n small (inr (l, fits)) =
     let way = way_of c in
     let q = length_some c n room l small fits in
-    let behind : Reading = (L_PACKET, l) ∷ q.0 in
-    (directed way 0 behind, inr (inr (body_number way n (l - frame_bits way) fits.2, (0, behind, refl, some_direction way, (l, q.0, refl, q.1)))))
+    let beyond : Reading = (L_PACKET, l) ∷ q.0 in
+    (directed way 0 beyond, inr (inr (body_number way n (l - frame_bits way) fits.2, (0, beyond, refl, some_direction way, (l, q.0, refl, q.1)))))
 
 pub some_number : (c : Carrier) (room n : ℕ) (r : Reading) → AfterNumber c room n r → NumberFits c room n
 some_number c room n r (inl (same, is, le, e)) = subst (λ (x : Carrier). NumberFits x room n) (sym same) (inl (inl (is, le)))

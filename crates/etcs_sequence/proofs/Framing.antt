@@ -13,14 +13,14 @@ use Rattle.etcs_rows.specs.declared.frames.Carrier.TheVariants.{Telegram, Messag
 use Rattle.etcs_rows.specs.Frames.{way_of}
 use Rattle.etcs_sequence.specs.Contents.{PacketsIn, LengthLeft, AfterDirection, DirectionLeft, AfterMarker, MarkerLeft, AfterNumber, FrameLeft}
 use Rattle.etcs_sequence.specs.laws.RunSteps.{number_step, marker_step, direction_step}
-use Rattle.etcs_sequence.proofs.Turns.{behind_closing, behind_zero, behind_marker, behind_direction, unframed_is, behind_number, framed_left}
+use Rattle.etcs_sequence.proofs.Turns.{after_closing, after_zero, after_marker, after_direction, unframed_is, beyond_number, framed_left}
 use Rattle.etcs_reader.specs.Rests.{Starts}
 use Rattle.etcs_sequence.specs.declared.stage.Event.TheVariants.{More}
 use Rattle.etcs_sequence.specs.declared.stage.Stage.{Stage}
 use Rattle.etcs_sequence.specs.declared.stage.Stage.TheVariants.{Number, Marker, Direction, Length, Closed}
-use Rattle.etcs_sequence.specs.Lefts.{behind_framed, left_of, ahead, is_open, is_telegram, Becomes, Moved, is_stage, Here}
+use Rattle.etcs_sequence.specs.Lefts.{after_framed, left_of, ahead, is_open, is_telegram, Becomes, Moved, is_stage, Here}
 use Rattle.etcs_sequence.specs.laws.LeftLaws.{open_by}
-use Rattle.etcs_sequence.specs.laws.OpenLaws.{opens_behind, opens_number}
+use Rattle.etcs_sequence.specs.laws.OpenLaws.{opens_beyond, opens_number}
 use Rattle.etcs_sequence.proofs.Moving.{moved_by}
 use Rattle.etcs_sequence.specs.laws.Framed.{framed_small, frame_between, sent_directed}
 
@@ -32,17 +32,17 @@ number_parts c room n (r, inr (inl (same, is, (m, q, e, (a, le, run))))) = (omeg
 number_parts c room n (r, inr (inr (framed, (dir, q, e, a, (l, q', e', (least, most, le, b)))))) = (omega (arith, least, le, (frame_between (way_of c)).0), framed_small (way_of c) n framed)
 
 -- what holds of the stage after the number of a frame
-pub framed_stands : (c : Carrier) (room n : ℕ) → IsTrue (is_framed (way_of c) n) → IsTrue (is_stage c room (behind_framed (way_of c) n))
+pub framed_stands : (c : Carrier) (room n : ℕ) → IsTrue (is_framed (way_of c) n) → IsTrue (is_stage c room (after_framed (way_of c) n))
 framed_stands Telegram room n framed = framed
 framed_stands (Message ToTrain) room n framed = framed
 framed_stands (Message ToTrack) room n framed = and_from (is_framed ToTrack n) true framed refl
 
-framed_ahead : (c : Carrier) (room n : ℕ) → ahead c room (behind_framed (way_of c) n) ≡ room - 8
+framed_ahead : (c : Carrier) (room n : ℕ) → ahead c room (after_framed (way_of c) n) ≡ room - 8
 framed_ahead Telegram room n = refl
 framed_ahead (Message ToTrain) room n = refl
 framed_ahead (Message ToTrack) room n = refl
 
-framed_is : (c : Carrier) (n : ℕ) → Here c (behind_framed (way_of c) n) [] [] ((NID_PACKET, n) ∷ [])
+framed_is : (c : Carrier) (n : ℕ) → Here c (after_framed (way_of c) n) [] [] ((NID_PACKET, n) ∷ [])
 framed_is Telegram n = (refl, refl, refl)
 framed_is (Message ToTrain) n = (refl, refl, refl)
 framed_is (Message ToTrack) n = (refl, refl, refl)
@@ -59,20 +59,20 @@ module _ (c : Carrier) (room n : ℕ) (more : IsTrue (is_open c room)) (starts :
 
   number_moved : (room' : ℕ) (s : Stage) → ahead c room' s ≡ room - 8 → Same (AfterNumber c room n) (left_of c room' s) → Moved c room Number ((NID_PACKET, n) ∷ []) c room' s
   number_moved room' s bits same =
-      let behind = opens_behind (PacketsIn c room) NID_PACKET (AfterNumber c room) (number_step c room (open_by c room more)) n in
-      moved_by c room Number NID_PACKET n room' s (AfterNumber c room n) behind same (omega (arith, bits, number_room))
+      let beyond = opens_beyond (PacketsIn c room) NID_PACKET (AfterNumber c room) (number_step c room (open_by c room more)) n in
+      moved_by c room Number NID_PACKET n room' s (AfterNumber c room n) beyond same (omega (arith, bits, number_room))
 
   -- any number with a frame
-  pub framed_moved : IsTrue (is_framed (way_of c) n) → Moved c room Number ((NID_PACKET, n) ∷ []) c room (behind_framed (way_of c) n)
-  framed_moved framed = number_moved room (behind_framed (way_of c) n) (framed_ahead c room n) (same_along (AfterNumber c room n) (FrameLeft c n room) (left_of c room (behind_framed (way_of c) n)) (behind_number c room n framed) (framed_left c room n))
+  pub framed_moved : IsTrue (is_framed (way_of c) n) → Moved c room Number ((NID_PACKET, n) ∷ []) c room (after_framed (way_of c) n)
+  framed_moved framed = number_moved room (after_framed (way_of c) n) (framed_ahead c room n) (same_along (AfterNumber c room n) (FrameLeft c n room) (left_of c room (after_framed (way_of c) n)) (beyond_number c room n framed) (framed_left c room n))
 
-  pub framed_here : Becomes c Number NID_PACKET n More (behind_framed (way_of c) n)
+  pub framed_here : Becomes c Number NID_PACKET n More (after_framed (way_of c) n)
   framed_here f k h (e1, e2, e3) = rw (e1, e2, e3) (framed_is c n)
 
   module _ (unframed : is_framed (way_of c) n ≡ false) where
     -- 255 closes the packets
     closing : n ≡ 255 → (c ≡ Telegram) × Same (AfterNumber c room n) (left_of c (room - 8) Closed)
-    closing is = let b = behind_closing c room (rw is at unframed) (rw is at some) in (b.0, rw is b.1)
+    closing is = let b = after_closing c room (rw is at unframed) (rw is at some) in (b.0, rw is b.1)
 
     pub closing_moved : n ≡ 255 → Moved c room Number ((NID_PACKET, n) ∷ []) c (room - 8) Closed
     closing_moved is = number_moved (room - 8) Closed refl (closing is).1
@@ -85,7 +85,7 @@ module _ (c : Carrier) (room n : ℕ) (more : IsTrue (is_open c room)) (starts :
     zero_is other = unframed_is c room n unframed some other
 
     zero : (n ≡ 255 → ⊥) → (c ≡ Telegram) × Same (AfterNumber c room n) (MarkerLeft room)
-    zero other = let is = zero_is other in let b = behind_zero c room (rw is at unframed) (rw is at some) in (b.0, rw is b.1)
+    zero other = let is = zero_is other in let b = after_zero c room (rw is at unframed) (rw is at some) in (b.0, rw is b.1)
 
     pub zero_telegram : (n ≡ 255 → ⊥) → IsTrue (is_telegram c)
     zero_telegram other = rw (zero other).0 refl
@@ -102,13 +102,13 @@ pub marker_moved : (c : Carrier) (room n : ℕ) (s : Stage) → IsTrue (is_teleg
 marker_moved Telegram room n s t starts left bits =
     let step = marker_step room in
     let After = AfterMarker room in
-    let (a, le, run) = behind_marker room n (opens_number (MarkerLeft room) NID_VBCMK After step n starts) in
+    let (a, le, run) = after_marker room n (opens_number (MarkerLeft room) NID_VBCMK After step n starts) in
     let same = same_along (After n) (PacketsIn Telegram (room - 14)) (left_of Telegram (room - 14) s) run (same_back (left_of Telegram (room - 14) s) (PacketsIn Telegram (room - 14)) left) in
-    moved_by Telegram room Marker NID_VBCMK n (room - 14) s (After n) (opens_behind (MarkerLeft room) NID_VBCMK After step n) same (omega (arith, le, bits))
+    moved_by Telegram room Marker NID_VBCMK n (room - 14) s (After n) (opens_beyond (MarkerLeft room) NID_VBCMK After step n) same (omega (arith, le, bits))
 marker_moved (Message way) room n s t starts left bits = absurd cc
 
 pub marker_room : (room n : ℕ) → Starts (MarkerLeft room) NID_VBCMK 0 n → 14 ≤ room
-marker_room room n starts = (behind_marker room n (opens_number (MarkerLeft room) NID_VBCMK (AfterMarker room) (marker_step room) n starts)).1
+marker_room room n starts = (after_marker room n (opens_number (MarkerLeft room) NID_VBCMK (AfterMarker room) (marker_step room) n starts)).1
 
 -- ---- Q_DIR.
 
@@ -126,12 +126,12 @@ direction_moved c nid room dir starts =
     let After = AfterDirection c nid room in
     let some = opens_number (DirectionLeft c nid room) Q_DIR After step dir starts in
     let least = length_room c nid room some.0 some.1.1 in
-    let turn = behind_direction c nid room dir some in
+    let turn = after_direction c nid room dir some in
     let head = sent_head (way_of c) dir turn.0 in
-    moved_by c room (Direction nid) Q_DIR dir room (Length nid dir) (After dir) (opens_behind (DirectionLeft c nid room) Q_DIR After step dir) turn.1 (omega (arith, least, head, (frame_between (way_of c)).0))
+    moved_by c room (Direction nid) Q_DIR dir room (Length nid dir) (After dir) (opens_beyond (DirectionLeft c nid room) Q_DIR After step dir) turn.1 (omega (arith, least, head, (frame_between (way_of c)).0))
 
 pub direction_sent : (c : Carrier) (nid room dir : ℕ) → Starts (DirectionLeft c nid room) Q_DIR 0 dir → IsTrue (sends (way_of c) dir)
-direction_sent c nid room dir starts = (behind_direction c nid room dir (opens_number (DirectionLeft c nid room) Q_DIR (AfterDirection c nid room) (direction_step c nid room) dir starts)).0
+direction_sent c nid room dir starts = (after_direction c nid room dir (opens_number (DirectionLeft c nid room) Q_DIR (AfterDirection c nid room) (direction_step c nid room) dir starts)).0
 
 pub direction_here : (c : Carrier) (nid room dir : ℕ) → Starts (DirectionLeft c nid room) Q_DIR 0 dir → Becomes c (Direction nid) Q_DIR dir More (Length nid dir)
 direction_here c nid room dir starts f k h (e1, e2, e3) =

@@ -10,7 +10,7 @@ use Rattle.etcs_vars.specs.Walking.{Residual}
 use Rattle.etcs_reader.specs.Rests.{Starts, Goes}
 use Rattle.etcs_reader.specs.Fields.{ReadsFields, first_of}
 use Rattle.etcs_reader.specs.laws.FieldLaws.{fields_regular, fields_begin}
-use Rattle.etcs_reader.proofs.FieldLaws.{fields_tested, fields_behind, some_fields}
+use Rattle.etcs_reader.proofs.FieldLaws.{fields_tested, fields_after, some_fields}
 use Rattle.etcs_sequence.specs.laws.ChainLaws.{chain_starts}
 use Rattle.etcs_sequence.proofs.ChainLaws.{chain_along}
 
@@ -26,8 +26,8 @@ module _ (Q : Reading → Type 0) where
       (λ t. two.0 (one.0 t), λ s. one.1 (two.1 s))
 
   -- after the number of one of them come those after it
-  pub front_behind : (vs : List Var) (at : ℕ) (x : Var) (number : ℕ) → at < length vs → first_of (drop at vs) ≡ Some x → Starts (Then (ReadsFields (drop at vs)) Q) x 0 number → Residual (Then (ReadsFields (drop at vs)) Q) ((x, number) ∷ []) (Then (ReadsFields (drop (suc at) vs)) Q)
-  front_behind vs at x number h e s =
+  pub front_after : (vs : List Var) (at : ℕ) (x : Var) (number : ℕ) → at < length vs → first_of (drop at vs) ≡ Some x → Starts (Then (ReadsFields (drop at vs)) Q) x 0 number → Residual (Then (ReadsFields (drop at vs)) Q) ((x, number) ∷ []) (Then (ReadsFields (drop (suc at) vs)) Q)
+  front_after vs at x number h e s =
       let v = get_or vs at PAD in
       let us = drop (suc at) vs in
       let row : drop at vs ≡ v ∷ us = drop-cons vs at PAD h in
@@ -36,5 +36,5 @@ module _ (Q : Reading → Type 0) where
       let g = front_goes (v ∷ us) x 0 number s' in
       let one = (chain_starts (ReadsFields (v ∷ us)) (λ _. Q) (λ _ _. g) x 0 number (fields_begin (v ∷ us) x first)).1 s' in
       let all : Residual (Then (ReadsFields (v ∷ us)) Q) ((x, number) ∷ []) (Then (ReadsFields us) Q) =
-      chain_along (ReadsFields (v ∷ us)) (ReadsFields us) (λ _. Q) (λ _. Q) ((x, number) ∷ []) (fields_regular (v ∷ us)) (fields_behind v us x number first one) (some_fields us) (λ a b. (λ k. k, λ k. k)) in
+      chain_along (ReadsFields (v ∷ us)) (ReadsFields us) (λ _. Q) (λ _. Q) ((x, number) ∷ []) (fields_regular (v ∷ us)) (fields_after v us x number first one) (some_fields us) (λ a b. (λ k. k, λ k. k)) in
       rw row all

@@ -30,7 +30,7 @@ use Rattle.etcs_packets.specs.laws.PacketReadings.{bits_are}
 use Rattle.etcs_sequence.specs.ChainLaws.{Chain}
 use Rattle.etcs_sequence.specs.Contents.{Carries, PacketsIn, KeptIn}
 use Rattle.etcs_sequence.proofs.Fits.{run_some}
-use Rattle.etcs_sequence.proofs.Wholes.{spelled_kept, kept_behind}
+use Rattle.etcs_sequence.proofs.Wholes.{spelled_kept, kept_after}
 use Rattle.etcs_sequence.specs.laws.Others.{kept_parts, kept_fault, kept_framed}
 use Rattle.etcs_sequence.proofs.Carried.{typed_bits, frame_spelled}
 use Rattle.etcs_sequence.specs.laws.RunSteps.{in_front, framed_carried}
@@ -105,9 +105,9 @@ first_viable c room l nid x tail k e least le small left =
     let long : bits_to way v ≡ l = omega (arith, size, least) in
     let q = run_some c (room - l) (omega (arith, small)) left in
     let run = in_front c room l v q.0 (framed_carried c v is (kept_framed way nid k)) (bits_are way v ∙ long) le q.1 in
-    let behind : Reading = directed way 0 ((L_PACKET, frame + length body) ∷ kept OTHER_DATA body) in
-    let all = spelled-append ((NID_PACKET, nid) ∷ behind) q.0 ∙ append_assoc (num 8 nid) (spelled behind) (spelled q.0) ∙ ap (λ (t : List Bool). t ++ (spelled behind ++ spelled q.0)) e in
-    (reading_to way v ++ q.0, tail ++ (spelled behind ++ spelled q.0), run, all)
+    let beyond : Reading = directed way 0 ((L_PACKET, frame + length body) ∷ kept OTHER_DATA body) in
+    let all = spelled-append ((NID_PACKET, nid) ∷ beyond) q.0 ∙ append_assoc (num 8 nid) (spelled beyond) (spelled q.0) ∙ ap (λ (t : List Bool). t ++ (spelled beyond ++ spelled q.0)) e in
+    (reading_to way v ++ q.0, tail ++ (spelled beyond ++ spelled q.0), run, all)
 
 -- a packet may begin with either bit
 pub packet_viable : (c : Carrier) (room l : ℕ) (t : List Bool) → length t ≡ 1 → frame_bits (way_of c) ≤ l → l ≤ room → room ≤ 8191 → IsTrue (may_be_left c (room - l)) → Viable (PacketsIn c room) t
@@ -136,7 +136,7 @@ kept_on : (left : ℕ) (Q : Reading → Type 0) (t : List Bool) → length t ≤
 kept_on left Q t le (r, (first, rest, e, k, l)) =
     let more = replicate (left - length t) false in
     let q = kept OTHER_DATA more ++ rest in
-    (q, (kept_behind left t Q le).from q (kept OTHER_DATA more, rest, refl, (more, length-replicate (left - length t) false, refl), l))
+    (q, (kept_after left t Q le).from q (kept OTHER_DATA more, rest, refl, (more, length-replicate (left - length t) false, refl), l))
 
 module _ (c : Carrier) (room : ℕ) (s : Stage) (nid dir left : ℕ) (e : s ≡ Kept nid dir left) (goes : Goes (left_of c room s)) where
   on : (t : List Bool) → length t ≤ left → (q : Reading) × left_of c room s (kept OTHER_DATA t ++ q)
@@ -150,7 +150,7 @@ module _ (c : Carrier) (room : ℕ) (s : Stage) (nid dir left : ℕ) (e : s ≡ 
       (kept OTHER_DATA t ++ q.0, spelled q.0, q.1, spelled-append (kept OTHER_DATA t) q.0 ∙ ap (λ (b : List Bool). b ++ spelled q.0) (spelled_kept t))
 
   pub kept_goes : (t : List Bool) (R : Reading → Type 0) → length t ≤ left → Residual (left_of c room s) (kept OTHER_DATA t) R → Goes R
-  kept_goes t R le behind = let q = on t le in (q.0, behind.to q.0 q.1)
+  kept_goes t R le beyond = let q = on t le in (q.0, beyond.to q.0 q.1)
 
 -- ---- Variables of a row.
 
@@ -168,8 +168,8 @@ run_taken c s s' p n e H M is absorbed here = taken c s s' (λ f. f ++ numbers p
 
 module _ (c : Carrier) (room : ℕ) (s : Stage) (nid dir : ℕ) (row left : RowRest) (p : Reading) (e : s ≡ Row nid dir row) (goes : Goes (left_of c room s)) (more : Goes (ReadsIn left.place left.len)) (to : ReadTo row.place row.len p left.place left.len) where
   -- something continues after them
-  behind_run : (q : Reading) × left_of c room s (p ++ q)
-  behind_run =
+  after_run : (q : Reading) × left_of c room s (p ++ q)
+  after_run =
       let Q = PacketsIn c room in
       let g : Goes (left_of c room (Row nid dir row)) = rw e at goes in
       let tail = (then_goes (ReadsIn row.place row.len) Q g).1 in
@@ -179,14 +179,14 @@ module _ (c : Carrier) (room : ℕ) (s : Stage) (nid dir : ℕ) (row left : RowR
   -- so it does after their first bit
   pub run_viable : (xs : List Bool) (at count : ℕ) → 0 < count → spelled p ≡ part at count xs → Viable (left_of c room s) (part at 1 xs)
   run_viable xs at count some is =
-      let q = behind_run in
+      let q = after_run in
       let last = part (at + 1) (count - 1) xs in
       let size : 1 + (count - 1) ≡ count = omega (arith, some) in
       let cut : spelled p ≡ part at 1 xs ++ last = is ∙ sym (ap (λ (m : ℕ). part at m xs) size) ∙ part-add at 1 (count - 1) xs in
       (p ++ q.0, last ++ spelled q.0, q.1, spelled-append p q.0 ∙ ap (λ (b : List Bool). b ++ spelled q.0) cut ∙ append_assoc (part at 1 xs) last (spelled q.0))
 
   pub run_goes : (R : Reading → Type 0) → Residual (left_of c room s) p R → Goes R
-  run_goes R behind = let q = behind_run in (q.0, behind.to q.0 q.1)
+  run_goes R beyond = let q = after_run in (q.0, beyond.to q.0 q.1)
 
 -- ---- Packet 255.
 

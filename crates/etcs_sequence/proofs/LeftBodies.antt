@@ -24,8 +24,8 @@ use Rattle.etcs_packets.specs.PacketReadings.{in_frame, reading_to}
 use Rattle.etcs_packets.specs.laws.PacketReadings.{length-kept, frame_is, directed-append, in_frame-append}
 use Rattle.etcs_sequence.specs.Contents.{Carries, PacketsIn, BodyIn, KeptIn, BodyLeft, AfterLength, LengthLeft}
 use Rattle.etcs_sequence.specs.laws.RunSteps.{framed_carried}
-use Rattle.etcs_sequence.proofs.Turns.{residual_same, behind_length, typed_body, kept_body}
-use Rattle.etcs_sequence.proofs.Wholes.{kept_behind, kept_ends, kept_append}
+use Rattle.etcs_sequence.proofs.Turns.{residual_same, beyond_length, typed_body, kept_body}
+use Rattle.etcs_sequence.proofs.Wholes.{kept_after, kept_ends, kept_append}
 use Rattle.etcs_reader.specs.Rests.{Starts, Goes, BeginsWith}
 use Rattle.etcs_reader.specs.laws.FieldLaws.{residual_none, residual_along}
 use Rattle.etcs_rows.specs.declared.rest.RowRest.{RowRest}
@@ -33,7 +33,7 @@ use Rattle.etcs_sequence.specs.declared.stage.Stage.{Stage}
 use Rattle.etcs_sequence.specs.declared.stage.Stage.TheVariants.{Number, Length, Row, Kept}
 use Rattle.etcs_sequence.specs.Lefts.{left_of, ahead, RowHere, Moved}
 use Rattle.etcs_rows.specs.laws.RestLaws.{row_begins_with, row_ended}
-use Rattle.etcs_sequence.proofs.ThenLaws.{cut_first, then_behind, then_second}
+use Rattle.etcs_sequence.proofs.ThenLaws.{cut_first, then_after, then_second}
 use Rattle.etcs_sequence.specs.laws.Framed.{typed_framed, row_short}
 use Rattle.etcs_sequence.specs.laws.Others.{kept_fault, kept_framed}
 
@@ -55,7 +55,7 @@ some_after c nid room l (n, r, h, e) =
 -- a body of known readings is left
 body_left : (c : Carrier) (nid room l : ℕ) (B : Reading → Type 0) → ((r : Reading) × AfterLength c nid room l r) → Same (BodyIn (way_of c) nid (l - frame_bits (way_of c))) B → Residual (LengthLeft c nid room) ((L_PACKET, l) ∷ []) (Then B (PacketsIn c (room - l)))
 body_left c nid room l B some same =
-    let t = behind_length c nid room l some in
+    let t = beyond_length c nid room l some in
     let run = PacketsIn c (room - l) in
     let here : Residual (LengthLeft c nid room) ((L_PACKET, l) ∷ []) (AfterLength c nid room l) = record { to = λ q h. length_after c nid room l q h; from = λ q a. (l, q, refl, a) } in
     residual_same (LengthLeft c nid room) ((L_PACKET, l) ∷ []) (AfterLength c nid room l) (Then B run) here
@@ -70,7 +70,7 @@ pub kept_begun : (c : Carrier) (nid dir room l : ℕ) → Starts (LengthLeft c n
 kept_begun c nid dir room l goes k =
     let bits = l - frame_bits (way_of c) in
     let some = some_after c nid room l goes in
-    let t = behind_length c nid room l some in
+    let t = beyond_length c nid room l some in
     record { same = refl; residual = body_left c nid room l (KeptIn bits) some (kept_body (way_of c) nid bits k); ahead_is = frame_ahead (way_of c) room l t.0 t.2 }
 
 -- a row is read
@@ -78,20 +78,20 @@ pub row_begun : (c : Carrier) (nid dir room l : ℕ) (row : Layout) (rest : RowR
 row_begun c nid dir room l row rest goes typed place len =
     let bits = l - frame_bits (way_of c) in
     let some = some_after c nid room l goes in
-    let t = behind_length c nid room l some in
+    let t = beyond_length c nid room l some in
     let same : Same (BodyIn (way_of c) nid bits) (ReadsIn rest.place rest.len) = rw (place, len) (typed_body (way_of c) nid bits row typed) in
     record { same = refl; residual = body_left c nid room l (ReadsIn rest.place rest.len) some same; ahead_is = rw len (frame_ahead (way_of c) room l t.0 t.2) }
 
 -- how long the packet is
 pub length_whole : (c : Carrier) (nid room l : ℕ) → Starts (LengthLeft c nid room) L_PACKET 0 l → (frame_bits (way_of c) ≤ l) × (l < 2 ^ 13) × (l ≤ room)
-length_whole c nid room l goes = let t = behind_length c nid room l (some_after c nid room l goes) in (t.0, t.1, t.2)
+length_whole c nid room l goes = let t = beyond_length c nid room l (some_after c nid room l goes) in (t.0, t.1, t.2)
 
 -- ---- Bits that are kept.
 
-pub bits_behind : (c : Carrier) (room nid dir left : ℕ) (t : List Bool) (count : ℕ) → length t ≡ count → count ≤ left → Moved c room (Kept nid dir left) (kept OTHER_DATA t) c room (Kept nid dir (left - count))
-bits_behind c room nid dir left t count is le = record {
+pub bits_after : (c : Carrier) (room nid dir left : ℕ) (t : List Bool) (count : ℕ) → length t ≡ count → count ≤ left → Moved c room (Kept nid dir left) (kept OTHER_DATA t) c room (Kept nid dir (left - count))
+bits_after c room nid dir left t count is le = record {
   same = refl;
-  residual = rw is at (kept_behind left t (PacketsIn c room) (omega (arith, is, le)));
+  residual = rw is at (kept_after left t (PacketsIn c room) (omega (arith, is, le)));
   ahead_is = omega (arith, length-kept t, is, le);
 }
 
@@ -159,7 +159,7 @@ then_run row len ((v, n) ∷ p) left bits Q look (mid, next, after, wide, to) =
     let more = len - width v in
     let step = row_step row mid v len n next look after wide in
     residual_along (Then (ReadsIn row len) Q) ((v, n) ∷ []) (Then (ReadsIn mid more) Q) p (Then (ReadsIn left bits) Q)
-    (then_behind (ReadsIn row len) Q (ReadsIn mid more) v (row_begins_with row len v next) n step.0)
+    (then_after (ReadsIn row len) Q (ReadsIn mid more) v (row_begins_with row len v next) n step.0)
     (then_run mid more p left bits Q step.1 to)
 
 run_bits : (row : Layout) (len : ℕ) (p : Reading) (left : Layout) (bits : ℕ) → ReadTo row len p left bits → len ≡ length (spelled p) + bits
@@ -247,8 +247,8 @@ here_whole c nid dir row f h direction next goes k =
 -- ---- Whole packets.
 
 pub reading_passed : (c : Carrier) (room left : ℕ) (s' : Stage) (p : Reading) → Residual (PacketsIn c room) p (PacketsIn c left) → length (spelled p) + left ≡ room → Same (left_of c left s') (PacketsIn c left) → ahead c left s' ≡ left → Moved c room Number p c left s'
-reading_passed c room left s' p behind long same e = record {
+reading_passed c room left s' p beyond long same e = record {
   same = refl;
-  residual = residual_same (PacketsIn c room) p (PacketsIn c left) (left_of c left s') behind (same_back (left_of c left s') (PacketsIn c left) same);
+  residual = residual_same (PacketsIn c room) p (PacketsIn c left) (left_of c left s') beyond (same_back (left_of c left s') (PacketsIn c left) same);
   ahead_is = omega (arith, long, e);
 }

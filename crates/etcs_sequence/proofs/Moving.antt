@@ -11,9 +11,9 @@ use Rattle.etcs_sequence.proofs.Turns.{residual_same}
 use Rattle.etcs_sequence.specs.declared.stage.Stage.{Stage}
 use Rattle.etcs_sequence.specs.Lefts.{left_of, ahead, Moved}
 
-pub moved_by : (c : Carrier) (room : ℕ) (s : Stage) (x : Var) (n room' : ℕ) (s' : Stage) (Behind : Reading → Type 0) → Residual (left_of c room s) ((x, n) ∷ []) Behind → Same Behind (left_of c room' s') → ahead c room s ≡ width x + ahead c room' s' → Moved c room s ((x, n) ∷ []) c room' s'
-moved_by c room s x n room' s' Behind d same bits = record {
+pub moved_by : (c : Carrier) (room : ℕ) (s : Stage) (x : Var) (n room' : ℕ) (s' : Stage) (Following : Reading → Type 0) → Residual (left_of c room s) ((x, n) ∷ []) Following → Same Following (left_of c room' s') → ahead c room s ≡ width x + ahead c room' s' → Moved c room s ((x, n) ∷ []) c room' s'
+moved_by c room s x n room' s' Following d same bits = record {
   same = refl;
-  residual = residual_same (left_of c room s) ((x, n) ∷ []) Behind (left_of c room' s') d same;
+  residual = residual_same (left_of c room s) ((x, n) ∷ []) Following (left_of c room' s') d same;
   ahead_is = omega (arith, length-sent x n [], bits);
 }

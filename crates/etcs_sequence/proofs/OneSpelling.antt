@@ -22,7 +22,7 @@ use Rattle.etcs_packets.specs.laws.PacketReadings.{bits_are}
 use Rattle.etcs_sequence.specs.Contents.{Carries, ReadsPackets, IsUnmarked}
 use Rattle.etcs_sequence.specs.Spellings.{OneSpelling}
 use Rattle.etcs_sequence.specs.laws.Others.{kept_parts, kept_untyped, kept_framed}
-use Rattle.etcs_sequence.specs.laws.RunSteps.{carried_packet, behind}
+use Rattle.etcs_sequence.specs.laws.RunSteps.{carried_packet, beyond}
 use Rattle.etcs_sequence.specs.laws.Agreement.{run_regular, packet_agree, full, numbered_below}
 use Rattle.etcs_sequence.specs.laws.Framed.{typed_framed, framed_unmarked, marker_marked}
 
@@ -96,17 +96,17 @@ closed_apart v q h e =
 pub packets_same : (c : Carrier) (room : ℕ) (vs us : List PacketValue) (r q : Reading) → ReadsPackets c room vs r → ReadsPackets c room us q → r ≡ q → vs ≡ us
 packets_same c room [] [] r q hr hq e = refl
 packets_same Telegram room [] (u ∷ us) r q hr hq e =
-    let b = behind Telegram room (bits_to ToTrain u) u us q hq (bits_are ToTrain u) in
+    let b = beyond Telegram room (bits_to ToTrain u) u us q hq (bits_are ToTrain u) in
     absurd (closed_apart u b.0 (All-head (Carries Telegram) u us hq.carried) (sym hr.reading_is ∙ e ∙ b.1))
 packets_same (Message way) room [] (u ∷ us) r q hr hq e = absurd (full way room u us r q hr hq)
 packets_same Telegram room (v ∷ vs) [] r q hr hq e =
-    let b = behind Telegram room (bits_to ToTrain v) v vs r hr (bits_are ToTrain v) in
+    let b = beyond Telegram room (bits_to ToTrain v) v vs r hr (bits_are ToTrain v) in
     absurd (closed_apart v b.0 (All-head (Carries Telegram) v vs hr.carried) (sym hq.reading_is ∙ sym e ∙ b.1))
 packets_same (Message way) room (v ∷ vs) [] r q hr hq e = absurd (full way room v vs q r hq hr)
 packets_same c room (v ∷ vs) (u ∷ us) r q hr hq e =
     let way = way_of c in
-    let bv = behind c room (bits_to way v) v vs r hr (bits_are way v) in
-    let bu = behind c room (bits_to way u) u us q hq (bits_are way u) in
+    let bv = beyond c room (bits_to way v) v vs r hr (bits_are way v) in
+    let bu = beyond c room (bits_to way u) u us q hq (bits_are way u) in
     let hv = carried_packet c v (All-head (Carries c) v vs hr.carried) in
     let hu = carried_packet c u (All-head (Carries c) u us hq.carried) in
     let parts = Agree-cut (reading_to way v) (reading_to way u) bv.0 bu.0 (packet_agree way v u hv hu) (sym bv.1 ∙ e ∙ bu.1) in

@@ -9,11 +9,11 @@ use Rattle.etcs_packets.specs.laws.PacketReadings.{bits_are}
 use Rattle.etcs_packets.specs.PacketValues.{bits_to}
 use Rattle.etcs_sequence.specs.Contents.{Carries, PacketsIn}
 use Rattle.etcs_sequence.specs.laws.Agreement.{some_bits}
-use Rattle.etcs_sequence.specs.laws.RunSteps.{behind}
+use Rattle.etcs_sequence.specs.laws.RunSteps.{beyond}
 
 only_padding : (way : Way) (room : ℕ) → room ≤ 7 → (r : Reading) → PacketsIn (Message way) room r → r ≡ []
 only_padding way room le r ([], run) = run.reading_is
-only_padding way room le r (v ∷ vs, run) = absurd (let b = behind (Message way) room (bits_to way v) v vs r run (bits_are way v) in omega (arith, le, b.2, some_bits way v))
+only_padding way room le r (v ∷ vs, run) = absurd (let b = beyond (Message way) room (bits_to way v) v vs r run (bits_are way v) in omega (arith, le, b.2, some_bits way v))
 
 padding_only : (way : Way) (room : ℕ) → room ≤ 7 → (r : Reading) → r ≡ [] → PacketsIn (Message way) room r
 padding_only way room le r e =

@@ -12,7 +12,7 @@ use Rattle.etcs_sequence.specs.declared.stage.Stage.TheVariants.{Number}
 use Rattle.etcs_sequence.specs.AtOnce.{Holds, RunTo}
 use Rattle.etcs_sequence.specs.Contents.{PacketsIn}
 use Rattle.etcs_sequence.specs.Lefts.{Here, HoldsAt}
-use Rattle.etcs_sequence.proofs.Carried.{behind_packets}
+use Rattle.etcs_sequence.proofs.Carried.{after_packets}
 
 module _ (c : Carrier) (room : ℕ) (H : Holds) (xs : List Bool) (at left : ℕ) (run : RunTo c room H xs at left) where
   abbrev pub variables : Reading
@@ -29,10 +29,10 @@ module _ (c : Carrier) (room : ℕ) (H : Holds) (xs : List Bool) (at left : ℕ)
       omega (arith, bits, long, some, length-take (room - left) (drop at xs), length-drop at xs)
 
   -- what is left after them
-  pub run_behind : Residual (PacketsIn c room) variables (PacketsIn c (room - (room - left)))
-  run_behind =
+  pub run_after : Residual (PacketsIn c room) variables (PacketsIn c (room - (room - left)))
+  run_after =
       let long = run.long in
-      behind_packets c room (room - (room - left)) run.packets run.carried (omega (arith, long))
+      after_packets c room (room - (room - left)) run.packets run.carried (omega (arith, long))
 
   pub run_held : (d : Carrier) (s : Stage) → d ≡ c → Here d s [] [] [] → HoldsAt d s H variables
   run_held d s same here =

@@ -11,7 +11,7 @@ use Rattle.etcs_sequence.specs.Progress.{Progress, finished, Feeds}
 
 -- values with one spelling are one, and no spelling begins another
 abbrev pub OneSpelling : {V W : Type 0} → (W → Reading → Type 0) → (V → W) → (V → Type 0) → Type 0
-OneSpelling {V} Reads value IsValue = (u v : V) (a b : Reading) (behind : List Bool) → IsValue u → IsValue v → Reads (value u) a → Reads (value v) b → spelled b ≡ spelled a ++ behind → (u ≡ v) × (behind ≡ [])
+OneSpelling {V} Reads value IsValue = (u v : V) (a b : Reading) (beyond : List Bool) → IsValue u → IsValue v → Reads (value u) a → Reads (value v) b → spelled b ≡ spelled a ++ beyond → (u ≡ v) × (beyond ≡ [])
 
 same_value : {V : Type 0} (u v : V) → ◌≡◌ {A = Progress V} (finished u) (finished v) → u ≡ v
 same_value u v e = cc

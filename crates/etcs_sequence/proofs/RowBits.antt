@@ -13,7 +13,7 @@ use Rattle.etcs_vars.specs.laws.Spellings.{spelled-append}
 use Rattle.etcs_vars.proofs.Sent.{length-sent}
 use Rattle.etcs_tables.specs.Layouts.{Layout, one, guarded, counted, passes, looks, ReadsIn}
 use Rattle.etcs_tables.specs.declared.item.Guard.{Guard}
-use Rattle.etcs_rows.proofs.Behind.{ReadsBy, by_number}
+use Rattle.etcs_rows.proofs.Following.{ReadsBy, by_number}
 use Rattle.etcs_sequence.specs.laws.RunSteps.{both_length}
 use Rattle.etcs_sequence.specs.RowBits.{EndsAt}
 
@@ -30,14 +30,14 @@ ends_then P Q b at mid end x y =
     let m = length (spelled x.reading) in
     let n = length (spelled y.reading) in
     let both : length (spelled (x.reading ++ y.reading)) ≡ m + n = both_length x.reading y.reading in
-    let behind : spelled y.reading ≡ part (at + m) n b = y.bits ∙ ap (λ k. part k n b) x.long in
+    let beyond : spelled y.reading ≡ part (at + m) n b = y.bits ∙ ap (λ k. part k n b) x.long in
     record {
       reading = x.reading ++ y.reading;
       reads = (x.reading, y.reading, refl, x.reads, y.reads);
       long = omega (arith, both, x.long, y.long);
       inside = y.inside;
       bits = spelled-append x.reading y.reading
-          ∙ ap (λ (t : List Bool). t ++ spelled y.reading) x.bits ∙ ap (λ (t : List Bool). part at m b ++ t) behind ∙ sym (part-add at m n b) ∙ ap (λ k. part at k b) (sym both);
+          ∙ ap (λ (t : List Bool). t ++ spelled y.reading) x.bits ∙ ap (λ (t : List Bool). part at m b ++ t) beyond ∙ sym (part-add at m n b) ∙ ap (λ k. part at k b) (sym both);
     }
 
 -- a variable before

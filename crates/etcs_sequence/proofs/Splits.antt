@@ -70,9 +70,9 @@ packets_first n b pos are =
     let (v, c, h, e) = packets_ahead n b pos are in
     (v, h, sym (first_packet v c b h e).1)
 
-pub packets_behind : (n : ℕ) (b : List Bool) → 0 < n → ArePackets n b → ArePackets (n - 1) (drop (bits_ahead b) b)
-packets_behind n b pos ([], c, all, l, e) = absurd (omega (arith, l, pos))
-packets_behind n b pos (v ∷ vs, c, all, l, e) =
+pub packets_after : (n : ℕ) (b : List Bool) → 0 < n → ArePackets n b → ArePackets (n - 1) (drop (bits_ahead b) b)
+packets_after n b pos ([], c, all, l, e) = absurd (omega (arith, l, pos))
+packets_after n b pos (v ∷ vs, c, all, l, e) =
     let f = first_packet v (spelled (packets_reading vs) ++ c) b (All-head IsPacket v vs all) (e ∙ more_packets v vs c) in
     (vs, c, All-tail IsPacket v vs all, omega (arith, l), f.2)
 
@@ -90,8 +90,8 @@ part_rest n b = take_all (length b - n) (drop n b) (omega (arith, length-drop n 
 pub cut_first : (b r : List Bool) (l : ℕ) → r ≡ part 0 l b → l ≡ bits_ahead b → r ≡ take (bits_ahead b) b
 cut_first b r l e same = e ∙ ap (λ (k : ℕ). take k b) same
 
-pub cut_behind : (b r : List Bool) (l m : ℕ) → r ≡ part l (m - l) b → l ≡ bits_ahead b → m ≡ length b → r ≡ drop (bits_ahead b) b
-cut_behind b r l m e same whole = e ∙ ap (λ (k : ℕ). part k (m - k) b) same ∙ ap (λ (k : ℕ). part (bits_ahead b) (k - bits_ahead b) b) whole ∙ part_rest (bits_ahead b) b
+pub cut_after : (b r : List Bool) (l m : ℕ) → r ≡ part l (m - l) b → l ≡ bits_ahead b → m ≡ length b → r ≡ drop (bits_ahead b) b
+cut_after b r l m e same whole = e ∙ ap (λ (k : ℕ). part k (m - k) b) same ∙ ap (λ (k : ℕ). part (bits_ahead b) (k - bits_ahead b) b) whole ∙ part_rest (bits_ahead b) b
 
 -- the first packet is given, and the others are left
 pub refs_cut : (n : ℕ) (b first rest : List Bool) → 0 < n → first ≡ take (bits_ahead b) b → rest ≡ drop (bits_ahead b) b → refs n b ≡ first ∷ refs (n - 1) rest

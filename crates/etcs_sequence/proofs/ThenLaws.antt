@@ -27,8 +27,8 @@ then_starts P Q x p goes rest bits = (
   λ (n, r, l, e). (let (u, v, f, hu, hv) = cut_first P Q x p n r l in (n, u, hu, e)),
 )
 
-pub then_behind : (P Q P' : Reading → Type 0) (x : Var) → BeginsWith P x → (n : ℕ) → Residual P ((x, n) ∷ []) P' → Residual (Then P Q) ((x, n) ∷ []) (Then P' Q)
-then_behind P Q P' x p n d = record {
+pub then_after : (P Q P' : Reading → Type 0) (x : Var) → BeginsWith P x → (n : ℕ) → Residual P ((x, n) ∷ []) P' → Residual (Then P Q) ((x, n) ∷ []) (Then P' Q)
+then_after P Q P' x p n d = record {
   to = λ q l. let (u, v, f, hu, hv) = cut_first P Q x p n q l in (u, v, f, d.to u hu, hv);
   from = λ q (u, v, f, hu, hv). ((x, n) ∷ u, v, ap (λ (t : Reading). (x, n) ∷ t) f, d.from u hu, hv);
 }

@@ -35,8 +35,8 @@ kept_to left t Q q le (a, b, e, (bs, l, ea), l') =
     let both = cut (kept OTHER_DATA t) (kept OTHER_DATA front) q (kept OTHER_DATA rest ++ b) len parts in
     (kept OTHER_DATA rest, b, both.1, (rest, (let d = length-drop n bs in omega (arith, d, l)), refl), l')
 
-pub kept_behind : (left : ℕ) (t : List Bool) (Q : Reading → Type 0) → length t ≤ left → Residual (Then (KeptIn left) Q) (kept OTHER_DATA t) (Then (KeptIn (left - length t)) Q)
-kept_behind left t Q le = record {
+pub kept_after : (left : ℕ) (t : List Bool) (Q : Reading → Type 0) → length t ≤ left → Residual (Then (KeptIn left) Q) (kept OTHER_DATA t) (Then (KeptIn (left - length t)) Q)
+kept_after left t Q le = record {
   to = λ q h. kept_to left t Q q le h;
   from = λ q (a, b, e, (bs, l, ea), l'). (kept OTHER_DATA (t ++ bs), b, ap (λ (x : Reading). kept OTHER_DATA t ++ x) (e ∙ ap (λ (y : Reading). y ++ b) ea) ∙ sym (append_assoc (kept OTHER_DATA t) (kept OTHER_DATA bs) b) ∙ ap (λ (y : Reading). y ++ b) (sym (kept_append t bs)), (t ++ bs, omega (arith, length-append t bs, l, le), refl), l');
 }

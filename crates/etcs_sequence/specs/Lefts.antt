@@ -37,9 +37,9 @@ next_of (Kept nid dir left) = Some OTHER_DATA
 next_of Closed = None
 
 -- what comes after the number of a packet that has a frame: to the track L_PACKET at once
-abbrev pub behind_framed : Way → ℕ → Stage
-behind_framed ToTrain nid = Direction nid
-behind_framed ToTrack nid = Length nid 0
+abbrev pub after_framed : Way → ℕ → Stage
+after_framed ToTrain nid = Direction nid
+after_framed ToTrack nid = Length nid 0
 
 -- the readings that are left; the room counts from the packet's first bit until its length is known
 abbrev pub left_of : Carrier → ℕ → Stage → Reading → Type 0

@@ -7,4 +7,4 @@ use Rattle.etcs_sequence.specs.Contents.{ReadsPackets}
 
 -- packets with one spelling are one, and no spelling begins another
 abbrev pub OneSpelling : Type 0
-OneSpelling = (c : Carrier) (room : ℕ) (vs us : List PacketValue) (a b : Reading) (behind : List Bool) → ReadsPackets c room vs a → ReadsPackets c room us b → spelled b ≡ spelled a ++ behind → (vs ≡ us) × (behind ≡ [])
+OneSpelling = (c : Carrier) (room : ℕ) (vs us : List PacketValue) (a b : Reading) (beyond : List Bool) → ReadsPackets c room vs a → ReadsPackets c room us b → spelled b ≡ spelled a ++ beyond → (vs ≡ us) × (beyond ≡ [])

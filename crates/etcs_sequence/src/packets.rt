@@ -34,6 +34,8 @@ use std::alloc::AllocError;
 pub struct PacketsRest<S: PacketStore> {
     pub left: PacketsState,
     pub store: S,
+    /// Whether what comes next was tried together with what follows, in vain, so that it has to be passed by itself.
+    tried: bool,
     pub ghost way: { way_of left.carrier ≡ S.WAY },
     pub ghost held: { ∥ (is_closed left.stage ≡ false → ((q : Reading) × HoldsAt left.carrier left.stage (S.holds store) q)) ∥₁ },
 }
@@ -108,6 +110,7 @@ impl<S: PacketStore> PacketsRest<S> {
         PacketsRest {
             left: PacketsState::new(carrier, room),
             store,
+            tried: false,
         }
     }
 
@@ -123,6 +126,7 @@ impl<S: PacketStore> PacketsRest<S> {
         ensures held { S.holds self.old.store [] [] [] → HoldsAt self.new.left.carrier self.new.left.stage (S.holds self.new.store) [] }
     {
         self.left = PacketsState::new(carrier, room);
+        self.tried = false;
     }
 
     /// Takes packet 255, if the piece has it and it may come next, and returns how many bits it has.
@@ -203,6 +207,7 @@ impl<S: PacketStore> PacketsRest<S> {
         if place == at {
             return Ok(None);
         }
+        self.tried = place < end && self.left.is_at_number();
         Ok(Some(place - at))
     }
 
@@ -242,6 +247,7 @@ impl<S: PacketStore> PacketsRest<S> {
         let taken = run.bits;
         let event = self.left.pass_to(nid, dir, run.rest);
         stored!(self, finish(&mut self.store, event));
+        self.tried = run.singly;
         Ok(Some(taken))
     }
 
@@ -290,6 +296,7 @@ impl<S: PacketStore + Drop> PacketsRest<S> {
         let taken = self.left.room - left;
         self.left.skip(taken);
         self.store = store;
+        self.tried = true;
     }
 }
 
@@ -314,6 +321,7 @@ impl<S: PacketStore> Rest for PacketsRest<S> {
 
     fn pass(&mut self, var: Var, number: u64) -> Result<(), AllocError> {
         let keep = self.left.keeps();
+        self.tried = false;
         stored!(self, absorb(&mut self.store, keep, number));
         let event = self.left.pass(var, number);
         stored!(self, finish(&mut self.store, event));
@@ -322,6 +330,9 @@ impl<S: PacketStore> Rest for PacketsRest<S> {
 
     #[inline]
     fn leap(&mut self, piece: &[u8], at: usize) -> Result<Option<usize>, AllocError> {
+        if self.tried {
+            return Ok(None);
+        }
         match &self.left.stage {
             Stage::Number => match self.leap_closing(piece, at) {
                 Some(count) => Ok(Some(count)),

@@ -3,7 +3,7 @@
 ghost use Rattle.std.specs.Prelude.{◌≡◌, ◌≤◌, ◌<◌, ℕ, IsTrue, IfSome, length};
 ghost use Rattle.etcs_vars.specs.Reading.{Reading, Times, spelled};
 ghost use Rattle.etcs_tables.specs.Layouts.{layout, ReadsIn};
-ghost use Rattle.etcs_rows.proofs.Behind.{ReadsBy};
+ghost use Rattle.etcs_rows.proofs.Following.{ReadsBy};
 ghost use Rattle.etcs_sequence.specs.RowBits.{EndsAt};
 
 use etcs_bits::{BitSlice, SliceWalker};

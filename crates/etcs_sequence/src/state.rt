@@ -13,7 +13,7 @@ ghost use Rattle.etcs_sequence.specs.Contents.{PacketsIn};
 ghost use Rattle.etcs_reader.specs.Rests.{Goes, Starts};
 ghost use Rattle.etcs_rows.specs.declared.rest.RowRest.{RowRest};
 ghost use Rattle.etcs_rows.specs.Walks.{Follows};
-ghost use Rattle.etcs_sequence.specs.Lefts.{next_of, behind_framed, left_of, ahead, is_stage, keeps_at, Here, After, Becomes};
+ghost use Rattle.etcs_sequence.specs.Lefts.{next_of, after_framed, left_of, ahead, is_stage, keeps_at, Here, After, Becomes};
 
 use crate::stage::{Event, Keep, Stage};
 use etcs_reader::Rest;
@@ -35,7 +35,7 @@ pub struct PacketsState {
 }
 
 /// What comes after a packet.
-fn behind_packet(carrier: Carrier, room: usize) -> Stage
+fn after_packet(carrier: Carrier, room: usize) -> Stage
     ensures stage { IsTrue (is_stage carrier room result) }
     ensures ahead { ahead carrier room result ≡ room }
     ensures same { Same (left_of carrier room result) (PacketsIn carrier room) }
@@ -55,8 +55,8 @@ fn behind_packet(carrier: Carrier, room: usize) -> Stage
 
 /// What comes after the number of a packet that has a frame.
 #[inline]
-fn behind_framed(way: Way, nid: u8) -> Stage
-    ensures { result ≡ behind_framed way nid }
+fn after_framed(way: Way, nid: u8) -> Stage
+    ensures { result ≡ after_framed way nid }
 {
     match way {
         Way::ToTrain => Stage::Direction(nid),
@@ -78,7 +78,7 @@ impl PacketsState {
         PacketsState {
             carrier,
             room,
-            stage: behind_packet(carrier, room),
+            stage: after_packet(carrier, room),
         }
     }
 
@@ -163,7 +163,7 @@ impl PacketsState {
         let nid = number as u8;
         let way = self.carrier.way();
         if is_framed(way, nid) {
-            self.stage = behind_framed(way, nid);
+            self.stage = after_framed(way, nid);
             return;
         }
         if nid == CLOSING {
@@ -182,7 +182,7 @@ impl PacketsState {
         ensures here { Becomes self.old.carrier self.old.stage NID_VBCMK number (Event.Marker number) self.new.stage }
     {
         self.room -= MARKER_BITS;
-        self.stage = behind_packet(self.carrier, self.room);
+        self.stage = after_packet(self.carrier, self.room);
     }
 
     /// After Q_DIR.
@@ -206,7 +206,7 @@ impl PacketsState {
         let left = RowRest::begin(row, length - frame_bits(self.carrier.way()));
         self.room -= length;
         if left.var().is_none() {
-            self.stage = behind_packet(self.carrier, self.room);
+            self.stage = after_packet(self.carrier, self.room);
             return Event::Typed(nid, dir);
         }
         self.stage = Stage::Row(nid, dir, left);
@@ -224,7 +224,7 @@ impl PacketsState {
         let bits = length - frame_bits(self.carrier.way());
         self.room -= length;
         if bits == 0 {
-            self.stage = behind_packet(self.carrier, self.room);
+            self.stage = after_packet(self.carrier, self.room);
             return Event::Kept(nid, dir);
         }
         self.stage = Stage::Kept(nid, dir, bits);
@@ -255,11 +255,11 @@ impl PacketsState {
         let Stage::Row(_, _, row) = &mut self.stage else {
             unreachable!()
         };
-        row.go_on(var, number);
+        row.continue_with(var, number);
         if row.var().is_some() {
             return Event::More;
         }
-        self.stage = behind_packet(self.carrier, self.room);
+        self.stage = after_packet(self.carrier, self.room);
         Event::Typed(nid, dir)
     }
 
@@ -274,7 +274,7 @@ impl PacketsState {
             self.stage = Stage::Row(nid, dir, left);
             return Event::More;
         }
-        self.stage = behind_packet(self.carrier, self.room);
+        self.stage = after_packet(self.carrier, self.room);
         Event::Typed(nid, dir)
     }
 
@@ -290,7 +290,7 @@ impl PacketsState {
             self.stage = Stage::Kept(nid, dir, left - count);
             return Event::More;
         }
-        self.stage = behind_packet(self.carrier, self.room);
+        self.stage = after_packet(self.carrier, self.room);
         Event::Kept(nid, dir)
     }
 
@@ -342,7 +342,7 @@ impl PacketsState {
         ensures room { Same (left_of self.new.carrier self.new.room self.new.stage) (PacketsIn self.old.carrier (self.old.room - bits)) }
     {
         self.room -= bits;
-        match behind_packet(self.carrier, self.room) {
+        match after_packet(self.carrier, self.room) {
             Stage::Number => {}
             stage => self.stage = stage,
         }

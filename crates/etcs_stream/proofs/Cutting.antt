@@ -22,16 +22,16 @@ no_lf x h = grind (arith, nat_tests)
 
 -- a line at the front, and what is after its LF
 abbrev IsSplit : List ℕ → Type 0
-IsSplit text = (line : List ℕ) × (behind : List ℕ) × IsLine line × (text ≡ line ++ 10 ∷ behind)
+IsSplit text = (line : List ℕ) × (beyond : List ℕ) × IsLine line × (text ≡ line ++ 10 ∷ beyond)
 
 split_by : (x : ℕ) (xs : List ℕ) (b : Bool) → eqb x 10 ≡ b → IsLine xs ⊎ IsSplit xs → IsLine (x ∷ xs) ⊎ IsSplit (x ∷ xs)
 split_by x xs true e h = inr ([], xs, All-nil (λ c. c ≡ 10 → ⊥), ap (λ z. z ∷ xs) (eqb-true x 10 e))
 split_by x xs false e (inl l) = inl (All-cons (λ c. c ≡ 10 → ⊥) x xs (no_lf x e) l)
-split_by x xs false e (inr (line, behind, l, is)) =
-    inr (x ∷ line, behind, All-cons (λ c. c ≡ 10 → ⊥) x line (no_lf x e) l, ap (λ (z : List ℕ). x ∷ z) is)
+split_by x xs false e (inr (line, beyond, l, is)) =
+    inr (x ∷ line, beyond, All-cons (λ c. c ≡ 10 → ⊥) x line (no_lf x e) l, ap (λ (z : List ℕ). x ∷ z) is)
 
 -- the text up to its first LF
-pub first_lf : (text : List ℕ) → IsLine text ⊎ ((line : List ℕ) × (behind : List ℕ) × IsLine line × (text ≡ line ++ 10 ∷ behind))
+pub first_lf : (text : List ℕ) → IsLine text ⊎ ((line : List ℕ) × (beyond : List ℕ) × IsLine line × (text ≡ line ++ 10 ∷ beyond))
 first_lf [] = inl (All-nil (λ c. c ≡ 10 → ⊥))
 first_lf (x ∷ xs) = split_by x xs (eqb x 10) refl (first_lf xs)
 
@@ -39,21 +39,21 @@ first_lf (x ∷ xs) = split_by x xs (eqb x 10) refl (first_lf xs)
 abbrev pub Says : List ℕ → List ℕ → Type 0
 Says text bytes = IsHexText text bytes ⊎ ((line : ℕ) × (place : ℕ) × IsBad text bytes line place)
 
-text_behind : (lines more : List (List ℕ)) (last text : List ℕ) → text ≡ lines_text more ++ last → lines_text lines ++ text ≡ lines_text (lines ++ more) ++ last
-text_behind lines more last text e =
+text_after : (lines more : List (List ℕ)) (last text : List ℕ) → text ≡ lines_text more ++ last → lines_text lines ++ text ≡ lines_text (lines ++ more) ++ last
+text_after lines more last text e =
     ap (λ (z : List ℕ). lines_text lines ++ z) e
     ∙ sym (append_assoc (lines_text lines) (lines_text more) last)
     ∙ ap (λ (z : List ℕ). z ++ last) (sym (lines_text-append lines more))
 
-bytes_behind : (lines more : List (List ℕ)) (bytes : List ℕ) → bytes ≡ lines_bytes more → lines_bytes lines ++ bytes ≡ lines_bytes (lines ++ more)
-bytes_behind lines more bytes e = ap (λ (z : List ℕ). lines_bytes lines ++ z) e ∙ sym (lines_bytes-append lines more)
+bytes_after : (lines more : List (List ℕ)) (bytes : List ℕ) → bytes ≡ lines_bytes more → lines_bytes lines ++ bytes ≡ lines_bytes (lines ++ more)
+bytes_after lines more bytes e = ap (λ (z : List ℕ). lines_bytes lines ++ z) e ∙ sym (lines_bytes-append lines more)
 
 module _ (lines : List (List ℕ)) (good : AreGood lines) (text bytes : List ℕ) where
-  hex_behind : IsHexText text bytes → IsHexText (lines_text lines ++ text) (lines_bytes lines ++ bytes)
-  hex_behind h = record {
+  hex_after : IsHexText text bytes → IsHexText (lines_text lines ++ text) (lines_bytes lines ++ bytes)
+  hex_after h = record {
     lines = lines ++ h.lines;
     last = h.last;
-    text_is = text_behind lines h.lines h.last text h.text_is;
+    text_is = text_after lines h.lines h.last text h.text_is;
     lines_good = AreGood-append lines h.lines good h.lines_good;
     last_good = h.last_good;
     bytes_are =
@@ -62,47 +62,47 @@ module _ (lines : List (List ℕ)) (good : AreGood lines) (text bytes : List ℕ
         ∙ ap (λ (z : List ℕ). z ++ line_bytes h.last) (sym (lines_bytes-append lines h.lines));
   }
 
-  bad_behind : (line place : ℕ) → IsBad text bytes line place → IsBad (lines_text lines ++ text) (lines_bytes lines ++ bytes) (length lines + line) place
-  bad_behind line place h = record {
+  bad_after : (line place : ℕ) → IsBad text bytes line place → IsBad (lines_text lines ++ text) (lines_bytes lines ++ bytes) (length lines + line) place
+  bad_after line place h = record {
     lines = lines ++ h.lines;
     bad = h.bad;
-    behind = h.behind;
+    beyond = h.beyond;
     lines_good = AreGood-append lines h.lines good h.lines_good;
     is_line = h.is_line;
     line_is = omega (arith, h.line_is, length-append lines h.lines);
-    bytes_are = bytes_behind lines h.lines bytes h.bytes_are;
+    bytes_are = bytes_after lines h.lines bytes h.bytes_are;
     text_is = elim h.text_is [
-      | inl p ↦ inl (text_behind lines h.lines (h.bad ++ 10 ∷ h.behind) text p.0, p.1)
-      | inr p ↦ inr (text_behind lines h.lines h.bad text p.0, p.1)
+      | inl p ↦ inl (text_after lines h.lines (h.bad ++ 10 ∷ h.beyond) text p.0, p.1)
+      | inr p ↦ inr (text_after lines h.lines h.bad text p.0, p.1)
     ];
   }
 
-  pub says_behind : Says text bytes → Says (lines_text lines ++ text) (lines_bytes lines ++ bytes)
-  says_behind (inl h) = inl (hex_behind h)
-  says_behind (inr (line, place, h)) = inr (length lines + line, place, bad_behind line place h)
+  pub says_after : Says text bytes → Says (lines_text lines ++ text) (lines_bytes lines ++ bytes)
+  says_after (inl h) = inl (hex_after h)
+  says_after (inr (line, place, h)) = inr (length lines + line, place, bad_after line place h)
 
 -- a line that has no LF
 last_says : (text : List ℕ) (o : Option ℕ) → IsLine text → bad_place text ≡ o → (bytes : List ℕ) × Says text bytes
 last_says text None l e = (line_bytes text, inl (record { lines = []; last = text; text_is = refl; lines_good = tt; last_good = e; bytes_are = refl }))
 last_says text (Some place) l e =
-    ([], inr (1, place, record { lines = []; bad = text; behind = []; lines_good = tt; is_line = l; line_is = refl; bytes_are = refl; text_is = inr (refl, e) }))
+    ([], inr (1, place, record { lines = []; bad = text; beyond = []; lines_good = tt; is_line = l; line_is = refl; bytes_are = refl; text_is = inr (refl, e) }))
 
 -- a line that has one
-line_says : (line behind : List ℕ) (o : Option ℕ) → IsLine line → bad_place (strip_cr line) ≡ o → ((bytes : List ℕ) × Says behind bytes) → (bytes : List ℕ) × Says (line ++ 10 ∷ behind) bytes
-line_says line behind None l e (bytes, h) =
-    let both = says_behind (line ∷ []) (e, tt) behind bytes h in
-    (lines_bytes (line ∷ []) ++ bytes, subst (λ z. Says z (lines_bytes (line ∷ []) ++ bytes)) (one_line line behind) both)
-line_says line behind (Some place) l e h =
-    ([], inr (1, place, record { lines = []; bad = line; behind = behind; lines_good = tt; is_line = l; line_is = refl; bytes_are = refl; text_is = inl (refl, e) }))
+line_says : (line beyond : List ℕ) (o : Option ℕ) → IsLine line → bad_place (strip_cr line) ≡ o → ((bytes : List ℕ) × Says beyond bytes) → (bytes : List ℕ) × Says (line ++ 10 ∷ beyond) bytes
+line_says line beyond None l e (bytes, h) =
+    let both = says_after (line ∷ []) (e, tt) beyond bytes h in
+    (lines_bytes (line ∷ []) ++ bytes, subst (λ z. Says z (lines_bytes (line ∷ []) ++ bytes)) (one_line line beyond) both)
+line_says line beyond (Some place) l e h =
+    ([], inr (1, place, record { lines = []; bad = line; beyond = beyond; lines_good = tt; is_line = l; line_is = refl; bytes_are = refl; text_is = inl (refl, e) }))
 
 cut : (n : ℕ) (text : List ℕ) → length text ≤ n → (bytes : List ℕ) × Says text bytes
 cut zero [] h = last_says [] (bad_place []) (All-nil (λ c. c ≡ 10 → ⊥)) refl
 cut zero (x ∷ xs) h = absurd (omega arith)
 cut (suc n) text h = elim (first_lf text) [
   | inl l ↦ last_says text (bad_place text) l refl
-  | inr (line, behind, l, e) ↦
-      let shorter : length behind ≤ n = omega (arith, ap length e, length-append line (10 ∷ behind)) in
-      let (bytes, s) = line_says line behind (bad_place (strip_cr line)) l refl (cut n behind shorter) in
+  | inr (line, beyond, l, e) ↦
+      let shorter : length beyond ≤ n = omega (arith, ap length e, length-append line (10 ∷ beyond)) in
+      let (bytes, s) = line_says line beyond (bad_place (strip_cr line)) l refl (cut n beyond shorter) in
       (bytes, subst (λ z. Says z bytes) (sym e) s)
 ]
 

@@ -27,7 +27,7 @@ use Rattle.etcs_group.specs.Messages.{Gives, FirstGive}
 use Rattle.etcs_group.proofs.Places.{held_place}
 use Rattle.etcs_text.specs.Entries.{EntryValue, of_telegram, of_message}
 use Rattle.etcs_packet_text.specs.Packets.{packet_text, packets_text}
-use Rattle.etcs_packet_text.proofs.TextLengths.{decimal_short, fit_front, fit_behind, spelled_long, packets_short}
+use Rattle.etcs_packet_text.proofs.TextLengths.{decimal_short, fit_front, fit_after, spelled_long, packets_short}
 use Rattle.etcs_text.proofs.TextLengths.{five_long}
 use Rattle.etcs_stream.specs.declared.job.Command.TheVariants.{Group}
 use Rattle.etcs_stream.specs.Reported.{Reported}
@@ -102,7 +102,7 @@ packets_fit t made =
     let whole : AllFit (telegram_reading v) = language.fit (telegram_reading v) (v, (refl, reads)) in
     let parts : AllFit (((head ++ closed_reading v.packets) ++ fill) ++ zeros) = subst (λ (r : Reading). AllFit r) reads.reading_is whole in
     let headed = fit_front (head ++ closed_reading v.packets) fill (fit_front ((head ++ closed_reading v.packets) ++ fill) zeros parts) in
-    fit_front (packets_reading v.packets) closing (fit_behind head (closed_reading v.packets) headed)
+    fit_front (packets_reading v.packets) closing (fit_after head (closed_reading v.packets) headed)
 
 -- packets of at most 830 bits
 held_short : (t : TelegramContent) → IsTelegram t → length (packets_text ToTrain (map packet_value t.packets)) ≤ 106240

@@ -33,7 +33,7 @@ use Rattle.etcs_stream.proofs.Streams.{Advances-none}
 use Rattle.etcs_stream.proofs.OutputLemmas.{closes_items}
 use Rattle.etcs_stream.proofs.Standing.{ItemsHalt, stand_first, IsEarly, stand_more, stand_halts, halt_stops, halt_ends, stand_ended, stand_truncated}
 use Rattle.etcs_runs.proofs.LineTexts.{lines_text-append, lines_few, one_line}
-use Rattle.etcs_stream.proofs.Cutting.{Says, AreGood-append, lines_bytes-append, first_lf, cut_text, says_behind}
+use Rattle.etcs_stream.proofs.Cutting.{Says, AreGood-append, lines_bytes-append, first_lf, cut_text, says_after}
 use Rattle.etcs_stream.specs.laws.StandLaws.{long_bad, long_bad_stripped}
 
 -- ---- The items of a text.
@@ -55,27 +55,27 @@ early_items kind text bytes es (bad_json l) early (inr s) h = absurd early
 early_items kind text bytes es endless early (inr (line, place, bad)) h = inr (bytes, line, place, bad, h)
 
 -- the items of good lines halted, whatever is after them
-hex_halts : (job : Job) (lines : List (List ℕ)) (given output behind : List ℕ) (fault : RunFault) → job.from ≡ Hex → AreGood lines → given ≡ lines_text lines ++ behind → ItemsHalt job (lines_bytes lines) output fault → IsOfEngine fault × Stops job given output fault
-hex_halts job lines given output behind fault form good is h =
+hex_halts : (job : Job) (lines : List (List ℕ)) (given output beyond : List ℕ) (fault : RunFault) → job.from ≡ Hex → AreGood lines → given ≡ lines_text lines ++ beyond → ItemsHalt job (lines_bytes lines) output fault → IsOfEngine fault × Stops job given output fault
+hex_halts job lines given output beyond fault form good is h =
     halt_stops job given (lines_bytes lines) output fault h
-    (says_first job given (lines_bytes lines) form (inl (lines, behind, is, good, refl)))
+    (says_first job given (lines_bytes lines) form (inl (lines, beyond, is, good, refl)))
     (λ more es end early k. (
-    let (bytes, says) = cut_text (behind ++ more) in
-    let text : lines_text lines ++ (behind ++ more) ≡ given ++ more = sym (append_assoc (lines_text lines) behind more) ∙ ap (λ (z : List ℕ). z ++ more) (sym is) in
-    let both : Says (given ++ more) (lines_bytes lines ++ bytes) = subst (λ z. Says z (lines_bytes lines ++ bytes)) text (says_behind lines good (behind ++ more) bytes says) in
+    let (bytes, says) = cut_text (beyond ++ more) in
+    let text : lines_text lines ++ (beyond ++ more) ≡ given ++ more = sym (append_assoc (lines_text lines) beyond more) ∙ ap (λ (z : List ℕ). z ++ more) (sym is) in
+    let both : Says (given ++ more) (lines_bytes lines ++ bytes) = subst (λ z. Says z (lines_bytes lines ++ bytes)) text (says_after lines good (beyond ++ more) bytes says) in
     let items : BitItems job.kind (bits (lines_bytes lines ++ bytes)) es end = subst (λ z. BitItems job.kind z es end) (sym (bits-append (lines_bytes lines) bytes)) (k (bits bytes)) in
     items_of job (given ++ more) es end form (early_items job.kind (given ++ more) (lines_bytes lines ++ bytes) es end early both items)
     ))
 
 -- ---- A line more.
 
-line_text : (lines : List (List ℕ)) (begun line whole given behind : List ℕ) → given ≡ lines_text lines ++ begun → whole ≡ begun ++ line → given ++ (line ++ 10 ∷ behind) ≡ lines_text (lines ++ (whole ∷ [])) ++ behind
-line_text lines begun line whole given behind is w =
-    ap (λ (z : List ℕ). z ++ (line ++ 10 ∷ behind)) is
-    ∙ append_assoc (lines_text lines) begun (line ++ 10 ∷ behind)
-    ∙ ap (λ (z : List ℕ). lines_text lines ++ z) (sym (append_assoc begun line (10 ∷ behind)) ∙ ap (λ (z : List ℕ). z ++ 10 ∷ behind) (sym w) ∙ sym (one_line whole behind))
-    ∙ sym (append_assoc (lines_text lines) (lines_text (whole ∷ [])) behind)
-    ∙ ap (λ (z : List ℕ). z ++ behind) (sym (lines_text-append lines (whole ∷ [])))
+line_text : (lines : List (List ℕ)) (begun line whole given beyond : List ℕ) → given ≡ lines_text lines ++ begun → whole ≡ begun ++ line → given ++ (line ++ 10 ∷ beyond) ≡ lines_text (lines ++ (whole ∷ [])) ++ beyond
+line_text lines begun line whole given beyond is w =
+    ap (λ (z : List ℕ). z ++ (line ++ 10 ∷ beyond)) is
+    ∙ append_assoc (lines_text lines) begun (line ++ 10 ∷ beyond)
+    ∙ ap (λ (z : List ℕ). lines_text lines ++ z) (sym (append_assoc begun line (10 ∷ beyond)) ∙ ap (λ (z : List ℕ). z ++ 10 ∷ beyond) (sym w) ∙ sym (one_line whole beyond))
+    ∙ sym (append_assoc (lines_text lines) (lines_text (whole ∷ [])) beyond)
+    ∙ ap (λ (z : List ℕ). z ++ beyond) (sym (lines_text-append lines (whole ∷ [])))
 
 pub line_says : (lines : List (List ℕ)) (whole : List ℕ) → lines_bytes lines ++ line_bytes (strip_cr whole) ≡ lines_bytes (lines ++ (whole ∷ []))
 line_says lines whole =
@@ -83,15 +83,15 @@ line_says lines whole =
 
 -- a line is bad whose characters are first kept, and then in the rest
 abbrev pub IsBadLine : List ℕ → ℕ → Type 0
-IsBadLine text place = (bad : List ℕ) × (behind : List ℕ) × IsLine bad × (((text ≡ bad ++ 10 ∷ behind) × (bad_place (strip_cr bad) ≡ Some place)) ⊎ ((text ≡ bad) × (bad_place bad ≡ Some place)))
+IsBadLine text place = (bad : List ℕ) × (beyond : List ℕ) × IsLine bad × (((text ≡ bad ++ 10 ∷ beyond) × (bad_place (strip_cr bad) ≡ Some place)) ⊎ ((text ≡ bad) × (bad_place bad ≡ Some place)))
 
 bad_is : (lines : List (List ℕ)) (begun rest input given : List ℕ) (line place : ℕ) → AreGood lines → given ≡ lines_text lines ++ begun → line ≡ length lines → input ≡ given ++ rest → IsBadLine (begun ++ rest) place → IsBad input (lines_bytes lines) (line + 1) place
-bad_is lines begun rest input given line place good is n e (bad, behind, l, how) =
+bad_is lines begun rest input given line place good is n e (bad, beyond, l, how) =
     let text : input ≡ lines_text lines ++ (begun ++ rest) = e ∙ ap (λ (z : List ℕ). z ++ rest) is ∙ append_assoc (lines_text lines) begun rest in
     record {
       lines = lines;
       bad = bad;
-      behind = behind;
+      beyond = beyond;
       lines_good = good;
       is_line = l;
       line_is = ap (λ k. k + 1) n;
@@ -132,13 +132,13 @@ module _ (job : Job) (r : ReaderValue) (n : Reported) (begun : List ℕ) (line :
   )
 
   -- a line is bad that has its LF
-  pub hex_bad_line : (part behind : List ℕ) (place : ℕ) (fault : RunFault) → IsLine part → bad_place (strip_cr (begun ++ part)) ≡ Some place → fault ≡ BadHex (line + 1) place → IsOfEngine fault × Stops job (given ++ (part ++ 10 ∷ behind)) (output ++ t) fault
-  hex_bad_line part behind place fault l bad e =
-      hex_bad (part ++ 10 ∷ behind) place fault e
+  pub hex_bad_line : (part beyond : List ℕ) (place : ℕ) (fault : RunFault) → IsLine part → bad_place (strip_cr (begun ++ part)) ≡ Some place → fault ≡ BadHex (line + 1) place → IsOfEngine fault × Stops job (given ++ (part ++ 10 ∷ beyond)) (output ++ t) fault
+  hex_bad_line part beyond place fault l bad e =
+      hex_bad (part ++ 10 ∷ beyond) place fault e
       (λ more. (
-      let text : begun ++ ((part ++ 10 ∷ behind) ++ more) ≡ (begun ++ part) ++ 10 ∷ (behind ++ more) =
-      ap (λ (z : List ℕ). begun ++ z) (append_assoc part (10 ∷ behind) more) ∙ sym (append_assoc begun part (10 ∷ (behind ++ more))) in
-      (begun ++ part, behind ++ more, All-append (λ c. c ≡ 10 → ⊥) begun part h.is_line l, inl (text, bad))
+      let text : begun ++ ((part ++ 10 ∷ beyond) ++ more) ≡ (begun ++ part) ++ 10 ∷ (beyond ++ more) =
+      ap (λ (z : List ℕ). begun ++ z) (append_assoc part (10 ∷ beyond) more) ∙ sym (append_assoc begun part (10 ∷ (beyond ++ more))) in
+      (begun ++ part, beyond ++ more, All-append (λ c. c ≡ 10 → ⊥) begun part h.is_line l, inl (text, bad))
       ))
 
   -- a line is too long, wherever it ends
@@ -149,21 +149,21 @@ module _ (job : Job) (r : ReaderValue) (n : Reported) (begun : List ℕ) (line :
       elim (first_lf more) [
         | inl m ↦
             (begun ++ (part ++ more), [], subst IsLine (append_assoc begun part more) (All-append (λ c. c ≡ 10 → ⊥) (begun ++ part) more front m), inr (refl, long_bad (begun ++ (part ++ more)) (omega (arith, length-append begun (part ++ more), length-append part more))))
-        | inr (last, behind, m, is) ↦
-            let text : begun ++ (part ++ more) ≡ ((begun ++ part) ++ last) ++ 10 ∷ behind =
-            sym (append_assoc begun part more) ∙ ap (λ (z : List ℕ). (begun ++ part) ++ z) is ∙ sym (append_assoc (begun ++ part) last (10 ∷ behind)) in
-            ((begun ++ part) ++ last, behind, All-append (λ c. c ≡ 10 → ⊥) (begun ++ part) last front m, inl (text, long_bad_stripped ((begun ++ part) ++ last) (omega (arith, len, length-append (begun ++ part) last))))
+        | inr (last, beyond, m, is) ↦
+            let text : begun ++ (part ++ more) ≡ ((begun ++ part) ++ last) ++ 10 ∷ beyond =
+            sym (append_assoc begun part more) ∙ ap (λ (z : List ℕ). (begun ++ part) ++ z) is ∙ sym (append_assoc (begun ++ part) last (10 ∷ beyond)) in
+            ((begun ++ part) ++ last, beyond, All-append (λ c. c ≡ 10 → ⊥) (begun ++ part) last front m, inl (text, long_bad_stripped ((begun ++ part) ++ last) (omega (arith, len, length-append (begun ++ part) last))))
       ]
 
   pub hex_long_open : (part : List ℕ) (fault : RunFault) → IsLine part → 4097 < length begun + length part → fault ≡ BadHex (line + 1) 4096 → IsOfEngine fault × Stops job (given ++ part) (output ++ t) fault
   hex_long_open part fault l long e = hex_bad part 4096 fault e (λ more. long_line part more l long)
 
   -- the items of a line halted
-  pub hex_line_halts : (part whole behind t' : List ℕ) (fault : RunFault) → whole ≡ begun ++ part → bad_place (strip_cr whole) ≡ None → Halts job.kind job.command (seen_bits r.progress) n (line_bytes (strip_cr whole)) t t' fault → IsOfEngine fault × Stops job (given ++ (part ++ 10 ∷ behind)) (output ++ t') fault
-  hex_line_halts part whole behind t' fault w good halts =
-      hex_halts job (h.lines ++ (whole ∷ [])) (given ++ (part ++ 10 ∷ behind)) (output ++ t') behind fault h.form
+  pub hex_line_halts : (part whole beyond t' : List ℕ) (fault : RunFault) → whole ≡ begun ++ part → bad_place (strip_cr whole) ≡ None → Halts job.kind job.command (seen_bits r.progress) n (line_bytes (strip_cr whole)) t t' fault → IsOfEngine fault × Stops job (given ++ (part ++ 10 ∷ beyond)) (output ++ t') fault
+  hex_line_halts part whole beyond t' fault w good halts =
+      hex_halts job (h.lines ++ (whole ∷ [])) (given ++ (part ++ 10 ∷ beyond)) (output ++ t') beyond fault h.form
       (AreGood-append h.lines (whole ∷ []) h.lines_good (good, tt))
-      (line_text h.lines begun part whole given behind h.given_is w)
+      (line_text h.lines begun part whole given beyond h.given_is w)
       (subst (λ z. ItemsHalt job z (output ++ t') fault) (line_says h.lines whole) (stand_halts job (seen_bits r.progress) n (lines_bytes h.lines) output t h.items (line_bytes (strip_cr whole)) t' fault halts))
 
   -- ---- The end of the text.
@@ -201,11 +201,11 @@ module _ (job : Job) (r : ReaderValue) (n : Reported) (begun : List ℕ) (line :
   -- ---- What the code returns.
 
   -- a line is bad, or its items halted
-  pub hex_line_stops : (part whole behind t' : List ℕ) (fault : RunFault) → IsLine part → whole ≡ begun ++ part → ((place : ℕ) × (bad_place (strip_cr whole) ≡ Some place) × (fault ≡ BadHex (line + 1) place) × (t' ≡ t)) ⊎ ((bad_place (strip_cr whole) ≡ None) × Halts job.kind job.command (seen_bits r.progress) n (line_bytes (strip_cr whole)) t t' fault) → IsOfEngine fault × Stops job (given ++ (part ++ 10 ∷ behind)) (output ++ t') fault
-  hex_line_stops part whole behind t' fault l w (inl (place, bad, e, same)) =
+  pub hex_line_stops : (part whole beyond t' : List ℕ) (fault : RunFault) → IsLine part → whole ≡ begun ++ part → ((place : ℕ) × (bad_place (strip_cr whole) ≡ Some place) × (fault ≡ BadHex (line + 1) place) × (t' ≡ t)) ⊎ ((bad_place (strip_cr whole) ≡ None) × Halts job.kind job.command (seen_bits r.progress) n (line_bytes (strip_cr whole)) t t' fault) → IsOfEngine fault × Stops job (given ++ (part ++ 10 ∷ beyond)) (output ++ t') fault
+  hex_line_stops part whole beyond t' fault l w (inl (place, bad, e, same)) =
       let bad' : bad_place (strip_cr (begun ++ part)) ≡ Some place = subst (λ z. bad_place (strip_cr z) ≡ Some place) w bad in
-      subst (λ z. IsOfEngine fault × Stops job (given ++ (part ++ 10 ∷ behind)) (output ++ z) fault) (sym same) (hex_bad_line part behind place fault l bad' e)
-  hex_line_stops part whole behind t' fault l w (inr (good, halts)) = hex_line_halts part whole behind t' fault w good halts
+      subst (λ z. IsOfEngine fault × Stops job (given ++ (part ++ 10 ∷ beyond)) (output ++ z) fault) (sym same) (hex_bad_line part beyond place fault l bad' e)
+  hex_line_stops part whole beyond t' fault l w (inr (good, halts)) = hex_line_halts part whole beyond t' fault w good halts
 
   -- the last line is
   pub hex_last_stops : (t' : List ℕ) (fault : RunFault) → ((place : ℕ) × (bad_place begun ≡ Some place) × (fault ≡ BadHex (line + 1) place) × (t' ≡ t)) ⊎ ((bad_place begun ≡ None) × Halts job.kind job.command (seen_bits r.progress) n (line_bytes begun) t t' fault) → IsOfEngine fault × StopsAtEnd job given (output ++ t') fault

@@ -27,12 +27,12 @@ pub nothing_took : (job : Job) (r : ReaderValue) (n : Reported) → job.from ≡
 nothing_took job r n form waits seen count = record { form = form; waits = waits; lines_good = tt; items = stand_nothing job (seen_bits r.progress) n seen count waits.unfinished }
 
 -- characters without a LF after the lines that were taken
-pub kept_behind : (job : Job) (r : ReaderValue) (n : Reported) (lines : List (List ℕ)) (begun output : List ℕ) → HexTook job r n lines output → IsLine begun → HexStands job r n begun (length lines) (lines_text lines ++ begun) output
-kept_behind job r n lines begun output h l =
+pub kept_after : (job : Job) (r : ReaderValue) (n : Reported) (lines : List (List ℕ)) (begun output : List ℕ) → HexTook job r n lines output → IsLine begun → HexStands job r n begun (length lines) (lines_text lines ++ begun) output
+kept_after job r n lines begun output h l =
     record { form = h.form; waits = h.waits; lines = lines; given_is = refl; lines_good = h.lines_good; is_line = l; line_is = refl; items = h.items }
 
-none_behind : (job : Job) (r : ReaderValue) (n : Reported) (lines : List (List ℕ)) (output : List ℕ) → HexTook job r n lines output → HexStands job r n [] (length lines) (lines_text lines) output
-none_behind job r n lines output h =
+none_after : (job : Job) (r : ReaderValue) (n : Reported) (lines : List (List ℕ)) (output : List ℕ) → HexTook job r n lines output → HexStands job r n [] (length lines) (lines_text lines) output
+none_after job r n lines output h =
     record { form = h.form; waits = h.waits; lines = lines; given_is = sym (append-nil (lines_text lines)); lines_good = h.lines_good; is_line = All-nil (λ c. c ≡ 10 → ⊥); line_is = refl; items = h.items }
 
 module _ (job : Job) (r : ReaderValue) (n : Reported) (lines : List (List ℕ)) (output t : List ℕ) (h : HexTook job r n lines (output ++ t)) (raw : List ℕ) where
@@ -59,7 +59,7 @@ module _ (job : Job) (r : ReaderValue) (n : Reported) (lines : List (List ℕ)) 
   took_stops more t' line number (Ok u) l e m h' = tt
   took_stops more t' line number (Err f) l e m h' =
       let why : NotTaken (strip_cr raw) (length lines + 1) t' f = subst (λ (k : ℕ). NotTaken (strip_cr raw) k t' f) m (subst (λ (z : List ℕ). NotTaken z number t' f) e h') in
-      hex_line_stops job r n [] (length lines) (lines_text lines) output t (none_behind job r n lines (output ++ t) h) raw raw more t' f l refl why
+      hex_line_stops job r n [] (length lines) (lines_text lines) output t (none_after job r n lines (output ++ t) h) raw raw more t' f l refl why
 
 -- a line is too long
 pub long_stops : (job : Job) (r : ReaderValue) (n : Reported) (lines : List (List ℕ)) (part output : List ℕ) (number : ℕ) (fault : RunFault) → HexTook job r n lines output → IsLine part → most_characters job.from + 1 < length part → number ≡ length lines + 1 → fault ≡ BadHex number 4096 → IsOfEngine fault × Stops job (lines_text lines ++ part) output fault
@@ -68,4 +68,4 @@ long_stops job r n lines part output number fault h l long m e =
     let h' : HexTook job r n lines (output ++ []) = subst (λ (z : List ℕ). HexTook job r n lines z) (sym end) h in
     let most : 4097 < length part = subst (λ (f : Form). most_characters f + 1 < length part) h.form long in
     subst (λ (z : List ℕ). IsOfEngine fault × Stops job (lines_text lines ++ part) z fault) end
-    (hex_long_open job r n [] (length lines) (lines_text lines) output [] (none_behind job r n lines (output ++ []) h') part fault l (omega (arith, most)) (e ∙ ap (λ (k : ℕ). BadHex k 4096) m))
+    (hex_long_open job r n [] (length lines) (lines_text lines) output [] (none_after job r n lines (output ++ []) h') part fault l (omega (arith, most)) (e ∙ ap (λ (k : ℕ). BadHex k 4096) m))

@@ -32,8 +32,8 @@ use Rattle.etcs_stream.proofs.Cutting.{first_lf}
 pub AreItemLines-append : (kind : Kind) (ls ms : List (List ℕ)) (es fs : List EntryValue) → AreItemLines kind ls es → AreItemLines kind ms fs → AreItemLines kind (ls ++ ms) (es ++ fs)
 AreItemLines-append kind [] ms es fs h g = subst (λ (z : List EntryValue). AreItemLines kind ms (z ++ fs)) (sym h) g
 AreItemLines-append kind (l ∷ ls) ms es fs (inl h) g = inl (h.0, AreItemLines-append kind ls ms es fs h.1 g)
-AreItemLines-append kind (l ∷ ls) ms es fs (inr (e, behind, is, item, more)) g =
-    inr (e, behind ++ fs, ap (λ (z : List EntryValue). z ++ fs) is, item, AreItemLines-append kind ls ms behind fs more g)
+AreItemLines-append kind (l ∷ ls) ms es fs (inr (e, beyond, is, item, more)) g =
+    inr (e, beyond ++ fs, ap (λ (z : List EntryValue). z ++ fs) is, item, AreItemLines-append kind ls ms beyond fs more g)
 
 -- the items of a line were reported
 pub record LineOutput (job : Job) (line : List ℕ) (before after : Reported) (t t' : List ℕ) : Type 0 where
@@ -72,10 +72,10 @@ record GoesOn (lines : List (List ℕ)) (line input : List ℕ) : Type 0 where
 long_line : (part more : List ℕ) → IsLine part → 1048577 < length part → (line : List ℕ) × BeginsWith (part ++ more) line × (1048576 < length line)
 long_line part more l long = elim (first_lf more) [
   | inl m ↦ (part ++ more, inr (All-append (λ c. c ≡ 10 → ⊥) part more l m, refl), omega (arith, length-append part more))
-  | inr (last, behind, m, is) ↦
-      let text : part ++ more ≡ (part ++ last) ++ 10 ∷ behind = ap (λ (z : List ℕ). part ++ z) is ∙ sym (append_assoc part last (10 ∷ behind)) in (
+  | inr (last, beyond, m, is) ↦
+      let text : part ++ more ≡ (part ++ last) ++ 10 ∷ beyond = ap (λ (z : List ℕ). part ++ z) is ∙ sym (append_assoc part last (10 ∷ beyond)) in (
         strip_cr (part ++ last),
-        inl (part ++ last, behind, All-append (λ c. c ≡ 10 → ⊥) part last l m, text, refl),
+        inl (part ++ last, beyond, All-append (λ c. c ≡ 10 → ⊥) part last l m, text, refl),
         omega (arith, stripped (ends_with_byte 13 (part ++ last)) (part ++ last), length-append part last),
       )
 ]
@@ -133,17 +133,17 @@ module _ (job : Job) (n : Reported) (lines : List (List ℕ)) (output : List ℕ
       inr (h.items, end, by, (n, h.text), λ more. ends ((lines_text lines ++ rest) ++ more) (goes more))
 
   -- the line has its LF
-  with_lf : (raw line behind more : List ℕ) → IsLine raw → line ≡ strip_cr raw → GoesOn lines line ((lines_text lines ++ (raw ++ 10 ∷ behind)) ++ more)
-  with_lf raw line behind more l e = record {
-    rest = raw ++ 10 ∷ (behind ++ more);
-    text_is = append_assoc (lines_text lines) (raw ++ 10 ∷ behind) more ∙ ap (λ (z : List ℕ). lines_text lines ++ z) (append_assoc raw (10 ∷ behind) more);
-    begins = inl (raw, behind ++ more, l, refl, e);
+  with_lf : (raw line beyond more : List ℕ) → IsLine raw → line ≡ strip_cr raw → GoesOn lines line ((lines_text lines ++ (raw ++ 10 ∷ beyond)) ++ more)
+  with_lf raw line beyond more l e = record {
+    rest = raw ++ 10 ∷ (beyond ++ more);
+    text_is = append_assoc (lines_text lines) (raw ++ 10 ∷ beyond) more ∙ ap (λ (z : List ℕ). lines_text lines ++ z) (append_assoc raw (10 ∷ beyond) more);
+    begins = inl (raw, beyond ++ more, l, refl, e);
   }
 
-  json_line_halts : (raw line behind : List ℕ) (number : ℕ) (fault : RunFault) → IsLine raw → line ≡ strip_cr raw → number ≡ length lines + 1 → HaltsJson job line number n fault → IsOfEngine fault × Stops job (lines_text lines ++ (raw ++ 10 ∷ behind)) output fault
-  json_line_halts raw line behind number fault l e at why =
+  json_line_halts : (raw line beyond : List ℕ) (number : ℕ) (fault : RunFault) → IsLine raw → line ≡ strip_cr raw → number ≡ length lines + 1 → HaltsJson job line number n fault → IsOfEngine fault × Stops job (lines_text lines ++ (raw ++ 10 ∷ beyond)) output fault
+  json_line_halts raw line beyond number fault l e at why =
       let k = halted line number fault at why in
-      (k.0, stops_by line (raw ++ 10 ∷ behind) fault (λ more. with_lf raw line behind more l e) k.1)
+      (k.0, stops_by line (raw ++ 10 ∷ beyond) fault (λ more. with_lf raw line beyond more l e) k.1)
 
   -- it is the last
   ends_by : (line : List ℕ) (fault : RunFault) → IsLine line → Halted line fault → StopsAtEnd job (lines_text lines ++ line) output fault
@@ -218,7 +218,7 @@ module _ (job : Job) (n : Reported) (lines : List (List ℕ)) (output t : List �
       lines = lines;
       last = line;
       front = h.items;
-      behind = m.items;
+      beyond = m.items;
       lines_are = json_front job n lines (output ++ t) h (lines_text lines ++ line) line refl;
       is_line = l;
       last_is = m.are_items;
@@ -251,11 +251,11 @@ module _ (job : Job) (n : Reported) (lines : List (List ℕ)) (output t : List �
   json_line_took raw line n' t' (Ok u) l e takes = took_more line n' t' (line_output job line n n' t t' takes) raw l e
   json_line_took raw line n' t' (Err f) l e takes = tt
 
-  pub json_line_stops : (raw line behind : List ℕ) (number : ℕ) (t' : List ℕ) (answer : Result Unit RunFault) → IsLine raw → line ≡ strip_cr raw → number ≡ length lines + 1 → IfErr answer (λ f. HaltsJson job line number n f × (t' ≡ t)) → IfErr answer (λ f. IsOfEngine f × Stops job (lines_text lines ++ (raw ++ 10 ∷ behind)) (output ++ t') f)
-  json_line_stops raw line behind number t' (Ok u) l e at why = tt
-  json_line_stops raw line behind number t' (Err f) l e at (why, same) =
-      subst (λ (z : List ℕ). IsOfEngine f × Stops job (lines_text lines ++ (raw ++ 10 ∷ behind)) (output ++ z) f) (sym same)
-      (json_line_halts job n lines (output ++ t) h raw line behind number f l e at why)
+  pub json_line_stops : (raw line beyond : List ℕ) (number : ℕ) (t' : List ℕ) (answer : Result Unit RunFault) → IsLine raw → line ≡ strip_cr raw → number ≡ length lines + 1 → IfErr answer (λ f. HaltsJson job line number n f × (t' ≡ t)) → IfErr answer (λ f. IsOfEngine f × Stops job (lines_text lines ++ (raw ++ 10 ∷ beyond)) (output ++ t') f)
+  json_line_stops raw line beyond number t' (Ok u) l e at why = tt
+  json_line_stops raw line beyond number t' (Err f) l e at (why, same) =
+      subst (λ (z : List ℕ). IsOfEngine f × Stops job (lines_text lines ++ (raw ++ 10 ∷ beyond)) (output ++ z) f) (sym same)
+      (json_line_halts job n lines (output ++ t) h raw line beyond number f l e at why)
 
   pub json_last_stops : (line : List ℕ) (number : ℕ) (t' : List ℕ) (fault : RunFault) → IsLine line → number ≡ length lines + 1 → HaltsJson job line number n fault × (t' ≡ t) → IsOfEngine fault × StopsAtEnd job (lines_text lines ++ line) (output ++ t') fault
   json_last_stops line number t' fault l at (why, same) =

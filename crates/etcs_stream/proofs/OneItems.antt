@@ -72,15 +72,15 @@ no_item kind n e r b rest (inl none) few x is =
 no_item kind n e r b rest (inr most) few x is = absurd (omega arith)
 
 record Further (kind : Kind) (es es' : List EntryValue) (rest rest' : List Bool) : Type 0 where
-  behind : List EntryValue
+  beyond : List EntryValue
   spelt : List Bool
-  items_are : es' ≡ es ++ behind
-  are_spelled : AreSpelled kind behind spelt
+  items_are : es' ≡ es ++ beyond
+  are_spelled : AreSpelled kind beyond spelt
   rest_is : rest ≡ spelt ++ rest'
 
 further : (kind : Kind) (n : ℕ) (es es' : List EntryValue) (s s' rest rest' : List Bool) → AreSpelled kind es s → AreSpelled kind es' s' → n + length es ≤ 1000000 → Last kind (n + length es') rest' → s ++ rest ≡ s' ++ rest' → Further kind es es' rest rest'
 further kind n [] es' s s' rest rest' h h' few last is =
-    record { behind = es'; spelt = s'; items_are = refl; are_spelled = h'; rest_is = ap (λ (z : List Bool). z ++ rest) (sym h) ∙ is }
+    record { beyond = es'; spelt = s'; items_are = refl; are_spelled = h'; rest_is = ap (λ (z : List Bool). z ++ rest) (sym h) ∙ is }
 further kind n (e ∷ es) [] s s' rest rest' h h' few last is =
     let whole : rest' ≡ spelled h.0 ++ (h.1 ++ rest) = ap (λ (z : List Bool). z ++ rest') (sym h') ∙ sym is ∙ ap (λ (z : List Bool). z ++ rest) h.3 ∙ append_assoc (spelled h.0) h.1 rest in
     absurd (no_item kind (n + 0) e h.0 (h.1 ++ rest) rest' last (omega arith) h.2 whole)
@@ -91,16 +91,16 @@ further kind n (e ∷ es) (f ∷ es') s s' rest rest' h h' few last is =
     let count : n + length (f ∷ es') ≡ n + 1 + length es' = omega arith in
     let more = further kind (n + 1) es es' h.1 h'.1 rest rest' h.4 h'.4 (omega arith) (subst (λ (m : ℕ). Last kind m rest') count last) same.1 in
     record {
-      behind = more.behind;
+      beyond = more.beyond;
       spelt = more.spelt;
       items_are = let tails = more.items_are in let heads = same.0 in cc;
       are_spelled = more.are_spelled;
       rest_is = more.rest_is;
     }
 
-none_behind : (kind : Kind) (n : ℕ) (behind : List EntryValue) (spelt rest rest' : List Bool) → AreSpelled kind behind spelt → Last kind n rest → n + length behind ≤ 1000000 → rest ≡ spelt ++ rest' → behind ≡ []
-none_behind kind n [] spelt rest rest' h last few is = refl
-none_behind kind n (e ∷ behind) spelt rest rest' h last few is =
+none_after : (kind : Kind) (n : ℕ) (beyond : List EntryValue) (spelt rest rest' : List Bool) → AreSpelled kind beyond spelt → Last kind n rest → n + length beyond ≤ 1000000 → rest ≡ spelt ++ rest' → beyond ≡ []
+none_after kind n [] spelt rest rest' h last few is = refl
+none_after kind n (e ∷ beyond) spelt rest rest' h last few is =
     let whole : rest ≡ spelled h.0 ++ (h.1 ++ rest') = is ∙ ap (λ (z : List Bool). z ++ rest') h.3 ∙ append_assoc (spelled h.0) h.1 rest' in
     absurd (no_item kind n e h.0 (h.1 ++ rest') rest last (omega arith) h.2 whole)
 
@@ -109,8 +109,8 @@ same_items : (kind : Kind) (es es' : List EntryValue) (s s' rest rest' : List Bo
 same_items kind es es' s s' rest rest' h h' few few' last last' is =
     let zero_on : length es' ≡ 0 + length es' = omega arith in
     let f = further kind 0 es es' s s' rest rest' h h' (omega arith) (subst (λ (m : ℕ). Last kind m rest') zero_on last') is in
-    let count : length es + length f.behind ≤ 1000000 = omega (arith, ap (λ (z : List EntryValue). length z) f.items_are, length-append es f.behind) in
-    let none = none_behind kind (length es) f.behind f.spelt rest rest' f.are_spelled last count f.rest_is in
+    let count : length es + length f.beyond ≤ 1000000 = omega (arith, ap (λ (z : List EntryValue). length z) f.items_are, length-append es f.beyond) in
+    let none = none_after kind (length es) f.beyond f.spelt rest rest' f.are_spelled last count f.rest_is in
     let empty : f.spelt ≡ [] = subst (λ (z : List EntryValue). AreSpelled kind z f.spelt) none f.are_spelled in (
       sym (f.items_are ∙ ap (λ (z : List EntryValue). es ++ z) none ∙ append-nil es),
       f.rest_is ∙ ap (λ (z : List Bool). z ++ rest') empty,
@@ -239,7 +239,7 @@ one_whole Bin kind given es es' h k = whole_bytes Bin kind given es es' h k
 one_whole Json kind given es es' h k = one_whole_json kind given es es' h k
 
 -- bytes whose bits begin with items, and more after them
-front_items : (form : Form) (kind : Kind) (input bytes' : List ℕ) (es es' : List EntryValue) (end : End) (h : FirstBytes form kind input es) → BitItems kind (bits bytes') es' end → (more : List ℕ) × (bytes' ≡ h.bytes ++ more) → (behind : List EntryValue) × (es' ≡ es ++ behind)
+front_items : (form : Form) (kind : Kind) (input bytes' : List ℕ) (es es' : List EntryValue) (end : End) (h : FirstBytes form kind input es) → BitItems kind (bits bytes') es' end → (more : List ℕ) × (bytes' ≡ h.bytes ++ more) → (beyond : List EntryValue) × (es' ≡ es ++ beyond)
 front_items form kind input bytes' es es' end h k (more, is) =
     let whole : h.spelt ++ (h.rest ++ bits more) ≡ k.spelt ++ k.rest =
     sym (append_assoc h.spelt h.rest (bits more)) ∙ ap (λ (z : List Bool). z ++ bits more) (sym h.bits_are) ∙ sym (bits-append h.bytes more) ∙ ap bits (sym is) ∙ k.bits_are in
@@ -247,7 +247,7 @@ front_items form kind input bytes' es es' end h k (more, is) =
     let few : 0 + length es ≤ 1000000 = omega (arith, h.few) in
     let last = subst (λ (m : ℕ). Last kind m k.rest) zero_on (ends_last kind (length es') k.rest end k.ends) in
     let f = further kind 0 es es' h.spelt k.spelt (h.rest ++ bits more) k.rest h.are_spelled k.are_spelled few last whole in
-    (f.behind, f.items_are)
+    (f.beyond, f.items_are)
 
 pub one_front : OneFront
 one_front Bin kind input es es' end h k = front_items Bin kind input input es es' end h k ([], sym h.says ∙ sym (append-nil h.bytes))

@@ -23,24 +23,24 @@ not_empty kind line e empty h = omega (arith, ap (λ (z : List ℕ). length z) e
 -- two lists of lines that begin with one line: its items, and those after it
 record Heads (kind : Kind) (lines lines' : List (List ℕ)) (es es' : List EntryValue) : Type 0 where
   first : List EntryValue
-  behind : List EntryValue
-  behind' : List EntryValue
-  items_are : es ≡ first ++ behind
-  items_are' : es' ≡ first ++ behind'
-  are_items : AreItemLines kind lines behind
-  are_items' : AreItemLines kind lines' behind'
+  beyond : List EntryValue
+  beyond' : List EntryValue
+  items_are : es ≡ first ++ beyond
+  items_are' : es' ≡ first ++ beyond'
+  are_items : AreItemLines kind lines beyond
+  are_items' : AreItemLines kind lines' beyond'
 
 heads : (kind : Kind) (line : List ℕ) (lines lines' : List (List ℕ)) (es es' : List EntryValue) → AreItemLines kind (line ∷ lines) es → AreItemLines kind (line ∷ lines') es' → Heads kind lines lines' es es'
 heads kind line lines lines' es es' (inl (empty, h)) (inl (empty', k)) =
-    record { first = []; behind = es; behind' = es'; items_are = refl; items_are' = refl; are_items = h; are_items' = k }
+    record { first = []; beyond = es; beyond' = es'; items_are = refl; items_are' = refl; are_items = h; are_items' = k }
 heads kind line lines lines' es es' (inl (empty, h)) (inr (f, fs, is, item, k)) = absurd (not_empty kind line f empty item)
 heads kind line lines lines' es es' (inr (e, more, is, item, h)) (inl (empty, k)) = absurd (not_empty kind line e empty item)
 heads kind line lines lines' es es' (inr (e, more, is, item, h)) (inr (f, fs, is', item', k)) =
     let same = one_item kind line f e item' item in
     record {
       first = e ∷ [];
-      behind = more;
-      behind' = fs;
+      beyond = more;
+      beyond' = fs;
       items_are = is;
       items_are' = is' ∙ ap (λ (z : EntryValue). z ∷ fs) same;
       are_items = h;
@@ -50,22 +50,22 @@ heads kind line lines lines' es es' (inr (e, more, is, item, h)) (inr (f, fs, is
 -- ---- Lines one after another.
 
 -- lines that begin with those of some items are those items and more
-items_behind : (kind : Kind) (lines more : List (List ℕ)) (es es' : List EntryValue) → AreItemLines kind lines es → AreItemLines kind (lines ++ more) es' → (items : List EntryValue) × (es' ≡ es ++ items) × AreItemLines kind more items
-items_behind kind [] more es es' h k = (es', ap (λ (z : List EntryValue). z ++ es') (sym h), k)
-items_behind kind (line ∷ lines) more es es' h k =
+items_after : (kind : Kind) (lines more : List (List ℕ)) (es es' : List EntryValue) → AreItemLines kind lines es → AreItemLines kind (lines ++ more) es' → (items : List EntryValue) × (es' ≡ es ++ items) × AreItemLines kind more items
+items_after kind [] more es es' h k = (es', ap (λ (z : List EntryValue). z ++ es') (sym h), k)
+items_after kind (line ∷ lines) more es es' h k =
     let s = heads kind line lines (lines ++ more) es es' h k in
-    let (items, is, are) = items_behind kind lines more s.behind s.behind' s.are_items s.are_items' in (
+    let (items, is, are) = items_after kind lines more s.beyond s.beyond' s.are_items s.are_items' in (
       items,
       s.items_are'
           ∙ ap (λ (z : List EntryValue). s.first ++ z) is
-          ∙ sym (append_assoc s.first s.behind items)
+          ∙ sym (append_assoc s.first s.beyond items)
           ∙ ap (λ (z : List EntryValue). z ++ items) (sym s.items_are),
       are,
     )
 
 same_last : (kind : Kind) (line : List ℕ) (es es' : List EntryValue) → AreItemLines kind (line ∷ []) es → AreItemLines kind (line ∷ []) es' → es ≡ es'
 same_last kind line es es' h k =
-    let (items, is, none) = items_behind kind (line ∷ []) [] es es' h k in
+    let (items, is, none) = items_after kind (line ∷ []) [] es es' h k in
     sym (is ∙ ap (λ (z : List EntryValue). es ++ z) none ∙ append-nil es)
 
 -- lines at the front of a text, their items, and what is after them
@@ -87,7 +87,7 @@ ahead kind text f g l =
     let lines : map strip_cr g.lines ≡ map strip_cr f.lines ++ map strip_cr l.more =
     ap (λ (z : List (List ℕ)). map strip_cr z) l.lines_are ∙ map-append strip_cr f.lines l.more in
     let there = subst (λ (z : List (List ℕ)). AreItemLines kind z g.items) lines g.are.are_items in
-    let (items, is, are) = items_behind kind (map strip_cr f.lines) (map strip_cr l.more) f.items g.items f.are.are_items there in
+    let (items, is, are) = items_after kind (map strip_cr f.lines) (map strip_cr l.more) f.items g.items f.are.are_items there in
     record { lines = l; items = items; items_are = is; are_items = are }
 
 one_ahead : (kind : Kind) (text : List ℕ) (f g : Front kind text) → Ahead kind text f g ⊎ Ahead kind text g f
@@ -100,24 +100,24 @@ one_ahead kind text f g = elim (fronts f.lines g.lines f.rest g.rest f.are.are_l
 
 -- after this many items no line with a LF follows that is empty or one more item
 NoFurther : Kind → ℕ → List ℕ → Type 0
-NoFurther kind n rest = (line behind : List ℕ) → IsLine line → rest ≡ line ++ 10 ∷ behind → (strip_cr line ≡ [] → ⊥) × ((e : EntryValue) → n < 1000000 → IsItemLine kind (strip_cr line) e → ⊥)
+NoFurther kind n rest = (line beyond : List ℕ) → IsLine line → rest ≡ line ++ 10 ∷ beyond → (strip_cr line ≡ [] → ⊥) × ((e : EntryValue) → n < 1000000 → IsItemLine kind (strip_cr line) e → ⊥)
 
 without_lf : (kind : Kind) (n : ℕ) (rest : List ℕ) → IsLine rest → NoFurther kind n rest
 unfolding NoFurther
-without_lf kind n rest h line behind l is = absurd (has_lf rest line behind h is)
+without_lf kind n rest h line beyond l is = absurd (has_lf rest line beyond h is)
 
 begins_once : (rest line line' : List ℕ) → BeginsWith rest line → BeginsWith rest line' → line ≡ line'
-begins_once rest line line' (inl (raw, behind, l, is, cut)) (inl (raw', behind', l', is', cut')) =
-    cut ∙ ap (λ (z : List ℕ). strip_cr z) (cut_lf raw raw' behind behind' l l' (sym is ∙ is')).0 ∙ sym cut'
-begins_once rest line line' (inl (raw, behind, l, is, cut)) (inr (l', is')) = absurd (has_lf rest raw behind l' is)
-begins_once rest line line' (inr (l, is)) (inl (raw, behind, l', is', cut)) = absurd (has_lf rest raw behind l is')
+begins_once rest line line' (inl (raw, beyond, l, is, cut)) (inl (raw', beyond', l', is', cut')) =
+    cut ∙ ap (λ (z : List ℕ). strip_cr z) (cut_lf raw raw' beyond beyond' l l' (sym is ∙ is')).0 ∙ sym cut'
+begins_once rest line line' (inl (raw, beyond, l, is, cut)) (inr (l', is')) = absurd (has_lf rest raw beyond l' is)
+begins_once rest line line' (inr (l, is)) (inl (raw, beyond, l', is', cut)) = absurd (has_lf rest raw beyond l is')
 begins_once rest line line' (inr (l, is)) (inr (l', is')) = is ∙ sym is'
 
 -- the line there isn't one more
 no_item : (kind : Kind) (n : ℕ) (rest line : List ℕ) → BeginsWith rest line → 0 < length line → ((e : EntryValue) → n < 1000000 → IsItemLine kind line e → ⊥) → NoFurther kind n rest
 unfolding NoFurther
-no_item kind n rest line begins some none raw behind l is =
-    let same : line ≡ strip_cr raw = begins_once rest line (strip_cr raw) begins (inl (raw, behind, l, is, refl)) in (
+no_item kind n rest line begins some none raw beyond l is =
+    let same : line ≡ strip_cr raw = begins_once rest line (strip_cr raw) begins (inl (raw, beyond, l, is, refl)) in (
       λ empty. omega (arith, some, ap (λ (z : List ℕ). length z) same, ap (λ (z : List ℕ). length z) empty),
       λ e few item. none e few (subst (λ (z : List ℕ). IsItemLine kind z e) (sym same) item),
     )
@@ -127,7 +127,7 @@ unfolding NoFurther
 none_more kind n [] items rest rest' l h none few is = (refl, h)
 none_more kind n (line ∷ more) items rest rest' l (inl (empty, h)) none few is =
     absurd ((none line (lines_text more ++ rest') (All-head IsLine line more l) (is ∙ first_of line more rest')).0 empty)
-none_more kind n (line ∷ more) items rest rest' l (inr (e, behind, are, item, h)) none few is =
+none_more kind n (line ∷ more) items rest rest' l (inr (e, beyond, are, item, h)) none few is =
     let fewer : n < 1000000 = omega (arith, few, ap (λ (z : List EntryValue). length z) are) in
     absurd ((none line (lines_text more ++ rest') (All-head IsLine line more l) (is ∙ first_of line more rest')).1 e fewer item)
 
@@ -204,10 +204,10 @@ stop_stands kind text es end h = no_item kind (length es) h.there.rest h.line h.
 ended_once : (kind : Kind) (text : List ℕ) (es es' : List EntryValue) → EndedJson kind text es → EndedJson kind text es' → es ≡ es'
 ended_once kind text es es' h k =
     let same = same_front kind text (ended_front kind text es h) (ended_front kind text es' k) (ended_stands kind text es h) (ended_stands kind text es' k) in
-    let there : AreItemLines kind (h.last ∷ []) k.behind = subst (λ (z : List ℕ). AreItemLines kind (z ∷ []) k.behind) (sym same.2) k.last_is in
+    let there : AreItemLines kind (h.last ∷ []) k.beyond = subst (λ (z : List ℕ). AreItemLines kind (z ∷ []) k.beyond) (sym same.2) k.last_is in
     h.items_are
-    ∙ ap (λ (z : List EntryValue). z ++ h.behind) same.0
-    ∙ ap (λ (z : List EntryValue). k.front ++ z) (same_last kind h.last h.behind k.behind h.last_is there)
+    ∙ ap (λ (z : List EntryValue). z ++ h.beyond) same.0
+    ∙ ap (λ (z : List EntryValue). k.front ++ z) (same_last kind h.last h.beyond k.beyond h.last_is there)
     ∙ sym k.items_are
 
 ended_or_line : (kind : Kind) (text : List ℕ) (es es' : List EntryValue) (end : End) → EndedJson kind text es → Stop kind text es' end → ⊥
@@ -219,7 +219,7 @@ ended_or_line kind text es es' end h k =
     elim h.last_is [
       | inl (empty, none) ↦ omega (arith, k.there.some, ap (λ (z : List ℕ). length z) is, ap (λ (z : List ℕ). length z) empty)
       | inr (e, more, are, item, none) ↦
-          let few : length es' < 1000000 = omega (arith, h.few, ap size h.items_are, length-append h.front h.behind, ap size are, ap size same.0) in
+          let few : length es' < 1000000 = omega (arith, h.few, ap size h.items_are, length-append h.front h.beyond, ap size are, ap size same.0) in
           k.no_more e few (subst (λ (z : List ℕ). IsItemLine kind z e) (sym is) item)
     ]
 
@@ -269,23 +269,23 @@ one_whole_json kind given es es' (lines, rest, are, l) (lines', rest', are', l')
 record Final (kind : Kind) (text : List ℕ) (es : List EntryValue) : Type 0 where
   front : Front kind text
   stands : NoFurther kind (length front.items) front.rest
-  behind : List EntryValue
-  items_are : es ≡ front.items ++ behind
+  beyond : List EntryValue
+  items_are : es ≡ front.items ++ beyond
 
 final_of : (kind : Kind) (text : List ℕ) (es : List EntryValue) (end : End) → (EndedJson kind text es × (end ≡ ended)) ⊎ Stop kind text es end → Final kind text es
 final_of kind text es end (inl (h, is)) =
-    record { front = ended_front kind text es h; stands = ended_stands kind text es h; behind = h.behind; items_are = h.items_are }
+    record { front = ended_front kind text es h; stands = ended_stands kind text es h; beyond = h.beyond; items_are = h.items_are }
 final_of kind text es end (inr h) =
-    record { front = stop_front kind text es end h; stands = stop_stands kind text es end h; behind = []; items_are = sym (append-nil es) }
+    record { front = stop_front kind text es end h; stands = stop_stands kind text es end h; beyond = []; items_are = sym (append-nil es) }
 
-pub front_json : (kind : Kind) (text : List ℕ) (es es' : List EntryValue) (end : End) → FirstJson kind text es → JsonItems kind text es' end → (behind : List EntryValue) × (es' ≡ es ++ behind)
+pub front_json : (kind : Kind) (text : List ℕ) (es es' : List EntryValue) (end : End) → FirstJson kind text es → JsonItems kind text es' end → (beyond : List EntryValue) × (es' ≡ es ++ beyond)
 front_json kind text es es' end (inl (lines, rest, are)) k =
     let f : Front kind text = record { items = es; lines = lines; rest = rest; are = are } in
     let l = final_of kind text es' end (ended_or_stop kind text es' end k) in
-    let tail = λ (z : List EntryValue). z ++ l.behind in
+    let tail = λ (z : List EntryValue). z ++ l.beyond in
     elim (one_ahead kind text f l.front) [
-      | inl a ↦ (a.items ++ l.behind, l.items_are ∙ ap tail a.items_are ∙ append_assoc es a.items l.behind)
-      | inr a ↦ (l.behind, l.items_are ∙ ap tail (stays kind text l.front f a l.stands).0)
+      | inl a ↦ (a.items ++ l.beyond, l.items_are ∙ ap tail a.items_are ∙ append_assoc es a.items l.beyond)
+      | inr a ↦ (l.beyond, l.items_are ∙ ap tail (stays kind text l.front f a l.stands).0)
     ]
 front_json kind text es es' end (inr h) k =
     ([], sym (one_json kind text es es' ended end h k).0 ∙ sym (append-nil es))

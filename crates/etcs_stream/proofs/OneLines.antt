@@ -78,8 +78,8 @@ pub record Longer (lines lines' : List (List ℕ)) (t t' : List ℕ) : Type 0 wh
   pub text_is : t ≡ lines_text more ++ t'
   pub are_lines : All IsLine more
 
-longer_behind : (line line' : List ℕ) (lines lines' : List (List ℕ)) (t t' : List ℕ) → line ≡ line' → Longer lines lines' t t' → Longer (line ∷ lines) (line' ∷ lines') t t'
-longer_behind line line' lines lines' t t' same l = record {
+longer_after : (line line' : List ℕ) (lines lines' : List (List ℕ)) (t t' : List ℕ) → line ≡ line' → Longer lines lines' t t' → Longer (line ∷ lines) (line' ∷ lines') t t'
+longer_after line line' lines lines' t t' same l = record {
   more = l.more;
   lines_are = let tails = l.lines_are in cc;
   text_is = l.text_is;
@@ -93,24 +93,24 @@ fronts (line ∷ lines) [] t t' h h' e = inr (record { more = line ∷ lines; li
 fronts (line ∷ lines) (line' ∷ lines') t t' h h' e =
     let same = cut_lf line line' (lines_text lines ++ t) (lines_text lines' ++ t') (All-head IsLine line lines h) (All-head IsLine line' lines' h') (sym (first_of line lines t) ∙ e ∙ first_of line' lines' t') in
     elim (fronts lines lines' t t' (All-tail IsLine line lines h) (All-tail IsLine line' lines' h') same.1) [
-      | inl l ↦ inl (longer_behind line line' lines lines' t t' same.0 l)
-      | inr l ↦ inr (longer_behind line' line lines' lines t' t (sym same.0) l)
+      | inl l ↦ inl (longer_after line line' lines lines' t t' same.0 l)
+      | inr l ↦ inr (longer_after line' line lines' lines t' t (sym same.0) l)
     ]
 
 -- ---- Good lines, and what is after the last of them.
 
 -- it doesn't begin with one more
 NoMore : List ℕ → Type 0
-NoMore text = (line behind : List ℕ) → bad_place (strip_cr line) ≡ None → text ≡ line ++ 10 ∷ behind → ⊥
+NoMore text = (line beyond : List ℕ) → bad_place (strip_cr line) ≡ None → text ≡ line ++ 10 ∷ beyond → ⊥
 
 unfinished : (text : List ℕ) → IsLine text → NoMore text
 unfolding NoMore
-unfinished text h line behind good e = has_lf text line behind h e
+unfinished text h line beyond good e = has_lf text line beyond h e
 
-bad_next : (bad behind : List ℕ) (place : ℕ) → IsLine bad → bad_place (strip_cr bad) ≡ Some place → NoMore (bad ++ 10 ∷ behind)
+bad_next : (bad beyond : List ℕ) (place : ℕ) → IsLine bad → bad_place (strip_cr bad) ≡ Some place → NoMore (bad ++ 10 ∷ beyond)
 unfolding NoMore
-bad_next bad behind place h is line rest good e =
-    let same = cut_lf bad line behind rest h (good_line line good) e in
+bad_next bad beyond place h is line rest good e =
+    let same = cut_lf bad line beyond rest h (good_line line good) e in
     let also : bad_place (strip_cr bad) ≡ None = ap (λ (z : List ℕ). bad_place (strip_cr z)) same.0 ∙ good in
     absurd cc
 
@@ -123,14 +123,14 @@ all_lines : (lines : List (List ℕ)) → AreGood lines → All IsLine lines
 all_lines [] g = All-nil IsLine
 all_lines (line ∷ lines) g = All-cons IsLine line lines (good_line line g.0) (all_lines lines g.1)
 
-good_behind : (lines more : List (List ℕ)) → AreGood (lines ++ more) → AreGood more
-good_behind [] more g = g
-good_behind (line ∷ lines) more g = good_behind lines more g.1
+good_after : (lines more : List (List ℕ)) → AreGood (lines ++ more) → AreGood more
+good_after [] more g = g
+good_after (line ∷ lines) more g = good_after lines more g.1
 
 -- two splits into good lines, of which one ends at the last of them
 same_split : (lines lines' : List (List ℕ)) (t t' : List ℕ) → AreGood lines' → NoMore t → Longer lines lines' t t' → (lines ≡ lines') × (t ≡ t')
 same_split lines lines' t t' g last l =
-    let none = no_lines l.more t t' (good_behind lines l.more (subst AreGood l.lines_are g)) last l.text_is in (
+    let none = no_lines l.more t t' (good_after lines l.more (subst AreGood l.lines_are g)) last l.text_is in (
       sym (l.lines_are ∙ ap (λ (z : List (List ℕ)). lines ++ z) none ∙ append-nil lines),
       l.text_is ∙ ap (λ (z : List (List ℕ)). lines_text z ++ t') none,
     )
@@ -163,11 +163,11 @@ record BadRest (text bytes : List ℕ) (line place : ℕ) : Type 0 where
   text_is : text ≡ lines_text lines ++ rest
   line_is : line ≡ length lines + 1
   bytes_are : bytes ≡ lines_bytes lines
-  how : ((behind : List ℕ) × (rest ≡ bad ++ 10 ∷ behind) × (bad_place (strip_cr bad) ≡ Some place)) ⊎ ((rest ≡ bad) × (bad_place bad ≡ Some place))
+  how : ((beyond : List ℕ) × (rest ≡ bad ++ 10 ∷ beyond) × (bad_place (strip_cr bad) ≡ Some place)) ⊎ ((rest ≡ bad) × (bad_place bad ≡ Some place))
 
 bad_rest : (text bytes : List ℕ) (line place : ℕ) → IsBad text bytes line place → BadRest text bytes line place
 bad_rest text bytes line place h = elim h.text_is [
-  | inl p ↦ record { lines = h.lines; bad = h.bad; rest = h.bad ++ 10 ∷ h.behind; good = h.lines_good; is_line = h.is_line; no_more = bad_next h.bad h.behind place h.is_line p.1; text_is = p.0; line_is = h.line_is; bytes_are = h.bytes_are; how = inl (h.behind, refl, p.1) }
+  | inl p ↦ record { lines = h.lines; bad = h.bad; rest = h.bad ++ 10 ∷ h.beyond; good = h.lines_good; is_line = h.is_line; no_more = bad_next h.bad h.beyond place h.is_line p.1; text_is = p.0; line_is = h.line_is; bytes_are = h.bytes_are; how = inl (h.beyond, refl, p.1) }
   | inr p ↦ record { lines = h.lines; bad = h.bad; rest = h.bad; good = h.lines_good; is_line = h.is_line; no_more = unfinished h.bad h.is_line; text_is = p.0; line_is = h.line_is; bytes_are = h.bytes_are; how = inr (refl, p.1) }
 ]
 
@@ -178,8 +178,8 @@ one_hex text bytes bytes' h k =
 
 -- the same place of the same rest
 one_place : (bad bad' rest rest' : List ℕ) (p q : ℕ) → rest ≡ rest' → IsLine bad → IsLine bad'
-    → ((behind : List ℕ) × (rest ≡ bad ++ 10 ∷ behind) × (bad_place (strip_cr bad) ≡ Some p)) ⊎ ((rest ≡ bad) × (bad_place bad ≡ Some p))
-    → ((behind : List ℕ) × (rest' ≡ bad' ++ 10 ∷ behind) × (bad_place (strip_cr bad') ≡ Some q)) ⊎ ((rest' ≡ bad') × (bad_place bad' ≡ Some q)) → p ≡ q
+    → ((beyond : List ℕ) × (rest ≡ bad ++ 10 ∷ beyond) × (bad_place (strip_cr bad) ≡ Some p)) ⊎ ((rest ≡ bad) × (bad_place bad ≡ Some p))
+    → ((beyond : List ℕ) × (rest' ≡ bad' ++ 10 ∷ beyond) × (bad_place (strip_cr bad') ≡ Some q)) ⊎ ((rest' ≡ bad') × (bad_place bad' ≡ Some q)) → p ≡ q
 one_place bad bad' rest rest' p q e l l' (inl (b, is, at)) (inl (b', is', at')) =
     let same = cut_lf bad bad' b b' l l' (sym is ∙ e ∙ is') in
     let both : ◌≡◌ {A = Option ℕ} (Some p) (Some q) = sym at ∙ ap (λ (z : List ℕ). bad_place (strip_cr z)) same.0 ∙ at' in

@@ -47,10 +47,10 @@ are_read kind (e ∷ es) b h = (h.0, h.2, are_read kind es h.1 h.4)
 -- what is written of items one after another
 pub items_short : (command : Command) (kind : Kind) (s : Reported) (es : List EntryValue) (text : List ℕ) (s' : Reported) → AreRead kind es → s.count + length es ≤ 1000000 → OutputsItems command s es text s' → length text ≤ 2097152 * length es
 items_short command kind s [] text s' reads h is = rw is.0 (omega arith)
-items_short command kind s (e ∷ es) text s' (r, reads, others) h (mid, first, rest, is, outputs, behind) =
+items_short command kind s (e ∷ es) text s' (r, reads, others) h (mid, first, rest, is, outputs, beyond) =
     let one = output_short command kind e r s first mid reads (omega (arith, h)) outputs in
     let n = one_count command e s first mid outputs in
-    let more = items_short command kind mid es rest s' others (omega (arith, h, n)) behind in
+    let more = items_short command kind mid es rest s' others (omega (arith, h, n)) beyond in
     let l : length text ≡ length first + length rest = ap length is ∙ length-append first rest in
     omega (arith, one, more, l)
 

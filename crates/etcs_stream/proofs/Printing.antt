@@ -21,12 +21,12 @@ AreRead-append kind (e ∷ es) fs h k = (h.0, h.1, AreRead-append kind es fs h.2
 lines_read : (kind : Kind) (lines : List (List ℕ)) (es : List EntryValue) → AreItemLines kind lines es → AreRead kind es
 lines_read kind [] es h = rw h tt
 lines_read kind (line ∷ lines) es (inl h) = lines_read kind lines es h.1
-lines_read kind (line ∷ lines) es (inr (e, behind, is, one, h)) = rw is (one.2.3.1, one.2.3.3, lines_read kind lines behind h)
+lines_read kind (line ∷ lines) es (inr (e, beyond, is, one, h)) = rw is (one.2.3.1, one.2.3.3, lines_read kind lines beyond h)
 
 first_json : (kind : Kind) (given : List ℕ) (es : List EntryValue) → FirstJson kind given es → (length es ≤ 1000000) × AreRead kind es
 first_json kind given es (inl (lines, rest, h)) = (h.few, lines_read kind (map strip_cr lines) es h.are_items)
 first_json kind given es (inr h) =
-    (h.few, rw h.items_are (AreRead-append kind h.front h.behind (lines_read kind (map strip_cr h.lines) h.front h.lines_are.are_items) (lines_read kind (h.last ∷ []) h.behind h.last_is)))
+    (h.few, rw h.items_are (AreRead-append kind h.front h.beyond (lines_read kind (map strip_cr h.lines) h.front h.lines_are.are_items) (lines_read kind (h.last ∷ []) h.beyond h.last_is)))
 
 pub first_read : (form : Form) (kind : Kind) (given : List ℕ) (es : List EntryValue) → FirstItems form kind given es → (length es ≤ 1000000) × AreRead kind es
 first_read Hex kind given es h = (h.few, are_read kind es h.spelt h.are_spelled)

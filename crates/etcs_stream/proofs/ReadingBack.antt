@@ -59,12 +59,12 @@ without_cr line h = whole line (ends_with_byte 13 line) refl h
 bytes_spelled : (kind : Kind) (s : Reported) (es : List EntryValue) (spelt : List Bool) (text : List ℕ) (s' : Reported) → AreSpelled kind es spelt → OutputsItems (Convert Bin) s es text s' → AreSpelled kind es (bits text)
 unfolding bits
 bytes_spelled kind s [] spelt text s' are is = ap bits is.0
-bytes_spelled kind s (e ∷ es) spelt text s' (r, behind, reads, b, more) (mid, first, rest, is, (x, n), others) = (
+bytes_spelled kind s (e ∷ es) spelt text s' (r, beyond, reads, b, more) (mid, first, rest, is, (x, n), others) = (
   x.reading,
   bits rest,
   (reads.0, x.reads),
   ap bits is ∙ bits-append first rest ∙ ap (λ (z : List Bool). z ++ bits rest) x.bits_are,
-  bytes_spelled kind mid es behind rest s' more others,
+  bytes_spelled kind mid es beyond rest s' more others,
 )
 
 -- nothing is after them
@@ -112,8 +112,8 @@ record GoodLines (kind : Kind) (es : List EntryValue) (text : List ℕ) : Type 0
 good_lines : (kind : Kind) (s : Reported) (es : List EntryValue) (spelt : List Bool) (text : List ℕ) (s' : Reported) → AreSpelled kind es spelt → OutputsItems (Convert Hex) s es text s' → GoodLines kind es text
 unfolding bits
 good_lines kind s [] spelt text s' are is = record { lines = []; text_is = is.0; good = tt; are_spelled = refl }
-good_lines kind s (e ∷ es) spelt text s' (r, behind, reads, b, more) (mid, first, rest, is, ((bytes, x, line), n), others) =
-    let h = good_lines kind mid es behind rest s' more others in
+good_lines kind s (e ∷ es) spelt text s' (r, beyond, reads, b, more) (mid, first, rest, is, ((bytes, x, line), n), others) =
+    let h = good_lines kind mid es beyond rest s' more others in
     let own = says_bytes e bytes x in
     record {
       lines = encode_upper bytes ∷ h.lines;
@@ -168,8 +168,8 @@ record ItemLines (kind : Kind) (es : List EntryValue) (text : List ℕ) : Type 0
 
 item_lines : (kind : Kind) (s : Reported) (es : List EntryValue) (spelt : List Bool) (text : List ℕ) (s' : Reported) → AreSpelled kind es spelt → OutputsItems (Convert Json) s es text s' → ItemLines kind es text
 item_lines kind s [] spelt text s' are is = record { lines = []; text_is = is.0; are_lines = All-nil IsLine; are_items = refl }
-item_lines kind s (e ∷ es) spelt text s' (r, behind, reads, b, more) (mid, first, rest, is, (own, n), others) =
-    let h = item_lines kind mid es behind rest s' more others in
+item_lines kind s (e ∷ es) spelt text s' (r, beyond, reads, b, more) (mid, first, rest, is, (own, n), others) =
+    let h = item_lines kind mid es beyond rest s' more others in
     let line = compact_text (json_tree e) in
     record {
       lines = line ∷ h.lines;
@@ -183,7 +183,7 @@ ended_lines kind es text h few = record {
   lines = h.lines;
   last = [];
   front = es;
-  behind = [];
+  beyond = [];
   lines_are = record { text_is = h.text_is ∙ sym (append-nil (lines_text h.lines)); are_lines = h.are_lines; are_items = h.are_items; few = few };
   is_line = All-nil (λ c. c ≡ 10 → ⊥);
   last_is = inl (refl, refl);

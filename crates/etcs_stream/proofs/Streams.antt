@@ -59,8 +59,8 @@ pub Advances-none : (kind : Kind) (c : Command) (seen : List Bool) (s : Reported
 unfolding bits
 Advances-none kind c seen s text = record { reported = []; spelt = []; added = []; are_spelled = refl; bits_are = append-nil seen; added_is = (refl, refl); text_is = sym (append-nil text) }
 
-behind_bits : (a b c p q : List Bool) (xs ys : List ℕ) → a ++ bits xs ≡ p ++ b → b ++ bits ys ≡ q ++ c → a ++ bits (xs ++ ys) ≡ (p ++ q) ++ c
-behind_bits a b c p q xs ys h g =
+after_bits : (a b c p q : List Bool) (xs ys : List ℕ) → a ++ bits xs ≡ p ++ b → b ++ bits ys ≡ q ++ c → a ++ bits (xs ++ ys) ≡ (p ++ q) ++ c
+after_bits a b c p q xs ys h g =
     ap (λ (z : List Bool). a ++ z) (bits-append xs ys)
     ∙ sym (append_assoc a (bits xs) (bits ys))
     ∙ ap (λ (z : List Bool). z ++ bits ys) h
@@ -68,8 +68,8 @@ behind_bits a b c p q xs ys h g =
     ∙ ap (λ (z : List Bool). p ++ z) g
     ∙ sym (append_assoc p q c)
 
-behind_text : (s t u x y : List ℕ) → t ≡ s ++ x → u ≡ t ++ y → u ≡ s ++ (x ++ y)
-behind_text s t u x y h g = g ∙ ap (λ (z : List ℕ). z ++ y) h ∙ append_assoc s x y
+after_text : (s t u x y : List ℕ) → t ≡ s ++ x → u ≡ t ++ y → u ≡ s ++ (x ++ y)
+after_text s t u x y h g = g ∙ ap (λ (z : List ℕ). z ++ y) h ∙ append_assoc s x y
 
 module _ (kind : Kind) (command : Command) (a b : List Bool) (i j : Reported) (xs ys s t u : List ℕ) (h : Advances kind command a b i j xs s t) where
   pub Advances-then : (c : List Bool) (k : Reported) → Advances kind command b c j k ys t u → Advances kind command a c i k (xs ++ ys) s u
@@ -78,9 +78,9 @@ module _ (kind : Kind) (command : Command) (a b : List Bool) (i j : Reported) (x
     spelt = h.spelt ++ g.spelt;
     added = h.added ++ g.added;
     are_spelled = AreSpelled-append kind h.reported g.reported h.spelt g.spelt h.are_spelled g.are_spelled;
-    bits_are = behind_bits a b c h.spelt g.spelt xs ys h.bits_are g.bits_are;
+    bits_are = after_bits a b c h.spelt g.spelt xs ys h.bits_are g.bits_are;
     added_is = outputs_append command i j k h.reported g.reported h.added g.added h.added_is g.added_is;
-    text_is = behind_text s t u h.added g.added h.text_is g.text_is;
+    text_is = after_text s t u h.added g.added h.text_is g.text_is;
   }
 
   pub Halts-then : (fault : RunFault) → Halts kind command b j ys t u fault → Halts kind command a i (xs ++ ys) s u fault
@@ -92,11 +92,11 @@ module _ (kind : Kind) (command : Command) (a b : List Bool) (i j : Reported) (x
         rest = g.rest;
         added = h.added ++ g.added;
         are_spelled = AreSpelled-append kind h.reported g.reported h.spelt g.spelt h.are_spelled g.are_spelled;
-        bits_are = behind_bits a b g.rest h.spelt g.spelt xs ys h.bits_are g.bits_are;
+        bits_are = after_bits a b g.rest h.spelt g.spelt xs ys h.bits_are g.bits_are;
         few = omega (arith, all, g.few);
         after = g.after;
         added_is = outputs_append command i j g.after h.reported g.reported h.added g.added h.added_is g.added_is;
-        text_is = behind_text s t u h.added g.added h.text_is g.text_is;
+        text_is = after_text s t u h.added g.added h.text_is g.text_is;
         why = subst (λ n. HaltsBy kind n g.rest fault) all g.why;
       }
 

@@ -46,12 +46,12 @@ pub record BitItems (kind : Kind) (b : List Bool) (es : List EntryValue) (end : 
 pub record IsBad (text bytes : List ℕ) (line place : ℕ) : Type 0 where
   pub lines : List (List ℕ)
   pub bad : List ℕ
-  pub behind : List ℕ
+  pub beyond : List ℕ
   pub lines_good : AreGood lines
   pub is_line : IsLine bad
   pub line_is : line ≡ length lines + 1
   pub bytes_are : bytes ≡ lines_bytes lines
-  pub text_is : ((text ≡ lines_text lines ++ (bad ++ 10 ∷ behind)) × (bad_place (strip_cr bad) ≡ Some place)) ⊎ ((text ≡ lines_text lines ++ bad) × (bad_place bad ≡ Some place))
+  pub text_is : ((text ≡ lines_text lines ++ (bad ++ 10 ∷ beyond)) × (bad_place (strip_cr bad) ≡ Some place)) ⊎ ((text ≡ lines_text lines ++ bad) × (bad_place bad ≡ Some place))
 
 -- the items of the lines before a bad one: a bit that is refused there comes first, and so does an item too many
 abbrev pub BadItems : Kind → List Bool → List EntryValue → ℕ → ℕ → End → Type 0

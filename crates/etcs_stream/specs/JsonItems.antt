@@ -17,7 +17,7 @@ IsRefusedLine kind line i x = (0 < length line) × (length line ≤ 1048576) × 
 -- the lines are those of the items, and empty ones
 abbrev pub AreItemLines : Kind → List (List ℕ) → List EntryValue → Type 0
 AreItemLines kind [] es = es ≡ []
-AreItemLines kind (line ∷ lines) es = ((line ≡ []) × AreItemLines kind lines es) ⊎ ((e : EntryValue) × (behind : List EntryValue) × (es ≡ e ∷ behind) × IsItemLine kind line e × AreItemLines kind lines behind)
+AreItemLines kind (line ∷ lines) es = ((line ≡ []) × AreItemLines kind lines es) ⊎ ((e : EntryValue) × (beyond : List EntryValue) × (es ≡ e ∷ beyond) × IsItemLine kind line e × AreItemLines kind lines beyond)
 
 -- the text begins with these lines, of which each has its LF, and they are these items
 pub record JsonFront (kind : Kind) (text : List ℕ) (es : List EntryValue) (lines : List (List ℕ)) (rest : List ℕ) : Type 0 where
@@ -28,7 +28,7 @@ pub record JsonFront (kind : Kind) (text : List ℕ) (es : List EntryValue) (lin
 
 -- the text begins with this line, but for its LF and a CR before it; or it is the line
 abbrev pub BeginsWith : List ℕ → List ℕ → Type 0
-BeginsWith text line = ((raw : List ℕ) × (behind : List ℕ) × IsLine raw × (text ≡ raw ++ 10 ∷ behind) × (line ≡ strip_cr raw)) ⊎ (IsLine text × (line ≡ text))
+BeginsWith text line = ((raw : List ℕ) × (beyond : List ℕ) × IsLine raw × (text ≡ raw ++ 10 ∷ beyond) × (line ≡ strip_cr raw)) ⊎ (IsLine text × (line ≡ text))
 
 -- these are all items that are whole in what is there: those of the lines that have a LF
 abbrev pub WholeJson : Kind → List ℕ → List EntryValue → Type 0
@@ -39,11 +39,11 @@ pub record EndedJson (kind : Kind) (text : List ℕ) (es : List EntryValue) : Ty
   pub lines : List (List ℕ)
   pub last : List ℕ
   pub front : List EntryValue
-  pub behind : List EntryValue
+  pub beyond : List EntryValue
   pub lines_are : JsonFront kind text front lines last
   pub is_line : IsLine last
-  pub last_is : AreItemLines kind (last ∷ []) behind
-  pub items_are : es ≡ front ++ behind
+  pub last_is : AreItemLines kind (last ∷ []) beyond
+  pub items_are : es ≡ front ++ beyond
   pub few : length es ≤ 1000000
 
 -- these are the first items of a text that begins so

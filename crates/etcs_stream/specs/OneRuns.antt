@@ -20,7 +20,7 @@ OneWhole = (form : Form) (kind : Kind) (given : List ℕ) (es es' : List EntryVa
 
 -- the items of an input begin with any first items of it
 abbrev pub OneFront : Type 0
-OneFront = (form : Form) (kind : Kind) (input : List ℕ) (es es' : List EntryValue) (end : End) → FirstItems form kind input es → ItemsOf form kind input es' end → (behind : List EntryValue) × (es' ≡ es ++ behind)
+OneFront = (form : Form) (kind : Kind) (input : List ℕ) (es es' : List EntryValue) (end : End) → FirstItems form kind input es → ItemsOf form kind input es' end → (beyond : List EntryValue) × (es' ≡ es ++ beyond)
 
 -- items have one text
 abbrev pub OneText : Type 0

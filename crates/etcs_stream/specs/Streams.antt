@@ -7,4 +7,4 @@ use Rattle.etcs_text.specs.Entries.{EntryValue, EntryReads}
 -- the bits are the spellings of the items, one after another, and nothing more
 abbrev pub AreSpelled : Kind → List EntryValue → List Bool → Type 0
 AreSpelled kind [] bits = bits ≡ []
-AreSpelled kind (e ∷ es) bits = (r : Reading) × (behind : List Bool) × EntryReads kind e r × (bits ≡ spelled r ++ behind) × AreSpelled kind es behind
+AreSpelled kind (e ∷ es) bits = (r : Reading) × (beyond : List Bool) × EntryReads kind e r × (bits ≡ spelled r ++ beyond) × AreSpelled kind es beyond

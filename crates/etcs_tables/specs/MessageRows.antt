@@ -19,9 +19,9 @@ row_bits (guarded g group rest) = 0
 row_bits (counted group rest) = 0
 
 -- the bytes that leave at most 7 bits after these, and those that leave a frame or more
-abbrev pub behind_bits : Way → ℕ → List (ℕ × ℕ)
-behind_bits way bits = ((bits + 7) / 8, (bits + 7) / 8) ∷ ((bits + (frame_bits way + 7)) / 8, 1023) ∷ []
+abbrev pub after_bits : Way → ℕ → List (ℕ × ℕ)
+after_bits way bits = ((bits + 7) / 8, (bits + 7) / 8) ∷ ((bits + (frame_bits way + 7)) / 8, 1023) ∷ []
 
-abbrev pub lengths_behind : Way → Option Layout → List (ℕ × ℕ)
-lengths_behind way None = (3, 1023) ∷ []
-lengths_behind way (Some row) = behind_bits way (header_bits way + row_bits row)
+abbrev pub lengths_after : Way → Option Layout → List (ℕ × ℕ)
+lengths_after way None = (3, 1023) ∷ []
+lengths_after way (Some row) = after_bits way (header_bits way + row_bits row)

@@ -6,7 +6,7 @@ ghost use Rattle.etcs_tables.specs.Headers.{header_row, head_row};
 ghost use Rattle.etcs_tables.specs.Layouts.{items, layout, is_sound};
 ghost use Rattle.etcs_tables.specs.declared.item.RowItem.TheVariants as item;
 ghost use Rattle.etcs_tables.specs.Rows.{row_to, message_row_to};
-ghost use Rattle.etcs_tables.specs.MessageRows.{row_bits, lengths_behind};
+ghost use Rattle.etcs_tables.specs.MessageRows.{row_bits, lengths_after};
 
 use crate::item::RowItem::{Many, One, When};
 use crate::item::{Guard, RowItem, Test};
@@ -285,7 +285,7 @@ pub fn message_bits(way: Way, nid: u8) -> Option<usize>
 
 /// The numbers of bytes, L_MESSAGE, that a message of this number may have, as ranges with both ends.
 pub fn message_ranges(way: Way, nid: u8) -> &'static [(u64, u64)]
-    ensures { result.now ≡ lengths_behind way (message_row_to way nid) }
+    ensures { result.now ≡ lengths_after way (message_row_to way nid) }
 {
     match typed_message(way, nid) {
         Some(message) => message.lengths,
@@ -299,8 +299,8 @@ fn typed_message(way: Way, nid: u8) -> Option<&'static TypedMessage>
     ensures row { option_map (λ message. message.now.items.now) result ≡ option_map items (message_row_to way nid) }
     ensures bits { option_map (λ message. message.now.bits) result ≡ option_map row_bits (message_row_to way nid) }
     ensures sound { IfSome result (λ message. IsTrue (is_sound (layout message.now.items.now))) }
-    ensures some { IfSome result (λ message. lengths_behind way (message_row_to way nid) ≡ message.now.lengths.now) }
-    ensures none { IfNone result (lengths_behind way (message_row_to way nid) ≡ (3, 1023) ∷ []) }
+    ensures some { IfSome result (λ message. lengths_after way (message_row_to way nid) ≡ message.now.lengths.now) }
+    ensures none { IfNone result (lengths_after way (message_row_to way nid) ≡ (3, 1023) ∷ []) }
 {
     match way {
         Way::ToTrain => message_to_train(nid),
@@ -313,8 +313,8 @@ fn message_to_train(nid: u8) -> Option<&'static TypedMessage>
     ensures row { option_map (λ message. message.now.items.now) result ≡ option_map items (message_row_to Way.ToTrain nid) }
     ensures bits { option_map (λ message. message.now.bits) result ≡ option_map row_bits (message_row_to Way.ToTrain nid) }
     ensures sound { IfSome result (λ message. IsTrue (is_sound (layout message.now.items.now))) }
-    ensures some { IfSome result (λ message. lengths_behind Way.ToTrain (message_row_to Way.ToTrain nid) ≡ message.now.lengths.now) }
-    ensures none { IfNone result (lengths_behind Way.ToTrain (message_row_to Way.ToTrain nid) ≡ (3, 1023) ∷ []) }
+    ensures some { IfSome result (λ message. lengths_after Way.ToTrain (message_row_to Way.ToTrain nid) ≡ message.now.lengths.now) }
+    ensures none { IfNone result (lengths_after Way.ToTrain (message_row_to Way.ToTrain nid) ≡ (3, 1023) ∷ []) }
 {
     match nid {
         2 => Some(&SR_AUTHORISATION),
@@ -333,8 +333,8 @@ fn message_to_track(nid: u8) -> Option<&'static TypedMessage>
     ensures row { option_map (λ message. message.now.items.now) result ≡ option_map items (message_row_to Way.ToTrack nid) }
     ensures bits { option_map (λ message. message.now.bits) result ≡ option_map row_bits (message_row_to Way.ToTrack nid) }
     ensures sound { IfSome result (λ message. IsTrue (is_sound (layout message.now.items.now))) }
-    ensures some { IfSome result (λ message. lengths_behind Way.ToTrack (message_row_to Way.ToTrack nid) ≡ message.now.lengths.now) }
-    ensures none { IfNone result (lengths_behind Way.ToTrack (message_row_to Way.ToTrack nid) ≡ (3, 1023) ∷ []) }
+    ensures some { IfSome result (λ message. lengths_after Way.ToTrack (message_row_to Way.ToTrack nid) ≡ message.now.lengths.now) }
+    ensures none { IfNone result (lengths_after Way.ToTrack (message_row_to Way.ToTrack nid) ≡ (3, 1023) ∷ []) }
 {
     match nid {
         130 | 136 | 150 | 155 | 156 | 159 => Some(&PLAIN_REPORT),

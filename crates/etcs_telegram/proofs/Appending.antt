@@ -12,8 +12,8 @@ use Rattle.etcs_telegram.proofs.Encoding.{telegram_bits, whole_bytes}
 use Rattle.etcs_telegram.proofs.Spellings.{whole_length}
 
 -- bits after others, and more after them
-put_behind : (s one two : WordSink) (a b : List Bool) → one ≡ and_bits s a → two ≡ and_bits one b → two ≡ and_bits s (a ++ b)
-put_behind s one two a b e f = f ∙ ap (λ (t : WordSink). and_bits t b) e ∙ and_both s a b
+put_after : (s one two : WordSink) (a b : List Bool) → one ≡ and_bits s a → two ≡ and_bits one b → two ≡ and_bits s (a ++ b)
+put_after s one two a b e f = f ∙ ap (λ (t : WordSink). and_bits t b) e ∙ and_both s a b
 
 -- header, packets, packet 255, FILL and zeros
 pub appended : (t : TelegramValue) (s one two three four five : WordSink) → one ≡ and_bits s (spelled (header_reading t.header)) → two ≡ and_bits one (spelled (packets_reading t.packets)) → three ≡ and_bits two (num 8 255) → four ≡ and_bits three t.fill → five ≡ and_bits four (num (pad_bits t.size) 0) → five ≡ and_bits s (spelled (telegram_reading t))
@@ -22,10 +22,10 @@ appended t s one two three four five e1 e2 e3 e4 e5 =
     let packets = spelled (packets_reading t.packets) in
     let nid = num 8 255 in
     let zeros = num (pad_bits t.size) 0 in
-    let b2 = put_behind s one two head packets e1 e2 in
-    let b3 = put_behind s two three (head ++ packets) nid b2 e3 in
-    let b4 = put_behind s three four ((head ++ packets) ++ nid) t.fill b3 e4 in
-    let b5 = put_behind s four five (((head ++ packets) ++ nid) ++ t.fill) zeros b4 e5 in
+    let b2 = put_after s one two head packets e1 e2 in
+    let b3 = put_after s two three (head ++ packets) nid b2 e3 in
+    let b4 = put_after s three four ((head ++ packets) ++ nid) t.fill b3 e4 in
+    let b5 = put_after s four five (((head ++ packets) ++ nid) ++ t.fill) zeros b4 e5 in
     b5 ∙ ap (and_bits s) (sym (telegram_bits t))
 
 -- ---- Whole bytes.

@@ -17,7 +17,7 @@ use Rattle.etcs_telegram.specs.declared.phase.Phase.TheVariants.{Whole}
 use Rattle.etcs_telegram.specs.Telegrams.{header_reading, header_of, closed_reading, IsAdmitted, IsTelegram, ReadsAs, pad_bits, telegram_value, HeaderValue, TelegramReads, TelegramLanguage}
 use Rattle.etcs_tables.specs.Headers.{header_row}
 use Rattle.etcs_telegram.specs.Headers.{IsHeaderNumbers}
-use Rattle.etcs_telegram.specs.Phases.{behind_header}
+use Rattle.etcs_telegram.specs.Phases.{beyond_header}
 use Rattle.etcs_telegram.specs.Lefts.{HoldsBy, TelegramState, next_var}
 use Rattle.etcs_telegram.specs.laws.RestLaws.{ended_whole}
 use Rattle.etcs_telegram.specs.Readers.{store_holds, far_at, so_far, telegram_by, OwnHeld}
@@ -25,7 +25,7 @@ use Rattle.etcs_telegram.proofs.HeaderLemmas.{header_back, header_length}
 use Rattle.etcs_telegram.proofs.Spellings.{whole_length, zeros_length}
 
 -- ten numbers of the header, packets with 255, FILL and zeros that are a telegram's reading are that of their own
-pub whole_reads : (size : Size) (header : List ℕ) (vs : List PacketValue) (fill : List Bool) (q : Reading) → length header ≡ 10 → All IsPacket vs → TelegramLanguage size q → q ≡ labelled header_row header ++ behind_header (closed_reading vs) fill (pad_bits size)
+pub whole_reads : (size : Size) (header : List ℕ) (vs : List PacketValue) (fill : List Bool) (q : Reading) → length header ≡ 10 → All IsPacket vs → TelegramLanguage size q → q ≡ labelled header_row header ++ beyond_header (closed_reading vs) fill (pad_bits size)
     → TelegramReads (record { size = size; header = header_of header; packets = vs; fill = fill }) q × IsHeaderNumbers header
 whole_reads size header vs fill q ten carried (t, (st, x)) e =
     let h = labelled header_row header in

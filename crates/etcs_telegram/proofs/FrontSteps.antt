@@ -64,13 +64,13 @@ module _ (Q : Reading → Type 0) where
   front_all (v ∷ vs) (n ∷ ns) h =
       let p = labelled vs ns in
       let first = first_number v vs n p h in
-      let behind = front_all vs ns first.1 in record {
+      let beyond = front_all vs ns first.1 in record {
         to = λ q (a, b, e, (m, a', t, f, k), l).
             (let all : ◌≡◌ {A = Reading} ((v, n) ∷ (p ++ q)) ((v, m) ∷ (a' ++ b)) = e ∙ ap (λ (t : Reading). t ++ b) f in
             let same : p ++ q ≡ a' ++ b = cc in
-            behind.to q (a', b, same, k, l));
+            beyond.to q (a', b, same, k, l));
         from = λ q l.
-            (let (a, b, e, k, m) = behind.from q l in
+            (let (a, b, e, k, m) = beyond.from q l in
             ((v, n) ∷ a, b, ap (λ (t : Reading). (v, n) ∷ t) e, (n, a, first.0, refl, k), m));
       }
 

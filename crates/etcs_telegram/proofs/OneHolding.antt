@@ -74,8 +74,8 @@ header_apart far some all t e less e' ten =
     let same = ap (λ (u : Reading). length u) (sym e ∙ e') in
     omega (arith, less, ten, same, labelled_most header_row some, length-append (labelled header_row all) t, labelled_count header_row all ten)
 
-behind_known : (far : Reading) (h h' : List ℕ) (t t' : Reading) → far ≡ labelled header_row h ++ t → length h ≡ 10 → far ≡ labelled header_row h' ++ t' → length h' ≡ 10 → t ≡ t'
-behind_known far h h' t t' e ten e' ten' =
+after_known : (far : Reading) (h h' : List ℕ) (t t' : Reading) → far ≡ labelled header_row h ++ t → length h ≡ 10 → far ≡ labelled header_row h' ++ t' → length h' ≡ 10 → t ≡ t'
+after_known far h h' t t' e ten e' ten' =
     let long = labelled_count header_row h ten in
     let long' = labelled_count header_row h' ten' in
     (cut (labelled header_row h) (labelled header_row h') t t' (long ∙ sym long') (sym e ∙ e')).1
@@ -94,28 +94,28 @@ members_known far ps qs f g k l hp hq (inr (inr (h', z, ten, e', none))) (inl (h
 members_known far ps qs f g k l hp hq (inr (inl (h, r, ten, e, begun))) (inr (inl (h', r', ten', e', begun'))) =
     let vs = map packet_value ps in
     let us = map packet_value qs in
-    let t = behind_known far h h' (packets_reading vs ++ r) (packets_reading us ++ r') e ten e' ten' in
+    let t = after_known far h h' (packets_reading vs ++ r) (packets_reading us ++ r') e ten e' ten' in
     let p = packets_known ToTrain vs us r r' hp hq (begun_unpacked ToTrain r f k begun) (begun_unpacked ToTrain r' g l begun') t in
     let b = begun_known ToTrain r' f g k l (subst (λ (x : Reading). Begun ToTrain x f k) p.1 begun) begun' in
     (p.0, b.0, b.1)
 members_known far ps qs f g k l hp hq (inr (inl (h, r, ten, e, begun))) (inr (inr (h', z, ten', e', none))) =
     let vs = map packet_value ps in
     let us = map packet_value qs in
-    let t = behind_known far h h' (packets_reading vs ++ r) (closed_reading us ++ (kept FILL l ++ kept PAD (replicate z false))) e ten e' ten' in
+    let t = after_known far h h' (packets_reading vs ++ r) (closed_reading us ++ (kept FILL l ++ kept PAD (replicate z false))) e ten e' ten' in
     let p = packets_known ToTrain vs us r (filled l z) hp hq (begun_unpacked ToTrain r f k begun) (closed_unpacked (kept FILL l ++ kept PAD (replicate z false))) (t ∙ closed_is us l z) in
     let b = filled_begun r f k l z p.1 begun in
     (p.0, b.0 ∙ sym none, b.1)
 members_known far ps qs f g k l hp hq (inr (inr (h, z, ten, e, none))) (inr (inl (h', r, ten', e', begun))) =
     let vs = map packet_value ps in
     let us = map packet_value qs in
-    let t = behind_known far h h' (closed_reading vs ++ (kept FILL k ++ kept PAD (replicate z false))) (packets_reading us ++ r) e ten e' ten' in
+    let t = after_known far h h' (closed_reading vs ++ (kept FILL k ++ kept PAD (replicate z false))) (packets_reading us ++ r) e ten e' ten' in
     let p = packets_known ToTrain vs us (filled k z) r hp hq (closed_unpacked (kept FILL k ++ kept PAD (replicate z false))) (begun_unpacked ToTrain r g l begun) (sym (closed_is vs k z) ∙ t) in
     let b = filled_begun r g l k z (sym p.1) begun in
     (p.0, none ∙ sym b.0, sym b.1)
 members_known far ps qs f g k l hp hq (inr (inr (h, z, ten, e, none))) (inr (inr (h', z', ten', e', none'))) =
     let vs = map packet_value ps in
     let us = map packet_value qs in
-    let t = behind_known far h h' (closed_reading vs ++ (kept FILL k ++ kept PAD (replicate z false))) (closed_reading us ++ (kept FILL l ++ kept PAD (replicate z' false))) e ten e' ten' in
+    let t = after_known far h h' (closed_reading vs ++ (kept FILL k ++ kept PAD (replicate z false))) (closed_reading us ++ (kept FILL l ++ kept PAD (replicate z' false))) e ten e' ten' in
     let p = packets_known ToTrain vs us (filled k z) (filled l z') hp hq (closed_unpacked (kept FILL k ++ kept PAD (replicate z false))) (closed_unpacked (kept FILL l ++ kept PAD (replicate z' false))) (sym (closed_is vs k z) ∙ t ∙ closed_is us l z') in
     let rest = (sent_parts NID_PACKET NID_PACKET 255 255 (kept FILL k ++ kept PAD (replicate z false)) (kept FILL l ++ kept PAD (replicate z' false)) p.1).2 in
     (p.0, none ∙ sym none', fills_known k l z z' rest)

@@ -31,9 +31,9 @@ use Rattle.etcs_telegram.specs.declared.phase.Phase.TheVariants.{Header, Packets
 use Rattle.etcs_telegram.specs.Telegrams.{pad_bits, closed_reading}
 use Rattle.etcs_tables.specs.Headers.{header_row}
 use Rattle.etcs_telegram.specs.Phases.{PadLeft, after_header, after_pad, after_fill}
-use Rattle.etcs_telegram.specs.Lefts.{PacketsBehind, left_at, next_at, stands_at, behind_packets, FillFits, Filled, HoldsBy, TelegramState, Left, next_var, Follows}
+use Rattle.etcs_telegram.specs.Lefts.{PacketsAfter, left_at, next_at, stands_at, after_packets, FillFits, Filled, HoldsBy, TelegramState, Left, next_var, Follows}
 use Rattle.etcs_telegram.proofs.PhaseSteps.{by_test, below_false, below_true}
-use Rattle.etcs_telegram.proofs.RestSteps.{header_behind, packets_behind, fill_behind, pad_behind, header_parts, packets_parts, pad_parts}
+use Rattle.etcs_telegram.proofs.RestSteps.{header_beyond, packets_after, fill_after, pad_beyond, header_parts, packets_parts, pad_parts}
 
 -- ---- The header.
 
@@ -74,7 +74,7 @@ fill_first size header l holds left n q le h =
     (λ t. let e : left - n ≡ 0 = (let b = below_false n left t in omega arith) in (0, omega arith, subst (λ m. Filled header holds l.room m 0 q) e h))
 
 packets_held : (size : Size) (header : List ℕ) (l l' : PacketsState) (holds holds' : Holds) (p : Reading) → length header ≡ 10 → l'.carrier ≡ Telegram
-    → ((q : Reading) → HoldsAt l.carrier l.stage holds q → HoldsAt l'.carrier l'.stage holds' (q ++ p)) → (q : Reading) → HoldsBy size Packets header l holds q → HoldsBy size (behind_packets size l') header l' holds' (q ++ p)
+    → ((q : Reading) → HoldsAt l.carrier l.stage holds q → HoldsAt l'.carrier l'.stage holds' (q ++ p)) → (q : Reading) → HoldsBy size Packets header l holds q → HoldsBy size (after_packets size l') header l' holds' (q ++ p)
 packets_held size header l l' holds holds' p ten same h q (t, is, held) =
     let all : q ++ p ≡ labelled header_row header ++ (t ++ p) = ap (λ (x : Reading). x ++ p) is ∙ append_assoc (labelled header_row header) t p in
     by_test (is_closed l'.stage) (λ x. HoldsBy size x header l' holds' (q ++ p)) (after_fill size l'.room 0) Packets
@@ -84,7 +84,7 @@ packets_held size header l l' holds holds' p ten same h q (t, is, held) =
     (λ _. (t ++ p, all, h t held))
 
 -- FILL has room after them
-packets_fit : (size : Size) (l : PacketsState) (holds : Holds) (q : Reading) → HoldsAt l.carrier l.stage holds q → FillFits (behind_packets size l) holds
+packets_fit : (size : Size) (l : PacketsState) (holds : Holds) (q : Reading) → HoldsAt l.carrier l.stage holds q → FillFits (after_packets size l) holds
 packets_fit size l holds q held =
     by_test (is_closed l.stage) (λ x. FillFits x holds) (after_fill size l.room 0) Packets
     (λ e. closed_fits size l.carrier l.room holds q l.small (rw (closed_stage l.stage e) at held))
@@ -96,7 +96,7 @@ packets_fit size l holds q held =
         (λ _. (vs, [], subst (λ (x : List ℕ). holds vs x []) no_numbers (subst (λ (x : List Bool). holds vs f x) no_bits held), omega (arith, small)))
         (λ _. tt)
 
-pub packets_fits : {S : Type 0} (s : TelegramState S) (phase : Phase) (l : PacketsState) (holds holds' : Holds) (p : Reading) → s.phase ≡ Packets → phase ≡ behind_packets s.size l → Steps s.left l holds holds' p → (is_closed s.left.stage ≡ false → (q : Reading) × HoldsAt s.left.carrier s.left.stage holds q) → FillFits phase holds'
+pub packets_fits : {S : Type 0} (s : TelegramState S) (phase : Phase) (l : PacketsState) (holds holds' : Holds) (p : Reading) → s.phase ≡ Packets → phase ≡ after_packets s.size l → Steps s.left l holds holds' p → (is_closed s.left.stage ≡ false → (q : Reading) × HoldsAt s.left.carrier s.left.stage holds q) → FillFits phase holds'
 packets_fits s phase l holds holds' p e e' steps some =
     let h = some (packets_parts s e).2 in
     rw e' (packets_fit s.size l holds' (h.0 ++ p) (steps.1 h.0 h.1))
@@ -172,9 +172,9 @@ zeros_all header holds room zeros (suc left) q f =
     let e : zeros + suc left ≡ suc zeros + left = omega arith in
     rw e (subst (λ (t : Reading). Filled header holds room 0 (suc zeros + left) t) (append_assoc q one rest) (zeros_all header holds room (suc zeros) left (q ++ one) (padded_more header holds room zeros q f)))
 
-none_behind : (xs q : Reading) → xs ++ q ≡ xs → q ≡ []
-none_behind [] q e = e
-none_behind (x ∷ xs) q e = none_behind xs q (let k : xs ++ q ≡ xs = cc in k)
+none_after : (xs q : Reading) → xs ++ q ≡ xs → q ≡ []
+none_after [] q e = e
+none_after (x ∷ xs) q e = none_after xs q (let k : xs ++ q ≡ xs = cc in k)
 
 no_numbers : (xs : List ℕ) → length xs ≡ 0 → xs ≡ []
 no_numbers [] e = refl
@@ -187,9 +187,9 @@ fill_room phase left n holds e le h =
     let (vs, k, held, small) = subst (λ (x : Phase). FillFits x holds) e h in
     (vs, ([], (k, (held, omega (arith, small, le)))))
 
-pub fits_behind : (size : Size) (phase phase' : Phase) (left : ℕ) (holds holds' : Holds) (t : List Bool) → phase ≡ Fill left → phase' ≡ after_fill size left (length t) → length t ≤ left
+pub fits_after : (size : Size) (phase phase' : Phase) (left : ℕ) (holds holds' : Holds) (t : List Bool) → phase ≡ Fill left → phase' ≡ after_fill size left (length t) → length t ≤ left
     → ((vs : List PacketValue) (k : List Bool) → holds vs [] k → holds' vs [] (k ++ t)) → FillFits phase holds → FillFits phase' holds'
-fits_behind size phase phase' left holds holds' t e e' le more h =
+fits_after size phase phase' left holds holds' t e e' le more h =
     subst (λ (x : Phase). FillFits x holds') (sym e') (fill_fits size left holds holds' t le more (subst (λ (x : Phase). FillFits x holds) e h))
 
 -- ---- From one to the next.
@@ -214,7 +214,7 @@ module _ {S : Type 0} (holds : S → Holds) (s : TelegramState S) where
       let next' : next_at (Header at) s.left ≡ Some x = rw e at next in
       record {
         same = refl;
-        residual = rw (e, e') (header_behind s.size at s.left x n parts.0 next' (rw e at goes));
+        residual = rw (e, e') (header_beyond s.size at s.left x n parts.0 next' (rw e at goes));
         held = λ q k. rw (e', more) (header_held s.size at s.header s.left (holds s.store) x n q parts.1 next' (rw e at k));
       }
 
@@ -228,17 +228,17 @@ module _ {S : Type 0} (holds : S → Holds) (s : TelegramState S) where
       ([], whole, nothing))) in
       record {
         same = refl;
-        residual = rw e (front_all (PacketsBehind s.size s.left) header_row header f.reads);
+        residual = rw e (front_all (PacketsAfter s.size s.left) header_row header f.reads);
         held = λ q k. from q (rw e at k);
       }
 
-  pub packets_follow : (phase : Phase) (l : PacketsState) (store : S) (stands : IsTrue (stands_at phase (length s.header) l)) (p : Reading) → s.phase ≡ Packets → phase ≡ behind_packets s.size l → Goes (left_of l.carrier l.room l.stage) → Steps s.left l (holds s.store) (holds store) p
+  pub packets_follow : (phase : Phase) (l : PacketsState) (store : S) (stands : IsTrue (stands_at phase (length s.header) l)) (p : Reading) → s.phase ≡ Packets → phase ≡ after_packets s.size l → Goes (left_of l.carrier l.room l.stage) → Steps s.left l (holds s.store) (holds store) p
       → Follows holds s p (state s.size phase s.header l store stands)
   packets_follow phase l store stands p e e' some (moved, held) =
       let parts = packets_parts s e in
       record {
         same = refl;
-        residual = rw (e, e') (packets_behind s.size s.left l p moved some);
+        residual = rw (e, e') (packets_after s.size s.left l p moved some);
         held = λ q k. rw e' (packets_held s.size s.header s.left l (holds s.store) (holds store) p parts.0 (moved.same ∙ parts.1) held q (rw e at k));
       }
 
@@ -246,14 +246,14 @@ module _ {S : Type 0} (holds : S → Holds) (s : TelegramState S) where
       → Follows holds s (kept FILL t) (state s.size phase s.header s.left store stands)
   fill_follows phase store stands left t e e' le more = record {
     same = refl;
-    residual = rw (e, e') (fill_behind s.size left s.left t le);
+    residual = rw (e, e') (fill_after s.size left s.left t le);
     held = λ q k. rw e' (fill_held s.size left s.header s.left (holds s.store) (holds store) t le more q (rw e at k));
   }
 
   pub pad_follows : (phase : Phase) (stands : IsTrue (stands_at phase (length s.header) s.left)) (left : ℕ) → s.phase ≡ Pad left → phase ≡ after_pad left → Follows holds s ((PAD, 0) ∷ []) (state s.size phase s.header s.left s.store stands)
   pad_follows phase stands left e e' = record {
     same = refl;
-    residual = rw (e, e') (pad_behind s.size left s.left (pad_parts s left e));
+    residual = rw (e, e') (pad_beyond s.size left s.left (pad_parts s left e));
     held = λ q k. rw e' (pad_held s.size left s.header s.left (holds s.store) q (pad_parts s left e) (rw e at k));
   }
 
@@ -262,7 +262,7 @@ module _ {S : Type 0} (holds : S → Holds) (s : TelegramState S) where
   whole_pad stands left e =
       let p = kept PAD (replicate left false) in
       let all : Residual (PadLeft left) p (left_at s.size Whole s.left) = record {
-        to = λ q h. none_behind p q h;
+        to = λ q h. none_after p q h;
         from = λ q h. rw h (append-nil p);
       } in
       let from : (q : Reading) → HoldsBy s.size (Pad left) s.header s.left (holds s.store) q → HoldsBy s.size Whole s.header s.left (holds s.store) (q ++ p) = (λ q (zeros, n, f). subst (λ m. Filled s.header (holds s.store) s.left.room 0 m (q ++ p)) n (zeros_all s.header (holds s.store) s.left.room zeros left q f)) in

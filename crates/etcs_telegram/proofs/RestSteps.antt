@@ -17,10 +17,10 @@ use Rattle.etcs_sequence.specs.declared.stage.Stage.TheVariants as stage
 use Rattle.etcs_sequence.specs.Lefts.{ahead, left_of, next_of, is_closed, Moved}
 use Rattle.etcs_sequence.proofs.LeapLemmas.{chain_bits}
 use Rattle.etcs_sequence.specs.BitLaws.{BitsLeft}
-use Rattle.etcs_sequence.specs.laws.BitLaws.{some_bits, bits_regular, bits_begin, bits_start, bits_number, bits_behind, bits_viable}
+use Rattle.etcs_sequence.specs.laws.BitLaws.{some_bits, bits_regular, bits_begin, bits_start, bits_number, bits_after, bits_viable}
 use Rattle.etcs_sequence.proofs.StageLaws.{closed_stage}
-use Rattle.etcs_sequence.proofs.FrontLaws.{front_tested, front_behind}
-use Rattle.etcs_sequence.proofs.FilledLaws.{filled_behind, filled_starts, filled_viable, filled_goes}
+use Rattle.etcs_sequence.proofs.FrontLaws.{front_tested, front_after}
+use Rattle.etcs_sequence.proofs.FilledLaws.{filled_after, filled_starts, filled_viable, filled_goes}
 use Rattle.etcs_sequence.proofs.ThenLaws.{then_starts}
 use Rattle.etcs_rows.specs.declared.frames.Carrier.TheVariants.{Telegram}
 use Rattle.etcs_telegram.specs.declared.size.Size.{Size}
@@ -33,7 +33,7 @@ use Rattle.etcs_telegram.specs.Phases.{header_var, after_header, after_pad, afte
 use Rattle.etcs_sequence.specs.ChainLaws.{Chain}
 use Rattle.etcs_sequence.specs.laws.ChainLaws.{chain_viable}
 use Rattle.etcs_sequence.proofs.ChainLaws.{chain_along, chain_none}
-use Rattle.etcs_telegram.specs.Lefts.{FillBy, PacketsBehind, left_at, next_at, is_open, stands_at, behind_packets, TelegramState, Left, next_var}
+use Rattle.etcs_telegram.specs.Lefts.{FillBy, PacketsAfter, left_at, next_at, is_open, stands_at, after_packets, TelegramState, Left, next_var}
 use Rattle.etcs_telegram.specs.laws.RestLaws.{opens}
 use Rattle.etcs_telegram.proofs.PhaseSteps.{by_test, below_false, pad_goes, some_fill, none_left}
 
@@ -46,17 +46,17 @@ header_parts s at e =
     (ltb-true at 10 both.0, eqb-true (length s.header) at (and_parts (length s.header == at) (is_open s.left) both.1).0)
 
 pub header_tested : (size : Size) (at : ℕ) (l : PacketsState) (x : Var) (rest bits : ℕ) → next_at (Header at) l ≡ Some x → rest < width x → bits < 2 ^ (width x - rest) → Goes (left_at size (Header at) l) → IsTrue (begins (ranges x) rest bits) ↔ Starts (left_at size (Header at) l) x rest bits
-header_tested size at l x rest bits e lt fits g = front_tested (PacketsBehind size l) (drop at header_row) x rest bits e lt fits g
+header_tested size at l x rest bits e lt fits g = front_tested (PacketsAfter size l) (drop at header_row) x rest bits e lt fits g
 
-header_after : (size : Size) (at : ℕ) (l : PacketsState) → at < 10 → Same (Chain (ReadsFields (drop (suc at) header_row)) (λ _. PacketsBehind size l)) (left_at size (after_header at) l)
+header_after : (size : Size) (at : ℕ) (l : PacketsState) → at < 10 → Same (Chain (ReadsFields (drop (suc at) header_row)) (λ _. PacketsAfter size l)) (left_at size (after_header at) l)
 header_after size at l h =
-    by_test (ltb at 9) (λ x. Same (Chain (ReadsFields (drop (suc at) header_row)) (λ _. PacketsBehind size l)) (left_at size x l)) (Header (at + 1)) Packets
-    (λ _. let e : at + 1 ≡ suc at = omega arith in rw e (same_self (Chain (ReadsFields (drop (suc at) header_row)) (λ _. PacketsBehind size l))))
-    (λ t. let e : at ≡ 9 = (let b = below_false at 9 t in omega arith) in rw e (chain_none (λ _. PacketsBehind size l)))
+    by_test (ltb at 9) (λ x. Same (Chain (ReadsFields (drop (suc at) header_row)) (λ _. PacketsAfter size l)) (left_at size x l)) (Header (at + 1)) Packets
+    (λ _. let e : at + 1 ≡ suc at = omega arith in rw e (same_self (Chain (ReadsFields (drop (suc at) header_row)) (λ _. PacketsAfter size l))))
+    (λ t. let e : at ≡ 9 = (let b = below_false at 9 t in omega arith) in rw e (chain_none (λ _. PacketsAfter size l)))
 
-pub header_behind : (size : Size) (at : ℕ) (l : PacketsState) (x : Var) (number : ℕ) → at < 10 → next_at (Header at) l ≡ Some x → Starts (left_at size (Header at) l) x 0 number → Residual (left_at size (Header at) l) ((x, number) ∷ []) (left_at size (after_header at) l)
-header_behind size at l x number h e s =
-    residual_same (left_at size (Header at) l) ((x, number) ∷ []) (Then (ReadsFields (drop (suc at) header_row)) (PacketsBehind size l)) (left_at size (after_header at) l) (front_behind (PacketsBehind size l) header_row at x number h e s) (header_after size at l h)
+pub header_beyond : (size : Size) (at : ℕ) (l : PacketsState) (x : Var) (number : ℕ) → at < 10 → next_at (Header at) l ≡ Some x → Starts (left_at size (Header at) l) x 0 number → Residual (left_at size (Header at) l) ((x, number) ∷ []) (left_at size (after_header at) l)
+header_beyond size at l x number h e s =
+    residual_same (left_at size (Header at) l) ((x, number) ∷ []) (Then (ReadsFields (drop (suc at) header_row)) (PacketsAfter size l)) (left_at size (after_header at) l) (front_after (PacketsAfter size l) header_row at x number h e s) (header_after size at l h)
 
 -- the variable of an item, in a row of variables
 pub one_at : (vs : List Var) (d : Var) (at : ℕ) (v : Var) → slice_get (map One vs) at ≡ Some (One v) → v ≡ slice_index_or vs at d
@@ -75,47 +75,47 @@ pub packets_viable : (size : Size) (l : PacketsState) (t : List Bool) → Viable
 packets_viable size l t v = filled_viable (FillLeft size) (some_fill size) l t v
 
 -- after FILL that is wanted comes PAD
-pub behind_fill : (size : Size) (left n : ℕ) (l : PacketsState) → n ≤ left → Same (FillLeft size (left - n)) (left_at size (after_fill size left n) l)
-behind_fill size left n l le =
+pub beyond_fill : (size : Size) (left n : ℕ) (l : PacketsState) → n ≤ left → Same (FillLeft size (left - n)) (left_at size (after_fill size left n) l)
+beyond_fill size left n l le =
     by_test (ltb n left) (λ x. Same (FillLeft size (left - n)) (left_at size x l)) (Fill (left - n)) (Pad (pad_bits size))
     (λ _. same_self (FillLeft size (left - n)))
     (λ t. let e : left - n ≡ 0 = (let b = below_false n left t in omega arith) in rw e (none_left size))
 
 -- after closed packets comes FILL
-behind_closed : (size : Size) (l : PacketsState) → l.stage ≡ stage.Closed → Same (PacketsBehind size l) (left_at size (after_fill size l.room 0) l)
-behind_closed size l e =
-    let none : Same (PacketsBehind size l) (FillLeft size (l.room - 0)) = rw e (chain_none (FillBy size l.room)) in
-    same_along (PacketsBehind size l) (FillLeft size (l.room - 0)) (left_at size (after_fill size l.room 0) l) none (behind_fill size l.room 0 l (omega arith))
+after_closed : (size : Size) (l : PacketsState) → l.stage ≡ stage.Closed → Same (PacketsAfter size l) (left_at size (after_fill size l.room 0) l)
+after_closed size l e =
+    let none : Same (PacketsAfter size l) (FillLeft size (l.room - 0)) = rw e (chain_none (FillBy size l.room)) in
+    same_along (PacketsAfter size l) (FillLeft size (l.room - 0)) (left_at size (after_fill size l.room 0) l) none (beyond_fill size l.room 0 l (omega arith))
 
-behind_any : (size : Size) (l : PacketsState) → Same (PacketsBehind size l) (left_at size (behind_packets size l) l)
-behind_any size l =
-    by_test (is_closed l.stage) (λ x. Same (PacketsBehind size l) (left_at size x l)) (after_fill size l.room 0) Packets
-    (λ t. behind_closed size l (closed_stage l.stage t))
-    (λ _. same_self (PacketsBehind size l))
+beyond_any : (size : Size) (l : PacketsState) → Same (PacketsAfter size l) (left_at size (after_packets size l) l)
+beyond_any size l =
+    by_test (is_closed l.stage) (λ x. Same (PacketsAfter size l) (left_at size x l)) (after_fill size l.room 0) Packets
+    (λ t. after_closed size l (closed_stage l.stage t))
+    (λ _. same_self (PacketsAfter size l))
 
-pub packets_behind : (size : Size) (l l' : PacketsState) (p : Reading) → Moved l.carrier l.room l.stage p l'.carrier l'.room l'.stage → Goes (left_of l'.carrier l'.room l'.stage) → Residual (left_at size Packets l) p (left_at size (behind_packets size l') l')
-packets_behind size l l' p m g = residual_same (left_at size Packets l) p (PacketsBehind size l') (left_at size (behind_packets size l') l') (filled_behind (FillLeft size) l l' p m g) (behind_any size l')
+pub packets_after : (size : Size) (l l' : PacketsState) (p : Reading) → Moved l.carrier l.room l.stage p l'.carrier l'.room l'.stage → Goes (left_of l'.carrier l'.room l'.stage) → Residual (left_at size Packets l) p (left_at size (after_packets size l') l')
+packets_after size l l' p m g = residual_same (left_at size Packets l) p (PacketsAfter size l') (left_at size (after_packets size l') l') (filled_after (FillLeft size) l l' p m g) (beyond_any size l')
 
 -- all of it continues where the packets do
-pub packets_all : (size : Size) (l : PacketsState) → Goes (left_of l.carrier l.room l.stage) → Goes (left_at size (behind_packets size l) l)
-packets_all size l g = let h = filled_goes (FillLeft size) (some_fill size) l g in (h.0, (behind_any size l h.0).0 h.1)
+pub packets_all : (size : Size) (l : PacketsState) → Goes (left_of l.carrier l.room l.stage) → Goes (left_at size (after_packets size l) l)
+packets_all size l g = let h = filled_goes (FillLeft size) (some_fill size) l g in (h.0, (beyond_any size l h.0).0 h.1)
 
 -- ---- FILL.
 
 fill_residual : (size : Size) (left : ℕ) (t : List Bool) → length t ≤ left → Residual (FillLeft size left) (kept FILL t) (FillLeft size (left - length t))
 fill_residual size left t le =
     let Q : Reading → Type 0 = PadLeft (pad_bits size) in
-    chain_along (BitsLeft FILL left) (BitsLeft FILL (left - length t)) (λ _. Q) (λ _. Q) (kept FILL t) (bits_regular FILL refl left) (bits_behind FILL refl left t le) (some_bits FILL refl (left - length t)) (λ a b. (λ k. k, λ k. k))
+    chain_along (BitsLeft FILL left) (BitsLeft FILL (left - length t)) (λ _. Q) (λ _. Q) (kept FILL t) (bits_regular FILL refl left) (bits_after FILL refl left t le) (some_bits FILL refl (left - length t)) (λ a b. (λ k. k, λ k. k))
 
-pub fill_behind : (size : Size) (left : ℕ) (l : PacketsState) (t : List Bool) → length t ≤ left → Residual (FillLeft size left) (kept FILL t) (left_at size (after_fill size left (length t)) l)
-fill_behind size left l t le = residual_same (FillLeft size left) (kept FILL t) (FillLeft size (left - length t)) (left_at size (after_fill size left (length t)) l) (fill_residual size left t le) (behind_fill size left (length t) l le)
+pub fill_after : (size : Size) (left : ℕ) (l : PacketsState) (t : List Bool) → length t ≤ left → Residual (FillLeft size left) (kept FILL t) (left_at size (after_fill size left (length t)) l)
+fill_after size left l t le = residual_same (FillLeft size left) (kept FILL t) (FillLeft size (left - length t)) (left_at size (after_fill size left (length t)) l) (fill_residual size left t le) (beyond_fill size left (length t) l le)
 
 -- a number continues where it does in FILL alone
 fill_starts : (size : Size) (left rest bits : ℕ) → 0 < left → Starts (BitsLeft FILL left) FILL rest bits ↔ Starts (FillLeft size left) FILL rest bits
 fill_starts size left rest bits pos = then_starts (BitsLeft FILL left) (PadLeft (pad_bits size)) FILL (bits_begin FILL refl left pos) (pad_goes (pad_bits size)) rest bits
 
 pub fill_goes : (size : Size) (left n : ℕ) (l : PacketsState) → n ≤ left → Goes (left_at size (after_fill size left n) l)
-fill_goes size left n l le = let r = some_fill size (left - n) in (r.0, (behind_fill size left n l le r.0).0 r.1)
+fill_goes size left n l le = let r = some_fill size (left - n) in (r.0, (beyond_fill size left n l le r.0).0 r.1)
 
 -- bits of FILL continue
 pub fill_viable : (size : Size) (left : ℕ) (t : List Bool) → length t ≤ left → Viable (FillLeft size left) t
@@ -141,9 +141,9 @@ pad_after size k l =
     (λ _. let e : suc k - 1 ≡ k = omega arith in rw e (same_self (PadLeft k)))
     (λ t. let e : k ≡ 0 = (let b = below_false 1 (suc k) t in omega arith) in rw e (same_self (PadLeft 0)))
 
-pub pad_behind : (size : Size) (left : ℕ) (l : PacketsState) → 0 < left → Residual (PadLeft left) ((PAD, 0) ∷ []) (left_at size (after_pad left) l)
-pad_behind size zero l pos = absurd (omega arith)
-pad_behind size (suc k) l pos =
+pub pad_beyond : (size : Size) (left : ℕ) (l : PacketsState) → 0 < left → Residual (PadLeft left) ((PAD, 0) ∷ []) (left_at size (after_pad left) l)
+pad_beyond size zero l pos = absurd (omega arith)
+pad_beyond size (suc k) l pos =
     let one : Residual (PadLeft (suc k)) ((PAD, 0) ∷ []) (PadLeft k) = record {
       to = λ q e. (let t : q ≡ kept PAD (replicate k false) = cc in t);
       from = λ q e. (let t : ◌≡◌ {A = Reading} ((PAD, 0) ∷ q) ((PAD, 0) ∷ kept PAD (replicate k false)) = cc in t);

@@ -16,7 +16,7 @@ use Rattle.etcs_telegram.specs.declared.phase.Phase.TheVariants.{Packets, Fill, 
 use Rattle.etcs_telegram.specs.declared.store.TelegramStore.{TelegramStore}
 use Rattle.etcs_telegram.specs.Telegrams.{TelegramLanguage, packet_room, pad_bits}
 use Rattle.etcs_telegram.specs.Phases.{after_fill}
-use Rattle.etcs_telegram.specs.Lefts.{stands_at, behind_packets, TelegramState, Left, Leaps}
+use Rattle.etcs_telegram.specs.Lefts.{stands_at, after_packets, TelegramState, Left, Leaps}
 use Rattle.etcs_telegram.specs.Readers.{store_holds, OwnHeld, IsTelegramPart}
 use Rattle.etcs_telegram.specs.laws.RestLaws.{follows_along}
 use Rattle.etcs_telegram.proofs.Encoding.{room_more, whole_bytes}
@@ -27,8 +27,8 @@ some_zeros Short = refl
 some_zeros Long = refl
 
 -- after packets of a telegram with a whole header
-pub behind_stands : (size : Size) (l : PacketsState) (n : ℕ) → n ≡ 10 → l.carrier ≡ carrier.Telegram → IsTrue (stands_at (behind_packets size l) n l)
-behind_stands size l n ten telegram =
+pub after_stands : (size : Size) (l : PacketsState) (n : ℕ) → n ≡ 10 → l.carrier ≡ carrier.Telegram → IsTrue (stands_at (after_packets size l) n l)
+after_stands size l n ten telegram =
     by_test (is_closed l.stage) (λ x. IsTrue (stands_at x n l)) (after_fill size l.room 0) Packets
     (λ closed. by_test (ltb 0 l.room) (λ x. IsTrue (stands_at x n l)) (Fill (l.room - 0)) (Pad (pad_bits size))
     (λ some. let e : l.room - 0 ≡ l.room = omega arith in rw (e, some, closed) refl)

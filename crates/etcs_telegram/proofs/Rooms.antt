@@ -61,14 +61,14 @@ room_needed size h vs admitted packets (r, c, (t, (st, x)), e) =
     let head = header_reading h in
     let head' = header_reading t.header in
     let fill = kept FILL t.fill in
-    let behind = spelled fill ++ spelled (zeros t.size) in
+    let beyond = spelled fill ++ spelled (zeros t.size) in
     let sent = packets_reading vs in
     let closed = closed_reading t.packets in
-    let cut : spelled (((head' ++ closed) ++ fill) ++ zeros t.size) ≡ spelled head' ++ (spelled closed ++ behind) =
-    spelled-append ((head' ++ closed) ++ fill) (zeros t.size) ∙ both_spelled (head' ++ closed) fill (spelled (zeros t.size)) ∙ both_spelled head' closed behind in
-    let whole : spelled head ++ (spelled sent ++ c) ≡ spelled head' ++ (spelled closed ++ behind) = sym (both_spelled head sent c) ∙ sym e ∙ ap spelled x.reading_is ∙ cut in
-    let parts = apart head head' (spelled sent ++ c) (spelled closed ++ behind) (header_agree h t.header) (admitted_fit head admitted) (admitted_fit head' x.header_admitted) whole in
-    let room = closed_room vs t.packets c behind packets x.packets_hold parts.1 in
+    let cut : spelled (((head' ++ closed) ++ fill) ++ zeros t.size) ≡ spelled head' ++ (spelled closed ++ beyond) =
+    spelled-append ((head' ++ closed) ++ fill) (zeros t.size) ∙ both_spelled (head' ++ closed) fill (spelled (zeros t.size)) ∙ both_spelled head' closed beyond in
+    let whole : spelled head ++ (spelled sent ++ c) ≡ spelled head' ++ (spelled closed ++ beyond) = sym (both_spelled head sent c) ∙ sym e ∙ ap spelled x.reading_is ∙ cut in
+    let parts = apart head head' (spelled sent ++ c) (spelled closed ++ beyond) (header_agree h t.header) (admitted_fit head admitted) (admitted_fit head' x.header_admitted) whole in
+    let room = closed_room vs t.packets c beyond packets x.packets_hold parts.1 in
     let user : user_bits t.size ≡ user_bits size = ap user_bits st in
     omega (arith, room, headed_length h vs, header_length t.header, x.user_bits_is, user)
 
@@ -83,13 +83,13 @@ room_enough size h vs admitted packets le =
     let reads : TelegramReads t (telegram_reading t) = record { header_admitted = admitted; packets_hold = packets; reading_is = refl; user_bits_is = user } in
     let closing : Reading = (NID_PACKET, 255) ∷ [] in
     let fill = kept FILL (replicate left true) in
-    let behind = spelled closing ++ (spelled fill ++ spelled (zeros size)) in
-    let cut : spelled (telegram_reading t) ≡ spelled (header_reading h ++ sent) ++ behind =
+    let beyond = spelled closing ++ (spelled fill ++ spelled (zeros size)) in
+    let cut : spelled (telegram_reading t) ≡ spelled (header_reading h ++ sent) ++ beyond =
     spelled-append ((header_reading h ++ closed_reading vs) ++ fill) (zeros size)
     ∙ both_spelled (header_reading h ++ closed_reading vs) fill (spelled (zeros size))
     ∙ ap (λ (r : Reading). spelled r ++ (spelled fill ++ spelled (zeros size))) (sym (append_assoc (header_reading h) sent closing))
     ∙ both_spelled (header_reading h ++ sent) closing (spelled fill ++ spelled (zeros size)) in
-    (telegram_reading t, behind, (t, (refl, reads)), cut)
+    (telegram_reading t, beyond, (t, (refl, reads)), cut)
 
 pub room_rule : RoomRule
 room_rule size h vs admitted packets = (room_needed size h vs admitted packets, room_enough size h vs admitted packets)

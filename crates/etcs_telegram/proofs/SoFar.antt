@@ -26,13 +26,13 @@ use Rattle.etcs_telegram.specs.declared.phase.Phase.{Phase}
 use Rattle.etcs_telegram.specs.declared.phase.Phase.TheVariants.{Header, Packets, Fill, Pad, Whole}
 use Rattle.etcs_telegram.specs.Telegrams.{pad_bits, closed_reading}
 use Rattle.etcs_tables.specs.Headers.{header_row}
-use Rattle.etcs_telegram.specs.Phases.{behind_header}
+use Rattle.etcs_telegram.specs.Phases.{beyond_header}
 use Rattle.etcs_telegram.specs.Lefts.{FillBy, left_at, next_at, HoldsBy, Filled, stands_at, is_open, may_ask, TelegramState, Left, next_var, MayAsk, HoldsIn}
 use Rattle.etcs_telegram.specs.laws.RestLaws.{opens}
 use Rattle.etcs_telegram.specs.Readers.{store_holds, far_at, so_far}
 
 -- those with FILL and PAD after packet 255
-pub filled_far : (header : List ℕ) (ps : List Packet) (f : List ℕ) (k : List Bool) (left room pad : ℕ) (q : Reading) → Filled header (list_holds form ps f k) room left pad q → q ≡ labelled header_row header ++ behind_header (closed_reading (map packet_value ps)) k pad
+pub filled_far : (header : List ℕ) (ps : List Packet) (f : List ℕ) (k : List Bool) (left room pad : ℕ) (q : Reading) → Filled header (list_holds form ps f k) room left pad q → q ≡ labelled header_row header ++ beyond_header (closed_reading (map packet_value ps)) k pad
 filled_far header ps f k left room pad q h =
     let (vs_is, (made, (m_is, l_is))) = h.held in
     h.reading_is ∙ rw (vs_is, l_is) refl
@@ -68,7 +68,7 @@ module _ {S : Type 0} (holds : S → Holds) (s : TelegramState S) (q : Reading) 
   long_by : (phase : Phase) → IsTrue (stands_at phase (length s.header) s.left) → IsTrue (may_ask phase s.left) → HoldsBy s.size phase s.header s.left (holds s.store) q → 50 ≤ length (spelled q)
   long_by (Header at) stands ask h = absurd cc
   long_by Packets stands ask (r, e, h) = front_long s.header r q (eqb-true (length s.header) 10 (and_parts (length s.header == 10) (is_open s.left) stands).0) e
-  long_by (Fill left) stands ask h = front_long s.header (behind_header (closed_reading h.packets) h.fill 0) q h.ten h.reading_is
+  long_by (Fill left) stands ask h = front_long s.header (beyond_header (closed_reading h.packets) h.fill 0) q h.ten h.reading_is
   long_by (Pad left) stands ask h = absurd cc
   long_by Whole stands ask h = absurd cc
 

@@ -141,10 +141,10 @@ one_parts t u ht hu e =
     (ap (λ (v : TelegramValue). v.fill) e)
 
 pub one_spelling : OneSpelling
-one_spelling size t u a b behind it iu (st, x) (su, y) e =
+one_spelling size t u a b beyond it iu (st, x) (su, y) e =
     let ta : TelegramLanguage size a = (telegram_value t, (st, x)) in
     let ub : TelegramLanguage size b = (telegram_value u, (su, y)) in
     let reg = regular size in
-    let both = apart b a [] behind (reg.agree b a ub ta) (reg.fit b ub) (reg.fit a ta) (append-nil (spelled b) ∙ e) in
+    let both = apart b a [] beyond (reg.agree b a ub ta) (reg.fit b ub) (reg.fit a ta) (append-nil (spelled b) ∙ e) in
     let y' : TelegramReads (telegram_value u) a = rw both.0 at y in
     (one_parts t u it.made iu.made (one_value (telegram_value t) (telegram_value u) a (st ∙ sym su) x y'), sym both.1)

@@ -93,23 +93,23 @@ whole_seen size b header room store q l f e =
     )
 
 -- where these bits of all are taken, by the variables q
-pub record Passed (size : Size) (L : Reading → Type 0) (b : List Bool) (t : TelegramState PacketCount) (n : ℕ) (front behind : List Bool) (q : Reading) : Type 0 where
+pub record Passed (size : Size) (L : Reading → Type 0) (b : List Bool) (t : TelegramState PacketCount) (n : ℕ) (front beyond : List Bool) (q : Reading) : Type 0 where
   pub size_is : t.size ≡ size
   pub within : n ≤ length b
   pub none : front ≡ []
   pub residual : Residual L q (Left t)
   pub held : HoldsIn counts t q
-  pub bits : spelled q ++ behind ≡ front ++ take n b
+  pub bits : spelled q ++ beyond ≡ front ++ take n b
   pub more : (x : Var) → next_var t ≡ Some x → (n ≡ length b) × Owner L (front ++ take n b) x
 
 abbrev pub Seen : Size → List Bool → TelegramState PacketCount → Type 0
 Seen size b t = ViewIn size b (header_of t.header) t.store.packets (user_bits size - t.left.room) × IsHeaderNumbers t.header × (t.left.room ≤ user_bits size)
 
 module _ (size : Size) (L : Reading → Type 0) (same : Same L (TelegramLanguage size)) (b : List Bool) (long : length b ≡ user_bits size + pad_bits size) where
-  pub all_seen : (t : TelegramState PacketCount) (n : ℕ) (front behind : List Bool) (q : Reading) → Passed size L b t n front behind q → Seen size b t
-  all_seen t n front behind q p = by_next (next_var t) refl
+  pub all_seen : (t : TelegramState PacketCount) (n : ℕ) (front beyond : List Bool) (q : Reading) → Passed size L b t n front beyond q → Seen size b t
+  all_seen t n front beyond q p = by_next (next_var t) refl
     where
-      taken : spelled q ++ behind ≡ take n b
+      taken : spelled q ++ beyond ≡ take n b
       taken = p.bits ∙ ap (λ (u : List Bool). u ++ take n b) p.none
 
       by_next : (o : Option Var) → next_var t ≡ o → Seen size b t
@@ -124,8 +124,8 @@ module _ (size : Size) (L : Reading → Type 0) (same : Same L (TelegramLanguage
           let l : TelegramLanguage size q = subst (TelegramLanguage size) (append-nil q) ((same (q ++ [])).0 (d.from [] refl)) in
           let sum = ap (λ (u : List Bool). length u) taken ∙ length-take n b in
           let le = p.within in
-          let rest : behind ≡ [] = nil_from_length behind (omega (arith, sum, length-append (spelled q) behind, whole_length size q l, long, le)) in
-          let is : spelled q ≡ b = sym (append-nil (spelled q)) ∙ ap (λ (u : List Bool). spelled q ++ u) (sym rest) ∙ taken ∙ take_all n b (omega (arith, sum, length-append (spelled q) behind, whole_length size q l, long, le)) in
+          let rest : beyond ≡ [] = nil_from_length beyond (omega (arith, sum, length-append (spelled q) beyond, whole_length size q l, long, le)) in
+          let is : spelled q ≡ b = sym (append-nil (spelled q)) ∙ ap (λ (u : List Bool). spelled q ++ u) (sym rest) ∙ taken ∙ take_all n b (omega (arith, sum, length-append (spelled q) beyond, whole_length size q l, long, le)) in
           whole_seen size b t.header t.left.room t.store q l f is
 
 -- ---- What is seen.

@@ -17,7 +17,7 @@ use Rattle.etcs_telegram.specs.declared.phase.Phase.TheVariants.{Header, Packets
 use Rattle.etcs_telegram.specs.Telegrams.{pad_bits, closed_reading}
 use Rattle.etcs_tables.specs.Headers.{header_row}
 use Rattle.etcs_sequence.specs.Labels.{labelled}
-use Rattle.etcs_telegram.specs.Phases.{PadLeft, FillLeft, behind_header, after_fill}
+use Rattle.etcs_telegram.specs.Phases.{PadLeft, FillLeft, beyond_header, after_fill}
 
 -- FILL after packets, up to this many bits, and PAD after it
 abbrev pub FillBy : Size → ℕ → Reading → Reading → Type 0
@@ -27,13 +27,13 @@ FillBy size room p r = FillLeft size (room - length (spelled p)) r
 abbrev pub PacketsThen : Size → (Reading → Type 0) → ℕ → Reading → Type 0
 PacketsThen size P room r = Chain P (FillBy size room) r
 
-abbrev pub PacketsBehind : Size → PacketsState → Reading → Type 0
-PacketsBehind size l r = PacketsThen size (left_of l.carrier l.room l.stage) (ahead l.carrier l.room l.stage) r
+abbrev pub PacketsAfter : Size → PacketsState → Reading → Type 0
+PacketsAfter size l r = PacketsThen size (left_of l.carrier l.room l.stage) (ahead l.carrier l.room l.stage) r
 
 -- the readings that are left
 abbrev pub left_at : Size → Phase → PacketsState → Reading → Type 0
-left_at size (Header at) l r = Then (ReadsFields (drop at header_row)) (PacketsBehind size l) r
-left_at size Packets l r = PacketsBehind size l r
+left_at size (Header at) l r = Then (ReadsFields (drop at header_row)) (PacketsAfter size l) r
+left_at size Packets l r = PacketsAfter size l r
 left_at size (Fill left) l r = FillLeft size left r
 left_at size (Pad left) l r = PadLeft left r
 left_at size Whole l r = r ≡ []
@@ -67,8 +67,8 @@ may_ask (Pad left) l = false
 may_ask Whole l = false
 
 -- what comes after a variable of the packets
-abbrev pub behind_packets : Size → PacketsState → Phase
-behind_packets size l = if is_closed l.stage then after_fill size l.room 0 else Packets
+abbrev pub after_packets : Size → PacketsState → Phase
+after_packets size l = if is_closed l.stage then after_fill size l.room 0 else Packets
 
 -- ---- What is kept of it.
 
@@ -89,7 +89,7 @@ pub record Filled (header : List ℕ) (holds : Holds) (room left zeros : ℕ) (q
   pub held : holds packets [] fill
   pub carried : All IsPacket packets
   pub room_is : length fill + left ≡ room
-  pub reading_is : q ≡ labelled header_row header ++ behind_header (closed_reading packets) fill zeros
+  pub reading_is : q ≡ labelled header_row header ++ beyond_header (closed_reading packets) fill zeros
 
 -- q are the variables so far, of which so much is held
 abbrev pub HoldsBy : Size → Phase → List ℕ → PacketsState → Holds → Reading → Type 0

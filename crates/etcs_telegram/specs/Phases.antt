@@ -37,11 +37,11 @@ abbrev pub FillLeft : Size → ℕ → Reading → Type 0
 FillLeft size n r = Then (BitsLeft FILL n) (PadLeft (pad_bits size)) r
 
 -- FILL after packets and packet 255
-abbrev pub FillBehind : Size → Reading → Reading → Type 0
-FillBehind size p r = FillLeft size (packet_room size - length (spelled p)) r
+abbrev pub FillAfter : Size → Reading → Reading → Type 0
+FillAfter size p r = FillLeft size (packet_room size - length (spelled p)) r
 
 abbrev pub PacketsLeft : Size → Reading → Type 0
-PacketsLeft size r = (p : Reading) × (rest : Reading) × (r ≡ p ++ rest) × PacketsIn carrier.Telegram (packet_room size) p × FillBehind size p rest
+PacketsLeft size r = (p : Reading) × (rest : Reading) × (r ≡ p ++ rest) × PacketsIn carrier.Telegram (packet_room size) p × FillAfter size p rest
 
 abbrev pub HeaderLeft : Size → List Var → Reading → Type 0
 HeaderLeft size vs r = Then (ReadsFields vs) (PacketsLeft size) r
@@ -49,5 +49,5 @@ HeaderLeft size vs r = Then (ReadsFields vs) (PacketsLeft size) r
 -- ---- What comes before it.
 
 -- FILL and zeros after packets and packet 255
-abbrev pub behind_header : Reading → List Bool → ℕ → Reading
-behind_header p fill zeros = p ++ (kept FILL fill ++ kept PAD (replicate zeros false))
+abbrev pub beyond_header : Reading → List Bool → ℕ → Reading
+beyond_header p fill zeros = p ++ (kept FILL fill ++ kept PAD (replicate zeros false))

@@ -17,7 +17,7 @@ use Rattle.etcs_telegram.specs.declared.phase.Phase.{Phase}
 use Rattle.etcs_telegram.specs.declared.phase.Phase.TheVariants.{Header, Packets, Fill, Pad, Whole}
 use Rattle.etcs_telegram.specs.Telegrams.{user_bits, pad_bits, container_bytes, closed_reading, header_of, ReadsAs, TelegramContent, TelegramLanguage}
 use Rattle.etcs_tables.specs.Headers.{header_row}
-use Rattle.etcs_telegram.specs.Phases.{behind_header}
+use Rattle.etcs_telegram.specs.Phases.{beyond_header}
 use Rattle.etcs_telegram.specs.declared.store.TelegramStore.{TelegramStore}
 use Rattle.etcs_telegram.specs.Lefts.{TelegramState, Left, HoldsIn, Follows}
 
@@ -35,9 +35,9 @@ store_holds store = list_holds form store.list.packets.items store.list.numbers.
 abbrev pub far_at : Phase → TelegramState TelegramStore → Reading
 far_at (Header at) s = labelled header_row s.header
 far_at Packets s = labelled header_row s.header ++ packets_so_far form s.left.carrier s.left.stage s.store.list.packets.items s.store.list.numbers.items s.store.list.bits
-far_at (Fill n) s = labelled header_row s.header ++ behind_header (closed_reading (map packet_value s.store.list.packets.items)) s.store.list.bits 0
-far_at (Pad n) s = labelled header_row s.header ++ behind_header (closed_reading (map packet_value s.store.list.packets.items)) s.store.list.bits (pad_bits s.size - n)
-far_at Whole s = labelled header_row s.header ++ behind_header (closed_reading (map packet_value s.store.list.packets.items)) s.store.list.bits (pad_bits s.size)
+far_at (Fill n) s = labelled header_row s.header ++ beyond_header (closed_reading (map packet_value s.store.list.packets.items)) s.store.list.bits 0
+far_at (Pad n) s = labelled header_row s.header ++ beyond_header (closed_reading (map packet_value s.store.list.packets.items)) s.store.list.bits (pad_bits s.size - n)
+far_at Whole s = labelled header_row s.header ++ beyond_header (closed_reading (map packet_value s.store.list.packets.items)) s.store.list.bits (pad_bits s.size)
 
 abbrev pub so_far : TelegramState TelegramStore → Reading
 so_far s = far_at s.phase s

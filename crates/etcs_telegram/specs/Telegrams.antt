@@ -112,7 +112,7 @@ pub record IsTelegram (t : TelegramContent) : Type 0 where
 
 -- telegrams with one spelling are one, and no spelling begins another
 abbrev pub OneSpelling : Type 0
-OneSpelling = (size : Size) (t u : TelegramContent) (a b : Reading) (behind : List Bool) → IsTelegram t → IsTelegram u → ReadsAs size (telegram_value t) a → ReadsAs size (telegram_value u) b → spelled b ≡ spelled a ++ behind → (t ≡ u) × (behind ≡ [])
+OneSpelling = (size : Size) (t u : TelegramContent) (a b : Reading) (beyond : List Bool) → IsTelegram t → IsTelegram u → ReadsAs size (telegram_value t) a → ReadsAs size (telegram_value u) b → spelled b ≡ spelled a ++ beyond → (t ≡ u) × (beyond ≡ [])
 
 -- a header and packets begin a telegram exactly where room for packet 255 is left
 abbrev pub RoomRule : Type 0

@@ -17,11 +17,11 @@ use etcs_vars::Var;
 
 /// The number of a variable in a word, with this many bits after it. `None` where the variable doesn't admit it.
 #[inline(always)]
-fn field(word: u64, behind: usize, var: Var) -> Option<u64>
-    requires { behind + width var < 64 }
-    ensures { IfSome result (λ n. IsTrue (admits var n) × (n ≡ word / 2 ^ behind % 2 ^ width var)) }
+fn field(word: u64, beyond: usize, var: Var) -> Option<u64>
+    requires { beyond + width var < 64 }
+    ensures { IfSome result (λ n. IsTrue (admits var n) × (n ≡ word / 2 ^ beyond % 2 ^ width var)) }
 {
-    let number = (word >> behind) % (1 << var.width());
+    let number = (word >> beyond) % (1 << var.width());
     if !var.admits(number) {
         return None;
     }

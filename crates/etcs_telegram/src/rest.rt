@@ -13,7 +13,7 @@ ghost use Rattle.etcs_sequence.specs.AtOnce.{RunFirst};
 ghost use Rattle.etcs_telegram.specs.declared.size.Size.{Size};
 ghost use Rattle.etcs_telegram.specs.Telegrams.{TelegramLanguage, packet_room};
 ghost use Rattle.etcs_telegram.specs.Phases.{after_pad};
-ghost use Rattle.etcs_telegram.specs.Lefts.{stands_at, behind_packets, Left, next_var, MayAsk, HoldsIn, Follows, Leaps};
+ghost use Rattle.etcs_telegram.specs.Lefts.{stands_at, after_packets, Left, next_var, MayAsk, HoldsIn, Follows, Leaps};
 ghost use Rattle.etcs_telegram.specs.Readers.{store_holds};
 ghost use Rattle.etcs_telegram.specs.laws.RestLaws.{rest_regular, rest_begins, rest_ended, follows_none, follows_along};
 
@@ -58,8 +58,8 @@ impl<S: PacketStore> Model for TelegramRest<S> {
 }
 
 /// What comes after a variable of the packets.
-fn behind_packets(size: Size, left: &PacketsState) -> Phase
-    ensures { result ≡ behind_packets size left.now }
+fn after_packets(size: Size, left: &PacketsState) -> Phase
+    ensures { result ≡ after_packets size left.now }
 {
     match &left.stage {
         Stage::Closed => Phase::after_fill(size, left.room, 0),
@@ -68,7 +68,7 @@ fn behind_packets(size: Size, left: &PacketsState) -> Phase
 }
 
 /// What comes after a bit of PAD, of which `left` are wanted.
-fn behind_pad(left: usize) -> Phase
+fn beyond_pad(left: usize) -> Phase
     ensures { result ≡ after_pad left }
 {
     if left > 1 {
@@ -131,7 +131,7 @@ impl<S: PacketStore> TelegramRest<S> {
         self.phase = Phase::Whole;
         let packets = &mut self.packets;
         packets.pass(var, number)?;
-        self.phase = behind_packets(self.size, &packets.left);
+        self.phase = after_packets(self.size, &packets.left);
         Ok(())
     }
 
@@ -149,7 +149,7 @@ impl<S: PacketStore> TelegramRest<S> {
         self.phase = Phase::Whole;
         let packets = &mut self.packets;
         let leapt = packets.leap(piece, at)?;
-        self.phase = behind_packets(self.size, &packets.left);
+        self.phase = after_packets(self.size, &packets.left);
         Ok(leapt)
     }
 
@@ -205,7 +205,7 @@ impl<S: PacketStore> TelegramRest<S> {
         requires phase { self.old.phase ≡ Phase.Pad left }
         ensures { Follows S.holds self.old ((PAD, 0) ∷ []) self.new }
     {
-        self.phase = behind_pad(left);
+        self.phase = beyond_pad(left);
     }
 
     /// Takes the bits of PAD, of which `left` are wanted, where the piece has them all and they are zeros, and says how
@@ -255,7 +255,7 @@ impl TelegramRest<TelegramStore> {
         self.phase = Phase::Whole;
         let packets = &mut self.packets;
         packets.resume(store, left);
-        self.phase = behind_packets(self.size, &packets.left);
+        self.phase = after_packets(self.size, &packets.left);
     }
 }
 

@@ -49,7 +49,7 @@ impl VarSink for Few {
 
     ghost with_both = { λ s a b. sym (append_assoc s a b) };
 
-    ghost failed_behind = { λ s a t h. tt };
+    ghost failed_after = { λ s a t h. tt };
 
     fn send(&mut self, sent: &[(Var, u64)]) -> Result<(), AllocError> {
         if sent.len() > self.room {

@@ -24,10 +24,10 @@ appended e old new r hold hnew reads is =
     let all : length (bits new) ≡ length (bits old) + length (spelled r) = ap (λ (b : List Bool). length b) is ∙ length-append (bits old) (spelled r) in
     let inside : n ≤ length new = omega (arith, all, length-bits new, length-bits old) in
     let front : bits (take n new) ≡ bits old = bits-take new n inside ∙ ap (λ (b : List Bool). take (8 * n) b) is ∙ take_at (bits old) (spelled r) (8 * n) (length-bits old) in
-    let behind : bits (drop n new) ≡ spelled r = bits-drop new n ∙ ap (λ (b : List Bool). drop (8 * n) b) is ∙ drop_at (bits old) (spelled r) (8 * n) (length-bits old) in
+    let beyond : bits (drop n new) ≡ spelled r = bits-drop new n ∙ ap (λ (b : List Bool). drop (8 * n) b) is ∙ drop_at (bits old) (spelled r) (8 * n) (length-bits old) in
     let same : take n new ≡ old = bits_same (take n new) old (all_small (take n new) (All-take (λ b. b < 256) n new hnew)) (all_small old hold) front in (
       drop n new,
-      record { reading = r; reads = reads; small = All-drop (λ b. b < 256) n new hnew; bits_are = behind },
+      record { reading = r; reads = reads; small = All-drop (λ b. b < 256) n new hnew; bits_are = beyond },
       sym (take-append-drop n new) ∙ ap (λ (z : List ℕ). z ++ drop n new) same,
     )
 

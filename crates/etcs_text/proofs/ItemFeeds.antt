@@ -48,8 +48,8 @@ module _ {V W : Type 0} (Reads : W → Reading → Type 0) (value : V → W) (Is
 
   -- where it returns that memory is refused
   inner_starves : (seen new : List Bool) (at : inner.Progress V) → inner.Feeds Reads value IsValue least seen new (Err Memory) at → IsStarved (EntryReads kind) least seen new
-  inner_starves seen new at (n, at_is, from, below, viable, front, x, owner, asks, behind) =
-      (n, from, below, viable_along (readings_of Reads) (Language kind) same _ viable, front, x, owner_along (readings_of Reads) (Language kind) same _ x owner, asks, behind)
+  inner_starves seen new at (n, at_is, from, below, viable, front, x, owner, asks, beyond) =
+      (n, from, below, viable_along (readings_of Reads) (Language kind) same _ viable, front, x, owner_along (readings_of Reads) (Language kind) same _ x owner, asks, beyond)
 
 pub telegram_feeds : (s : Size) (seen new : List Bool) (answer : Result Fed ReadFault) (at : inner.Progress TelegramContent) → inner.Feeds (ReadsAs s) telegram_value IsTelegram 50 seen new answer at → Feeds (EntryReads (kind_of s)) seen new answer (progress_of telegram_item at)
 telegram_feeds s = inner_feeds (ReadsAs s) telegram_value IsTelegram 50 of_telegram (kind_of s) (same_telegrams s) (λ t r h. (ap kind_of h.0, h.1))

@@ -10,7 +10,7 @@ use Rattle.etcs_messages.specs.declared.message.Content.TheVariants.{Typed, Kept
 use Rattle.etcs_messages.specs.Kinds.{HeadOf, OwnOf}
 use Rattle.etcs_messages.specs.Messages.{all_bits, head_reading, message_value, padding_room}
 use Rattle.etcs_messages.specs.Readings.{bytes_of, front_reading}
-use Rattle.etcs_text.specs.Messages.{message_bits, message_bytes, message_line, front_variables, behind_lines, message_text}
+use Rattle.etcs_text.specs.Messages.{message_bits, message_bytes, message_line, front_variables, after_lines, message_text}
 use Rattle.etcs_packet_text.specs.Show.{variable_line}
 
 module _ {H B P : Type 0} (way : Way) (k : HeadOf H) (o : OwnOf B) (form : P → Form) where
@@ -34,15 +34,15 @@ three_more old a b c one two three e f g =
     ∙ append_assoc old (a ++ b) c
 
 module _ {H B P : Type 0} (way : Way) (k : HeadOf H) (o : OwnOf B) (form : P → Form) where
-  text_is : (m : Content H B P) (item bits : ℕ) (old one two three : List ℕ) → bits ≡ message_bits way (message_value way k o form m) → one ≡ old ++ message_line way bits item → two ≡ one ++ flat_map variable_line (front_reading way k o form m) → three ≡ two ++ behind_lines way (message_value way k o form m) → three ≡ old ++ message_text way (message_value way k o form m) item
+  text_is : (m : Content H B P) (item bits : ℕ) (old one two three : List ℕ) → bits ≡ message_bits way (message_value way k o form m) → one ≡ old ++ message_line way bits item → two ≡ one ++ flat_map variable_line (front_reading way k o form m) → three ≡ two ++ after_lines way (message_value way k o form m) → three ≡ old ++ message_text way (message_value way k o form m) item
   unfolding message_text
   text_is m item bits old one two three long e f g =
       let v = message_value way k o form m in
-      three_more old (message_line way (message_bits way v) item) (flat_map variable_line (front_variables way v)) (behind_lines way v) one two three
+      three_more old (message_line way (message_bits way v) item) (flat_map variable_line (front_variables way v)) (after_lines way v) one two three
       (e ∙ ap (λ (n : ℕ). old ++ message_line way n item) long)
       (f ∙ ap (λ (r : Reading). one ++ flat_map variable_line r) (front_is way k o form m))
       g
 
-  pub text_ok : {T E : Type 0} (r : Result T E) (m : Content H B P) (item bits : ℕ) (old one two three : List ℕ) → bits ≡ message_bits way (message_value way k o form m) → one ≡ old ++ message_line way bits item → two ≡ one ++ flat_map variable_line (front_reading way k o form m) → OnOk r (three ≡ two ++ behind_lines way (message_value way k o form m)) → OnOk r (three ≡ old ++ message_text way (message_value way k o form m) item)
+  pub text_ok : {T E : Type 0} (r : Result T E) (m : Content H B P) (item bits : ℕ) (old one two three : List ℕ) → bits ≡ message_bits way (message_value way k o form m) → one ≡ old ++ message_line way bits item → two ≡ one ++ flat_map variable_line (front_reading way k o form m) → OnOk r (three ≡ two ++ after_lines way (message_value way k o form m)) → OnOk r (three ≡ old ++ message_text way (message_value way k o form m) item)
   text_ok (Ok x) m item bits old one two three long e f g = text_is m item bits old one two three long e f g
   text_ok (Err x) m item bits old one two three long e f g = tt

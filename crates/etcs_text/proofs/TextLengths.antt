@@ -23,12 +23,12 @@ use Rattle.etcs_telegram.specs.Telegrams.{TelegramValue, TelegramReads, header_r
 use Rattle.etcs_telegram.proofs.Spellings.{regular, whole_length}
 use Rattle.etcs_text.specs.Encodings.{IsEncoded, check_line}
 use Rattle.etcs_text.specs.Entries.{EntryValue, of_telegram, of_message, Spells, entry_bits, entry_text}
-use Rattle.etcs_text.specs.Messages.{message_bits, message_bytes, message_line, front_variables, behind_lines, message_text}
+use Rattle.etcs_text.specs.Messages.{message_bits, message_bytes, message_line, front_variables, after_lines, message_text}
 use Rattle.etcs_packet_text.specs.Packets.{packets_text}
 use Rattle.etcs_packet_text.specs.Trees.{packets_tree, pairs_tree}
 use Rattle.etcs_text.specs.Trees.{json_tree, message_tree, telegram_tree}
 use Rattle.etcs_packet_text.specs.Show.{variable_line, bit_digit, bits_line, fill_line}
-use Rattle.etcs_packet_text.proofs.TextLengths.{decimal_short, digits_long, fit_behind, fit_front, joined_long, length-sent, line_short, packets_json_short, packets_short, pairs_json_short, small_number, spelled_long, total, variables_short}
+use Rattle.etcs_packet_text.proofs.TextLengths.{decimal_short, digits_long, fit_after, fit_front, joined_long, length-sent, line_short, packets_json_short, packets_short, pairs_json_short, small_number, spelled_long, total, variables_short}
 use Rattle.etcs_text.specs.Show.{item_line, kind_word, way_word}
 use Rattle.etcs_text.specs.Telegrams.{show_text}
 
@@ -79,7 +79,7 @@ reading_fit t r x =
     let whole : AllFit r = let language = regular t.size in language.fit r (t, (refl, x)) in
     let parts : AllFit (((head ++ closed_reading t.packets) ++ fill) ++ zeros) = subst AllFit x.reading_is whole in
     let headed = fit_front (head ++ closed_reading t.packets) fill (fit_front ((head ++ closed_reading t.packets) ++ fill) zeros parts) in
-    (fit_front head (closed_reading t.packets) headed, fit_front packets closing (fit_behind head (closed_reading t.packets) headed))
+    (fit_front head (closed_reading t.packets) headed, fit_front packets closing (fit_after head (closed_reading t.packets) headed))
 
 telegram_short : (t : TelegramValue) (r : Reading) (item : ℕ) → TelegramReads t r → item < 2 ^ 64 → length (show_text t item) ≤ 2 ^ 20
 unfolding show_text
@@ -137,7 +137,7 @@ typed_fit way nid head body vs padding r x =
     let whole : AllFit r = language.fit r (typed_message nid head body vs padding, x) in
     let parts : AllFit ((front ++ readings_to way vs) ++ kept PADDING padding) = subst AllFit x.reading_is whole in
     let both = fit_front (front ++ readings_to way vs) (kept PADDING padding) parts in
-    (fit_front front (readings_to way vs) both, fit_behind front (readings_to way vs) both)
+    (fit_front front (readings_to way vs) both, fit_after front (readings_to way vs) both)
 
 front_fit : (way : Way) (m : MessageValue) (r : Reading) → MessageReads way m r → AllFit (front_variables way m)
 front_fit way (typed_message nid head body vs padding) r x =
@@ -147,8 +147,8 @@ front_fit way (kept_message nid b) r x =
     let len : message_bytes way (kept_message nid b) ≡ x.len = omega (arith, x.bytes) in
     (x.small, (omega (arith, len, x.most), tt))
 
-behind_short : (way : Way) (m : MessageValue) (r : Reading) → MessageReads way m r → length (behind_lines way m) + 128 * length (spelled (front_variables way m)) ≤ 128 * message_bits way m + 256
-behind_short way (typed_message nid head body vs padding) r x =
+after_short : (way : Way) (m : MessageValue) (r : Reading) → MessageReads way m r → length (after_lines way m) + 128 * length (spelled (front_variables way m)) ≤ 128 * message_bits way m + 256
+after_short way (typed_message nid head body vs padding) r x =
     let fits = typed_fit way nid head body vs padding r x in
     let w = whole_message way (typed_message nid head body vs padding) r x in
     let len = message_bytes way (typed_message nid head body vs padding) in
@@ -158,7 +158,7 @@ behind_short way (typed_message nid head body vs padding) r x =
     let closed = line_short (codes "PADDING") padding (omega (arith, small)) (omega arith) in
     let l = three_long (packets_text way vs) (codes "end\n") (bits_line (codes "PADDING") padding) in
     omega (arith, front, head_length way nid len head x.head_reads, packets, closed, l)
-behind_short way (kept_message nid b) r x =
+after_short way (kept_message nid b) r x =
     let len = message_bytes way (kept_message nid b) in
     let k = length-sent NID_MESSAGE nid ((L_MESSAGE, len) ∷ []) in
     let j = length-sent L_MESSAGE len [] in
@@ -174,9 +174,9 @@ message_short way m r item x h =
     let bits : message_bits way m ≤ 8184 = omega (arith, w.0, w.1) in
     let line = message_line_short way (message_bits way m) item (omega (arith, bits)) h in
     let front = variables_short (front_variables way m) (front_fit way m r x) in
-    let behind = behind_short way m r x in
-    let l = three_long (message_line way (message_bits way m) item) (flat_map variable_line (front_variables way m)) (behind_lines way m) in
-    omega (arith, bits, line, front, behind, l)
+    let beyond = after_short way m r x in
+    let l = three_long (message_line way (message_bits way m) item) (flat_map variable_line (front_variables way m)) (after_lines way m) in
+    omega (arith, bits, line, front, beyond, l)
 
 -- ---- JSON.
 
@@ -207,7 +207,7 @@ message_json_short way (typed_message nid head body vs padding) r x =
     let w = whole_message way m r x in
     let fits = typed_fit way nid head body vs padding r x in
     let headed = fit_front (head_reading nid x.len head) body fits.0 in
-    let fields = pairs_json_short body (fit_behind (head_reading nid x.len head) body fits.0) in
+    let fields = pairs_json_short body (fit_after (head_reading nid x.len head) body fits.0) in
     let header = pairs_json_short head headed.1.1 in
     let packets = packets_json_short way vs fits.1 in
     let parts = codes "{\"fields\":" ∷ compact_text (pairs_tree body) ∷ codes ",\"header\":" ∷ compact_text (pairs_tree head) ∷ codes ",\"kind\":" ∷ quoted (way_word way) ∷ codes ",\"nid\":" ∷ decimal nid ∷ codes ",\"packets\":" ∷ compact_text (packets_tree way vs) ∷ codes ",\"padding\":" ∷ quoted (map bit_digit padding) ∷ codes "}" ∷ [] in

@@ -16,7 +16,7 @@ use Rattle.etcs_messages.specs.Readings.{body_of, head_of, kept_of, nid_of_messa
 use Rattle.etcs_telegram.specs.declared.size.Size.{Size}
 use Rattle.etcs_telegram.specs.declared.size.Size.TheVariants.{Short, Long}
 use Rattle.etcs_telegram.specs.Telegrams.{HeaderValue, header_reading}
-use Rattle.etcs_text.specs.JsonParts.{message_behind, message_front, telegram_text, way_member}
+use Rattle.etcs_text.specs.JsonParts.{message_after, message_front, telegram_text, way_member}
 use Rattle.etcs_packet_text.proofs.PlainTexts.{quoted_bits}
 use Rattle.etcs_packet_text.specs.Show.{bit_digit}
 use Rattle.etcs_text.specs.Show.{way_word}
@@ -47,17 +47,17 @@ way_is ToTrack rest = refl
 abbrev pub number_between : Way → ℕ → List ℕ
 number_between way nid = way_member way ++ (decimal nid ++ codes ",\"packets\":")
 
-typed_text : (way : Way) (nid : ℕ) (head body : Reading) (vs : List PacketValue) (padding : List Bool) → message_front body head ++ (number_between way nid ++ message_behind way vs padding) ≡ compact_text (message_tree way (typed_message nid head body vs padding))
+typed_text : (way : Way) (nid : ℕ) (head body : Reading) (vs : List PacketValue) (padding : List Bool) → message_front body head ++ (number_between way nid ++ message_after way vs padding) ≡ compact_text (message_tree way (typed_message nid head body vs padding))
 unfolding escape_byte
 typed_text way nid head body vs padding =
     let x = compact_text (pairs_tree body) in
     let y = compact_text (pairs_tree head) in
     let p = compact_text (packets_tree way vs) in
     let n = decimal nid in
-    let behind = message_behind way vs padding in
-    let rest = n ++ (codes ",\"packets\":" ++ behind) in
-    ap (λ (z : List ℕ). codes "{\"fields\":" ++ z) (regrouped x (codes ",\"header\":") y (number_between way nid ++ behind))
-    ∙ ap (λ (z : List ℕ). codes "{\"fields\":" ++ (x ++ (codes ",\"header\":" ++ (y ++ z)))) (regrouped (way_member way) n (codes ",\"packets\":") behind)
+    let beyond = message_after way vs padding in
+    let rest = n ++ (codes ",\"packets\":" ++ beyond) in
+    ap (λ (z : List ℕ). codes "{\"fields\":" ++ z) (regrouped x (codes ",\"header\":") y (number_between way nid ++ beyond))
+    ∙ ap (λ (z : List ℕ). codes "{\"fields\":" ++ (x ++ (codes ",\"header\":" ++ (y ++ z)))) (regrouped (way_member way) n (codes ",\"packets\":") beyond)
     ∙ ap (λ (z : List ℕ). codes "{\"fields\":" ++ (x ++ (codes ",\"header\":" ++ (y ++ z)))) (way_is way rest)
     ∙ ap (λ (z : List ℕ). codes "{\"fields\":" ++ (x ++ (codes ",\"header\":" ++ (y ++ (codes ",\"kind\":" ++ (quoted (way_word way) ++ (codes ",\"nid\":" ++ (n ++ (codes ",\"packets\":" ++ (p ++ (codes ",\"padding\":" ++ z)))))))))))
     (sym (quoted_bits padding (codes "}")))
@@ -71,14 +71,14 @@ kept_text way nid b =
 
 module _ {H B P : Type 0} (way : Way) (k : HeadOf H) (o : OwnOf B) (form : P → Form) where
   -- a typed message around its number
-  pub typed_is : (m : Content H B P) (head : H) (body : B) → head_of m ≡ Some head → body_of m ≡ Some body → message_front (o.reading body) (k.reading head) ++ (number_between way (nid_of_message o m) ++ message_behind way (values_of form (packets_of m)) (num (padding_bits_of way o form m) (padding_of m))) ≡ compact_text (message_tree way (message_value way k o form m))
+  pub typed_is : (m : Content H B P) (head : H) (body : B) → head_of m ≡ Some head → body_of m ≡ Some body → message_front (o.reading body) (k.reading head) ++ (number_between way (nid_of_message o m) ++ message_after way (values_of form (packets_of m)) (num (padding_bits_of way o form m) (padding_of m))) ≡ compact_text (message_tree way (message_value way k o form m))
   typed_is (Typed head body ps padding) h b e g =
       let m = Typed head body ps padding in
       let same_head : h ≡ head = cc in
       let same_body : b ≡ body = cc in
       let vs = values_of form ps in
       let bits = num (padding_bits_of way o form m) padding in
-      (λ i. message_front (o.reading (same_body i)) (k.reading (same_head i)) ++ (number_between way (o.nid body) ++ message_behind way vs bits))
+      (λ i. message_front (o.reading (same_body i)) (k.reading (same_head i)) ++ (number_between way (o.nid body) ++ message_after way vs bits))
       ∙ typed_text way (o.nid body) (k.reading head) (o.reading body) vs bits
   typed_is (Kept nid bits) h b e g = absurd cc
 

@@ -28,5 +28,5 @@ abbrev pub message_front : Reading → Reading → List ℕ
 message_front body head = codes "{\"fields\":" ++ (compact_text (pairs_tree body) ++ (codes ",\"header\":" ++ compact_text (pairs_tree head)))
 
 -- what follows the name of its packets: these, and PADDING
-abbrev pub message_behind : Way → List PacketValue → List Bool → List ℕ
-message_behind way vs padding = compact_text (packets_tree way vs) ++ (codes ",\"padding\":\"" ++ (map bit_digit padding ++ codes "\"}"))
+abbrev pub message_after : Way → List PacketValue → List Bool → List ℕ
+message_after way vs padding = compact_text (packets_tree way vs) ++ (codes ",\"padding\":\"" ++ (map bit_digit padding ++ codes "\"}"))

@@ -29,10 +29,10 @@ front_variables way (typed_message nid head body vs padding) = head_reading nid 
 front_variables way (kept_message nid b) = (NID_MESSAGE, nid) ∷ (L_MESSAGE, message_bytes way (kept_message nid b)) ∷ []
 
 -- what follows them: packets, an end and PADDING, or the bits that are kept
-abbrev pub behind_lines : Way → MessageValue → List ℕ
-behind_lines way (typed_message nid head body vs padding) = packets_text way vs ++ codes "end\n" ++ bits_line (codes "PADDING") padding
-behind_lines way (kept_message nid b) = bits_line (codes "OTHER_DATA") b
+abbrev pub after_lines : Way → MessageValue → List ℕ
+after_lines way (typed_message nid head body vs padding) = packets_text way vs ++ codes "end\n" ++ bits_line (codes "PADDING") padding
+after_lines way (kept_message nid b) = bits_line (codes "OTHER_DATA") b
 
 -- the text of a message that is the item of this number
 unfoldable pub message_text : Way → MessageValue → ℕ → List ℕ
-message_text way m item = message_line way (message_bits way m) item ++ flat_map variable_line (front_variables way m) ++ behind_lines way m
+message_text way m item = message_line way (message_bits way m) item ++ flat_map variable_line (front_variables way m) ++ after_lines way m

@@ -9,7 +9,7 @@ ghost use Rattle.etcs_telegram.specs.Telegrams.{telegram_value};
 ghost use Rattle.etcs_packet_text.specs.Fronts.{Begins};
 ghost use Rattle.etcs_packet_text.specs.Show.{bit_digit};
 ghost use Rattle.etcs_text.specs.Entries.{entry_value};
-ghost use Rattle.etcs_text.specs.JsonParts.{kind_member, message_behind, message_front, way_member};
+ghost use Rattle.etcs_text.specs.JsonParts.{kind_member, message_after, message_front, way_member};
 ghost use Rattle.etcs_text.specs.Trees.{json_tree, message_tree, telegram_tree};
 
 use crate::entry::Entry;
@@ -86,11 +86,11 @@ fn write_front<H: Head, B: Own<Front = H>>(
 }
 
 /// Appends the packets of a typed message and what is after them.
-fn write_behind<H: Head, B: Own<Front = H>>(
+fn write_after<H: Head, B: Own<Front = H>>(
     message: &MessageOf<H, B>,
     page: &mut JsonPage,
 ) -> Result<(), AllocError>
-    ensures ok { OnOk result (page.new.0 ≡ page.old.0 ++ message_behind H.Packet.WAY (values_of H.Packet.form (packets_of message.now)) (num (padding_bits_of H.Packet.WAY B.own H.Packet.form message.now) (padding_of message.now))) }
+    ensures ok { OnOk result (page.new.0 ≡ page.old.0 ++ message_after H.Packet.WAY (values_of H.Packet.form (packets_of message.now)) (num (padding_bits_of H.Packet.WAY B.own H.Packet.form message.now) (padding_of message.now))) }
     ensures err { OnErr result (Begins page.old.0 page.new.0) }
 {
     write_packets(message.packets(), page)?;
@@ -117,7 +117,7 @@ fn write_typed<H: Head, B: Own<Front = H>>(
         u64::from(message.nid()),
         b",\"packets\":",
     )?;
-    write_behind(message, page)
+    write_after(message, page)
 }
 
 /// Appends a message that is kept as these bits.

@@ -7,7 +7,7 @@ ghost use Rattle.etcs_messages.specs.Readings.{front_reading, packets_of, paddin
 ghost use Rattle.etcs_packet_text.specs.Fronts.{Begins};
 ghost use Rattle.etcs_packet_text.specs.Packets.{packets_text};
 ghost use Rattle.etcs_packet_text.specs.Show.{bits_line, variable_line};
-ghost use Rattle.etcs_text.specs.Messages.{behind_lines, message_bits, message_line, message_text};
+ghost use Rattle.etcs_text.specs.Messages.{after_lines, message_bits, message_line, message_text};
 ghost use Rattle.etcs_text.specs.Show.{way_word};
 
 use etcs_bits::BitSlice;
@@ -90,11 +90,11 @@ fn write_closed<H: Head, B: Own<Front = H>>(
 }
 
 /// Appends the lines of what follows the variables.
-fn write_behind<H: Head, B: Own<Front = H>>(
+fn write_after<H: Head, B: Own<Front = H>>(
     message: &MessageOf<H, B>,
     page: &mut Page,
 ) -> Result<(), AllocError>
-    ensures ok { OnOk result (page.new ≡ page.old ++ behind_lines H.Packet.WAY (message_value H.Packet.WAY H.head B.own H.Packet.form message.now)) }
+    ensures ok { OnOk result (page.new ≡ page.old ++ after_lines H.Packet.WAY (message_value H.Packet.WAY H.head B.own H.Packet.form message.now)) }
     ensures err { OnErr result (Begins page.old page.new) }
 {
     match message.kept_bits() {
@@ -114,5 +114,5 @@ pub(crate) fn write_message<H: Head, B: Own<Front = H>>(
 {
     write_item(H::Packet::WAY, message_bits(message), item, page)?;
     write_front(message, page)?;
-    write_behind(message, page)
+    write_after(message, page)
 }

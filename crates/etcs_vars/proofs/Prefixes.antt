@@ -54,8 +54,8 @@ begins_some ((lo, hi) ∷ rs) rest b o h =
           let ends = and_parts (leb (lo / 2 ^ rest) b) (leb b (hi / 2 ^ rest)) here in
           let m = between (2 ^ rest) lo hi b (pow_pos rest) (leb-true lo hi os.0) (leb-true (lo / 2 ^ rest) b ends.0) (leb-true b (hi / 2 ^ rest) ends.1) in
           (m.0, or_left (leb lo m.0 && leb m.0 hi) (inside rs m.0) (and_from (leb lo m.0) (leb m.0 hi) (le-leb lo m.0 m.1) (le-leb m.0 hi m.2)), m.3)
-      | inr behind ↦
-          let m = begins_some rs rest b os.1 behind in
+      | inr beyond ↦
+          let m = begins_some rs rest b os.1 beyond in
           (m.0, or_right (leb lo m.0 && leb m.0 hi) (inside rs m.0) m.1, m.2)
     ]
 

@@ -47,18 +47,18 @@ next_bits taken bits b = next_number taken 1 bits (bit b) (omega (arith, bit-le 
 
 -- where every number of the ranges that fits continues, and no other, the ranges are the test
 pub ranges_tested : (x : Var) (R' : ℕ → Reading → Type 0) (rs : List (ℕ × ℕ)) → ordered rs ≡ true → ((n : ℕ) → inside rs n ≡ true → n < 2 ^ width x → (r : Reading) × R' n r) → ((n : ℕ) (r : Reading) → R' n r → inside rs n ≡ true) → Tested x R' (begins rs)
-ranges_tested x R' rs o goes_on within = record {
+ranges_tested x R' rs o goes_further within = record {
   some = λ taken bits short fits test.
       let rest = width x - taken in
       let whole : taken + rest ≡ width x = omega arith in
       let n = begins_some rs rest bits o test in
       let small : n.0 < 2 ^ width x = rw whole at (below_quotient n.0 taken rest (rw n.2 fits)) in
-      let r = goes_on n.0 n.1 small in
+      let r = goes_further n.0 n.1 small in
       (n.0, r.0, n.2, r.1);
   each = λ rest n r l. begins_from rs rest n (within n r l);
 }
 
 -- where every admitted number continues, and no other, the variable's ranges are the test
 pub admitted_tested : (x : Var) (R' : ℕ → Reading → Type 0) → ((n : ℕ) → IsTrue (admits x n) → (r : Reading) × R' n r) → ((n : ℕ) (r : Reading) → R' n r → IsTrue (admits x n)) → Tested x R' (begins (ranges x))
-admitted_tested x R' goes_on within =
-    ranges_tested x R' (ranges x) (ranges_ordered x) (λ n i small. goes_on n (admits_from x n i small)) (λ n r l. (admits_parts x n (within n r l)).0)
+admitted_tested x R' goes_further within =
+    ranges_tested x R' (ranges x) (ranges_ordered x) (λ n i small. goes_further n (admits_from x n i small)) (λ n r l. (admits_parts x n (within n r l)).0)

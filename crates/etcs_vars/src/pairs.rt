@@ -54,7 +54,7 @@ impl VarSink for PairList {
 
     ghost with_both = { pairs_both };
 
-    ghost failed_behind = { λ r a s h. h };
+    ghost failed_after = { λ r a s h. h };
 
     fn send(&mut self, sent: &[(Var, u64)]) -> Result<(), AllocError> {
         self.held.extend_from_slice(sent)

@@ -28,7 +28,7 @@ pub fn begins(ranges: &[(u64, u64)], rest: usize, bits: u64) -> bool
 {
     match ranges {
         [] => false,
-        [first, behind @ ..] => begins_one(first, rest, bits) || begins_some(behind, rest, bits),
+        [first, beyond @ ..] => begins_one(first, rest, bits) || begins_some(beyond, rest, bits),
     }
 }
 

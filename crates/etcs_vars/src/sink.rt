@@ -29,7 +29,7 @@ pub trait VarSink {
 
     ghost with_both: { (s : Self) (a b : Reading) → with s (a ++ b) ≡ with (with s a) b };
 
-    ghost failed_behind: { (s : Self) (a : Reading) (t : Self) → failed (with s a) t → failed s t };
+    ghost failed_after: { (s : Self) (a : Reading) (t : Self) → failed (with s a) t → failed s t };
 }
 
 /// A run of variables with their numbers.
@@ -117,7 +117,7 @@ impl VarSink for NumberList {
 
     ghost with_both = { numbers_both };
 
-    ghost failed_behind = { numbers_begin };
+    ghost failed_after = { numbers_begin };
 
     fn send(&mut self, sent: &[(Var, u64)]) -> Result<(), AllocError> {
         self.held.reserve(sent.len())?;

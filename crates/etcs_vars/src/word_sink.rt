@@ -160,7 +160,7 @@ impl<'a> VarSink for WordSink<'a> {
 
     ghost with_both = { spelled_both };
 
-    ghost failed_behind = { λ s a t h. h };
+    ghost failed_after = { λ s a t h. h };
 
     /// It refuses nothing.
     #[inline(always)]

@@ -59,18 +59,18 @@ module _ {W : Type 0} (v : Var) (test other : Test) (apart : (n : ℕ) → admit
   second = record { var = v; test = other }
 
   -- the second group, and the rest
-  abbrev Behind : Layout → Scope → Reading → Type 0
-  Behind rest t x = MatchBool (holds second t) (Then (Reads (row false whole) t) (Reads rest t) x) (Reads rest t x)
+  abbrev SecondAndRest : Layout → Scope → Reading → Type 0
+  SecondAndRest rest t x = MatchBool (holds second t) (Then (Reads (row false whole) t) (Reads rest t) x) (Reads rest t x)
 
   into_by : (b : Bool) (n : ℕ) (w : W) (rest : Layout) (s : Scope) (x : Reading) → passes test n ≡ b → passes other n ≡ not b → IsW b w → Reads rest ((v, n) ∷ s) x
-      → MatchBool (holds first ((v, n) ∷ s)) (Then (Reads (row true whole) ((v, n) ∷ s)) (Behind rest ((v, n) ∷ s)) (reading b w ++ x)) (Behind rest ((v, n) ∷ s) (reading b w ++ x))
+      → MatchBool (holds first ((v, n) ∷ s)) (Then (Reads (row true whole) ((v, n) ∷ s)) (SecondAndRest rest ((v, n) ∷ s)) (reading b w ++ x)) (SecondAndRest rest ((v, n) ∷ s) (reading b w ++ x))
   into_by true n w rest s x p q h k =
       let t = (v, n) ∷ s in
-      stands (holds first t) (Then (Reads (row true whole) t) (Behind rest t) (reading true w ++ x)) (Behind rest t (reading true w ++ x)) (holds_here v test n s ∙ p)
+      stands (holds first t) (Then (Reads (row true whole) t) (SecondAndRest rest t) (reading true w ++ x)) (SecondAndRest rest t (reading true w ++ x)) (holds_here v test n s ∙ p)
       (reading true w, x, refl, whole_in (groups true) w t h, is_left_out (holds second t) (Then (Reads (row false whole) t) (Reads rest t) x) (Reads rest t x) (holds_here v other n s ∙ q) k)
   into_by false n w rest s x p q h k =
       let t = (v, n) ∷ s in
-      is_left_out (holds first t) (Then (Reads (row true whole) t) (Behind rest t) (reading false w ++ x)) (Behind rest t (reading false w ++ x)) (holds_here v test n s ∙ p)
+      is_left_out (holds first t) (Then (Reads (row true whole) t) (SecondAndRest rest t) (reading false w ++ x)) (SecondAndRest rest t (reading false w ++ x)) (holds_here v test n s ∙ p)
       (stands (holds second t) (Then (Reads (row false whole) t) (Reads rest t) (reading false w ++ x)) (Reads rest t (reading false w ++ x)) (holds_here v other n s ∙ q)
       (reading false w, x, refl, whole_in (groups false) w t h, k))
 

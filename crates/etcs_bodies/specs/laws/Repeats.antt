@@ -10,7 +10,7 @@ use Rattle.etcs_vars.specs.declared.var.Var.{Var}
 use Rattle.etcs_vars.specs.Reading.{Reading, Times, spelled}
 use Rattle.etcs_bodies.specs.Taking.{Left, ahead, ◌and_then◌, next_number, times_from}
 use Rattle.etcs_bodies.specs.laws.Takes.{ahead_none, ahead_both, taken, some_pair}
-use Rattle.etcs_bodies.specs.Repeats.{Stand, behind, bit_count}
+use Rattle.etcs_bodies.specs.Repeats.{Stand, beyond, bit_count}
 
 -- the readings of values, one after another
 pub times_in : {V : Type 0} (P : Reading → Type 0) (reading : V → Reading) (IsValue : V → Type 0)
@@ -54,9 +54,9 @@ times_sound from reading IsValue one (suc n) vs s t h =
       first.1 ∙ ap (ahead (reading a.0.0)) more.2 ∙ sym (ahead_both (reading a.0.0) (flat_map reading b.0.0) b.0.1),
     )
 
-pub behind_more : {V : Type 0} (vs : List V) (v : V) (o : Option (List V × Left)) → behind vs (o and_then λ us. Some (v ∷ us.0, us.1)) ≡ behind (vs ++ v ∷ []) o
-behind_more vs v None = refl
-behind_more vs v (Some more) = ap (λ l. Some (l, more.1)) (sym (append_assoc vs (v ∷ []) more.0))
+pub after_more : {V : Type 0} (vs : List V) (v : V) (o : Option (List V × Left)) → beyond vs (o and_then λ us. Some (v ∷ us.0, us.1)) ≡ beyond (vs ++ v ∷ []) o
+after_more vs v None = refl
+after_more vs v (Some more) = ap (λ l. Some (l, more.1)) (sym (append_assoc vs (v ∷ []) more.0))
 
 -- a list after its count
 pub list_is : {V : Type 0} (from : Left → Option (V × Left)) (v : Var) (n : ℕ) (vs : List V) (s t u : Left) → next_number v s ≡ Some (n, t) → times_from from n t ≡ Some (vs, u) → (next_number v s and_then λ m. times_from from m.0 m.1) ≡ Some (vs, u)

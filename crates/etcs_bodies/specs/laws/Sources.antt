@@ -58,8 +58,8 @@ none_in_bits b k =
     ]
 
 -- a number after those that are taken
-behind : (k w : ℕ) (b : List Bool) → 0 < w → number_at 0 w (drop k b) ≡ number_at k w b
-behind k w b h =
+beyond : (k w : ℕ) (b : List Bool) → 0 < w → number_at 0 w (drop k b) ≡ number_at k w b
+beyond k w b h =
     elim (cases_lt (length b) (k + w)) [
       | inl past ↦ number_past 0 w (drop k b) (omega (arith, length-drop k b)) ∙ sym (number_past k w b past)
       | inr inside ↦
@@ -81,13 +81,13 @@ none_in v b h = rw h refl
 
 pub next_is_in_bits : (v : Var) (n : ℕ) (b : List Bool) (k : ℕ) → number_at k (width v) b ≡ Some n → admits v n ≡ true → next_number v (in_bits (drop k b)) ≡ Some (n, in_bits (drop (k + width v) b))
 next_is_in_bits v n b k h ok =
-    next_in v n (drop k b) (behind k (width v) b (width_pos v) ∙ h) ok ∙ ap (λ l. Some (n, in_bits l)) (drop-drop (width v) k b)
+    next_in v n (drop k b) (beyond k (width v) b (width_pos v) ∙ h) ok ∙ ap (λ l. Some (n, in_bits l)) (drop-drop (width v) k b)
 
 pub not_in_bits : (v : Var) (n : ℕ) (b : List Bool) (k : ℕ) → number_at k (width v) b ≡ Some n → admits v n ≡ false → next_number v (in_bits (drop k b)) ≡ None
-not_in_bits v n b k h bad = not_in v n (drop k b) (behind k (width v) b (width_pos v) ∙ h) bad
+not_in_bits v n b k h bad = not_in v n (drop k b) (beyond k (width v) b (width_pos v) ∙ h) bad
 
 pub no_more_bits : (v : Var) (b : List Bool) (k : ℕ) → number_at k (width v) b ≡ None → next_number v (in_bits (drop k b)) ≡ None
-no_more_bits v b k h = none_in v (drop k b) (behind k (width v) b (width_pos v) ∙ h)
+no_more_bits v b k h = none_in v (drop k b) (beyond k (width v) b (width_pos v) ∙ h)
 
 some_bit : (b : List Bool) → nat_le (0 + 1) (suc (length b)) ≡ true
 some_bit b = le-leb (0 + 1) (suc (length b)) (omega arith)
@@ -114,7 +114,7 @@ no_flag_in v [] h = refl
 no_flag_in v (c ∷ b) h = let both : ◌≡◌ {A = Option ℕ} (Some (bit c)) None = sym (first_bit c b) ∙ h in absurd cc
 
 pub flag_is_in_bits : (v : Var) (n : ℕ) (b : List Bool) (k : ℕ) → number_at k 1 b ≡ Some n → next_flag v (in_bits (drop k b)) ≡ Some (nat_eq n 1, in_bits (drop (k + 1) b))
-flag_is_in_bits v n b k h = flag_in v n (drop k b) (behind k 1 b (omega arith) ∙ h) ∙ ap (λ l. Some (nat_eq n 1, in_bits l)) (drop-drop 1 k b)
+flag_is_in_bits v n b k h = flag_in v n (drop k b) (beyond k 1 b (omega arith) ∙ h) ∙ ap (λ l. Some (nat_eq n 1, in_bits l)) (drop-drop 1 k b)
 
 pub no_flag_in_bits : (v : Var) (b : List Bool) (k : ℕ) → number_at k 1 b ≡ None → next_flag v (in_bits (drop k b)) ≡ None
-no_flag_in_bits v b k h = no_flag_in v (drop k b) (behind k 1 b (omega arith) ∙ h)
+no_flag_in_bits v b k h = no_flag_in v (drop k b) (beyond k 1 b (omega arith) ∙ h)

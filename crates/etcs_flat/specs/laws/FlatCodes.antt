@@ -22,7 +22,7 @@ use Rattle.etcs_bodies.specs.Packets.{packet_to, packet_from}
 use Rattle.etcs_bodies.specs.PacketCodes.{PacketCodes, directed_from}
 use Rattle.etcs_bodies.specs.laws.PacketCodes.{direction_ok, direction_admitted, same_direction, packet_codes}
 use Rattle.etcs_flat.specs.Flats.{FlatValue, flat_value, variables, flat_row_to, flat_row, numbers_fault, row_fault, flat_fault_to, flat_fault, pairs, row_reading, flat_reading_to, flat_reading}
-use Rattle.etcs_flat.specs.laws.FlatLaws.{none_both, number_fine, fine_number, behind_first, pairs-short, row_short, nothing_wrong, nothing_found}
+use Rattle.etcs_flat.specs.laws.FlatLaws.{none_both, number_fine, fine_number, after_first, pairs-short, row_short, nothing_wrong, nothing_found}
 use Rattle.etcs_flat.specs.Tables.{table_from}
 use Rattle.etcs_flat.specs.FlatCodes.{row_of, AreNumbers, known, Flatly, row_from, flat_from_to, flat_from}
 
@@ -76,7 +76,7 @@ same_layout : (row : Layout) (vs : List Var) → variables row ≡ Some vs → r
 same_layout whole [] is = refl
 same_layout whole (v ∷ vs) is = absurd cc
 same_layout (one v rest) vs is =
-    let f = behind_first v (variables rest) vs is in
+    let f = after_first v (variables rest) vs is in
     ap (one v) (same_layout rest f.0 f.1) ∙ ap (λ (ws : List Var). row_of ws whole) f.2
 same_layout (guarded g group rest) vs is = absurd cc
 same_layout (counted group rest) vs is = absurd cc

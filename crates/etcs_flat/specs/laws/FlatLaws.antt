@@ -53,9 +53,9 @@ same_count m n x y e = grind (arith, rules)
 -- ---- Readings of a row without groups.
 
 -- the variables of a row that begins with one
-pub behind_first : (v : Var) (o : Option (List Var)) (vs : List Var) → option_map (λ ws. v ∷ ws) o ≡ Some vs → (ws : List Var) × (o ≡ Some ws) × (v ∷ ws ≡ vs)
-behind_first v (Some ws) vs e = (ws, refl, cc)
-behind_first v None vs e = absurd cc
+pub after_first : (v : Var) (o : Option (List Var)) (vs : List Var) → option_map (λ ws. v ∷ ws) o ≡ Some vs → (ws : List Var) × (o ≡ Some ws) × (v ∷ ws ≡ vs)
+after_first v (Some ws) vs e = (ws, refl, cc)
+after_first v None vs e = absurd cc
 
 pub pairs-short : (vs : List Var) (ns : List ℕ) → length (spelled (pairs vs ns)) ≤ 64 * length vs
 pairs-short [] ns = omega arith

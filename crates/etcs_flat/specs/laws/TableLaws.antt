@@ -16,8 +16,8 @@ use Rattle.etcs_flat.specs.Flats.{flat_row_to, flat_fault_to, pairs, row_reading
 use Rattle.etcs_flat.specs.laws.FlatLaws.{nothing_wrong, row_short}
 use Rattle.etcs_flat.specs.Tables.{item_width, table_pairs, table_from}
 use Rattle.etcs_bodies.specs.Taking.{Left, next_number}
-use Rattle.etcs_bodies.specs.Repeats.{behind}
-use Rattle.etcs_bodies.specs.laws.Repeats.{behind_more}
+use Rattle.etcs_bodies.specs.Repeats.{beyond}
+use Rattle.etcs_bodies.specs.laws.Repeats.{after_more}
 use Rattle.std.specs.List.{list_all}
 use Rattle.etcs_tables.specs.Layouts.{Layout, whole, one, guarded, counted, items}
 
@@ -44,10 +44,10 @@ width_narrow v = width-le v
 -- ---- Numbers that are taken.
 
 -- one more, and none where the next isn't there or is a group
-pub taken_more : (ns : List ℕ) (v : Var) (n : ℕ) (table : List RowItem) (s t : Left) → next_number v s ≡ Some (n, t) → behind ns (table_from (One v ∷ table) s) ≡ behind (ns ++ n ∷ []) (table_from table t)
-taken_more ns v n table s t h = rw h (behind_more ns n (table_from table t))
+pub taken_more : (ns : List ℕ) (v : Var) (n : ℕ) (table : List RowItem) (s t : Left) → next_number v s ≡ Some (n, t) → beyond ns (table_from (One v ∷ table) s) ≡ beyond (ns ++ n ∷ []) (table_from table t)
+taken_more ns v n table s t h = rw h (after_more ns n (table_from table t))
 
-pub taken_none : (ns : List ℕ) (v : Var) (table : List RowItem) (s : Left) → next_number v s ≡ None → behind ns (table_from (One v ∷ table) s) ≡ None
+pub taken_none : (ns : List ℕ) (v : Var) (table : List RowItem) (s : Left) → next_number v s ≡ None → beyond ns (table_from (One v ∷ table) s) ≡ None
 taken_none ns v table s h = rw h refl
 
 -- ---- The table of a row without groups.

@@ -25,7 +25,7 @@ use Rattle.etcs_sequence.specs.laws.OpenLaws.{part_regular, opens_begins, opens_
 use Rattle.etcs_sequence.specs.laws.StageLaws.{open_next}
 use Rattle.etcs_messages.specs.declared.phase.Phase.{Phase}
 use Rattle.etcs_messages.specs.declared.phase.Phase.TheVariants as phase
-use Rattle.etcs_messages.specs.Lefts.{front_row, front_vars, front_bits, PaddingLeft, PaddedBy, Padded, PacketsBehind, PacketsFrom, Behind, LengthLeft, NumberLeft, left_at, next_at, is_message, stands_at, MessageState, Left, next_var, HoldsIn, Follows}
+use Rattle.etcs_messages.specs.Lefts.{front_row, front_vars, front_bits, PaddingLeft, PaddedBy, Padded, PacketsAfter, PacketsFrom, AfterMessageLength, LengthLeft, NumberLeft, left_at, next_at, is_message, stands_at, MessageState, Left, next_var, HoldsIn, Follows}
 
 -- ---- NID_MESSAGE and L_MESSAGE.
 
@@ -39,11 +39,11 @@ number_opens way = record {
 }
 
 -- the length of a message is below 1024 bytes
-pub length_small : (way : Way) (found : Option (List Var)) (len : ℕ) (r : Reading) → Behind way found len r → len < 2 ^ 10
+pub length_small : (way : Way) (found : Option (List Var)) (len : ℕ) (r : Reading) → AfterMessageLength way found len r → len < 2 ^ 10
 length_small way None len r h = h.1
 length_small way (Some vs) len r h = h.1
 
-pub length_opens : (way : Way) (nid : ℕ) → Opens (LengthLeft way nid) L_MESSAGE (Behind way (front_row way nid))
+pub length_opens : (way : Way) (nid : ℕ) → Opens (LengthLeft way nid) L_MESSAGE (AfterMessageLength way (front_row way nid))
 length_opens way nid = record {
   opens = λ r (n, q, e, h). (n, q, e, length_small way (front_row way nid) n q h, h);
   closes = λ n q h. (n, q, refl, h);
@@ -55,8 +55,8 @@ padded_regular P room p = chain_regular P (PaddedBy room) p (λ a _. bits_regula
 kept_regular : (n : ℕ) → Regular (KeptIn n)
 kept_regular n = bits_regular OTHER_DATA refl n
 
-after_length : (way : Way) (found : Option (List Var)) (len : ℕ) → Regular (Behind way found len)
-after_length way None len = part_regular (Behind way None len) (KeptIn (8 * len - 18)) (λ r h. h.2) (kept_regular (8 * len - 18))
+after_length : (way : Way) (found : Option (List Var)) (len : ℕ) → Regular (AfterMessageLength way found len)
+after_length way None len = part_regular (AfterMessageLength way None len) (KeptIn (8 * len - 18)) (λ r h. h.2) (kept_regular (8 * len - 18))
 after_length way (Some vs) len =
     let room = 8 * len - front_bits vs in
     let packets : Regular (PacketsFrom way (front_bits vs) len) = padded_regular (PacketsIn (Message way) room) room (run_regular (Message way) room) in
@@ -64,21 +64,21 @@ after_length way (Some vs) len =
     record { agree = λ a b h k. all.agree a b h.2 k.2; fit = λ a h. all.fit a h.2 }
 
 length_regular : (way : Way) (nid : ℕ) → Regular (LengthLeft way nid)
-length_regular way nid = opens_regular (LengthLeft way nid) L_MESSAGE (Behind way (front_row way nid)) (length_opens way nid) (λ n. after_length way (front_row way nid) n)
+length_regular way nid = opens_regular (LengthLeft way nid) L_MESSAGE (AfterMessageLength way (front_row way nid)) (length_opens way nid) (λ n. after_length way (front_row way nid) n)
 
 number_regular : (way : Way) → Regular (NumberLeft way)
 number_regular way = opens_regular (NumberLeft way) NID_MESSAGE (AfterNumber way) (number_opens way) (λ n. part_regular (AfterNumber way n) (LengthLeft way n) (λ r h. h.1) (length_regular way n))
 
 -- ---- Any phase.
 
-behind_regular : (l : PacketsState) → Regular (PacketsBehind l)
-behind_regular l = padded_regular (left_of l.carrier l.room l.stage) (ahead l.carrier l.room l.stage) (left_regular l.carrier l.room l.stage)
+after_regular : (l : PacketsState) → Regular (PacketsAfter l)
+after_regular l = padded_regular (left_of l.carrier l.room l.stage) (ahead l.carrier l.room l.stage) (left_regular l.carrier l.room l.stage)
 
 regular_at : (way : Way) (nid : ℕ) (l : PacketsState) (stage : Phase) → Regular (left_at way nid stage l)
 regular_at way nid l phase.Number = number_regular way
 regular_at way nid l phase.Length = length_regular way nid
-regular_at way nid l (phase.Front at) = chain_regular (ReadsFields (drop at (front_vars way nid))) (λ _. PacketsBehind l) (fields_regular (drop at (front_vars way nid))) (λ _ _. behind_regular l)
-regular_at way nid l phase.Packets = behind_regular l
+regular_at way nid l (phase.Front at) = chain_regular (ReadsFields (drop at (front_vars way nid))) (λ _. PacketsAfter l) (fields_regular (drop at (front_vars way nid))) (λ _ _. after_regular l)
+regular_at way nid l phase.Packets = after_regular l
 regular_at way nid l (phase.Padding left) = bits_regular PADDING refl left
 regular_at way nid l (phase.Data left) = kept_regular left
 regular_at way nid l phase.Whole = record { agree = λ a b e f. rw (e, f) tt; fit = λ a e. rw e tt }
@@ -89,8 +89,8 @@ begins_at way nid l phase.Number n h x e =
     subst (BeginsWith (NumberLeft way)) same (opens_begins (NumberLeft way) NID_MESSAGE (AfterNumber way) (number_opens way))
 begins_at way nid l phase.Length n h x e =
     let same : L_MESSAGE ≡ x = cc in
-    subst (BeginsWith (LengthLeft way nid)) same (opens_begins (LengthLeft way nid) L_MESSAGE (Behind way (front_row way nid)) (length_opens way nid))
-begins_at way nid l (phase.Front at) n h x e = chain_begins (ReadsFields (drop at (front_vars way nid))) (λ _. PacketsBehind l) x (fields_begin (drop at (front_vars way nid)) x e)
+    subst (BeginsWith (LengthLeft way nid)) same (opens_begins (LengthLeft way nid) L_MESSAGE (AfterMessageLength way (front_row way nid)) (length_opens way nid))
+begins_at way nid l (phase.Front at) n h x e = chain_begins (ReadsFields (drop at (front_vars way nid))) (λ _. PacketsAfter l) x (fields_begin (drop at (front_vars way nid)) x e)
 begins_at way nid l phase.Packets n h x e = chain_begins (left_of l.carrier l.room l.stage) (PaddedBy (ahead l.carrier l.room l.stage)) x (left_begins l.carrier l.room l.stage l.stands x e)
 begins_at way nid l (phase.Padding left) n h x e =
     let same : PADDING ≡ x = cc in

@@ -28,9 +28,9 @@ confirmed_is n (Some (shown, Some report)) = refl
 
 pub text_frame_bits : (t : TextFrameValue) → length (spelled (reading text_frame_format t)) ≡ 45 + length (spelled (reading shown_format t.start)) + length (spelled (reading shown_format t.end)) + confirmed_count t.confirm
 text_frame_bits t =
-    let behind = reading confirmed_format (t.q_textconfirm, t.confirm) in
-    let end = bit_count-append (reading shown_format t.end) behind in
-    let start = bit_count-append (reading shown_format t.start) ((L_TEXTDISPLAY, t.l_textdisplay) ∷ (T_TEXTDISPLAY, t.t_textdisplay) ∷ (reading shown_format t.end ++ behind)) in
+    let beyond = reading confirmed_format (t.q_textconfirm, t.confirm) in
+    let end = bit_count-append (reading shown_format t.end) beyond in
+    let start = bit_count-append (reading shown_format t.start) ((L_TEXTDISPLAY, t.l_textdisplay) ∷ (T_TEXTDISPLAY, t.t_textdisplay) ∷ (reading shown_format t.end ++ beyond)) in
     let confirm = confirmed_is t.q_textconfirm t.confirm in
     rw (bit_count_is (reading text_frame_format t), bit_count_is (reading shown_format t.start), bit_count_is (reading shown_format t.end)) (omega arith)
 

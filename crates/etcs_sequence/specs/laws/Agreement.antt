@@ -22,7 +22,7 @@ use Rattle.etcs_packets.specs.PacketReadings.{in_frame, reading_to}
 use Rattle.etcs_packets.specs.laws.PacketReadings.{bits_are}
 use Rattle.etcs_sequence.specs.Contents.{Carries, PacketsIn, ReadsPackets, IsUnmarked}
 use Rattle.etcs_sequence.specs.laws.Others.{kept_parts, kept_untyped, kept_framed}
-use Rattle.etcs_sequence.specs.laws.RunSteps.{carried_packet, behind}
+use Rattle.etcs_sequence.specs.laws.RunSteps.{carried_packet, beyond}
 use Rattle.etcs_sequence.specs.laws.Framed.{framed_parts, typed_framed, framed_small, framed_unmarked, marker_marked, marker_small, frame_between, row_limit}
 
 -- ---- Packets.
@@ -125,7 +125,7 @@ agree_closed v r h = let b = numbered_below v h in rw b.2 (refl, λ e. absurd (l
 -- a message that is full has no packet more
 pub full : (way : Way) (room : ℕ) (v : PacketValue) (vs : List PacketValue) (r q : Reading) → ReadsPackets (Message way) room [] r → ReadsPackets (Message way) room (v ∷ vs) q → ⊥
 full way room v vs r q done run =
-    let b = behind (Message way) room (bits_to way v) v vs q run (bits_are way v) in
+    let b = beyond (Message way) room (bits_to way v) v vs q run (bits_are way v) in
     let none : length (spelled r) ≡ 0 = ap (λ (t : Reading). length (spelled t)) done.reading_is in
     omega (arith, done.fills.1, none, b.2, some_bits way v)
 
@@ -133,17 +133,17 @@ runs_agree : (c : Carrier) (room : ℕ) (vs us : List PacketValue) (r q : Readin
 runs_agree Telegram room [] [] r q hr hq = rw (hr.reading_is, hq.reading_is) (refl, λ e. tt)
 runs_agree (Message way) room [] [] r q hr hq = rw (hr.reading_is, hq.reading_is) tt
 runs_agree Telegram room [] (u ∷ us) r q hr hq =
-    let b = behind Telegram room (bits_to ToTrain u) u us q hq (bits_are ToTrain u) in
+    let b = beyond Telegram room (bits_to ToTrain u) u us q hq (bits_are ToTrain u) in
     rw (hr.reading_is, b.1) (closed_agree u b.0 (All-head (Carries Telegram) u us hq.carried))
 runs_agree (Message way) room [] (u ∷ us) r q hr hq = absurd (full way room u us r q hr hq)
 runs_agree Telegram room (v ∷ vs) [] r q hr hq =
-    let b = behind Telegram room (bits_to ToTrain v) v vs r hr (bits_are ToTrain v) in
+    let b = beyond Telegram room (bits_to ToTrain v) v vs r hr (bits_are ToTrain v) in
     rw (hq.reading_is, b.1) (agree_closed v b.0 (All-head (Carries Telegram) v vs hr.carried))
 runs_agree (Message way) room (v ∷ vs) [] r q hr hq = absurd (full way room v vs q r hq hr)
 runs_agree c room (v ∷ vs) (u ∷ us) r q hr hq =
     let way = way_of c in
-    let bv = behind c room (bits_to way v) v vs r hr (bits_are way v) in
-    let bu = behind c room (bits_to way u) u us q hq (bits_are way u) in
+    let bv = beyond c room (bits_to way v) v vs r hr (bits_are way v) in
+    let bu = beyond c room (bits_to way u) u us q hq (bits_are way u) in
     let first = packet_agree way v u (carried_packet c v (All-head (Carries c) v vs hr.carried)) (carried_packet c u (All-head (Carries c) u us hq.carried)) in
     rw (bv.1, bu.1) (
     Agree-append (reading_to way v) (reading_to way u) bv.0 bu.0 first
@@ -155,7 +155,7 @@ runs_fit Telegram room [] r h = rw h.reading_is (omega arith, tt)
 runs_fit (Message way) room [] r h = rw h.reading_is tt
 runs_fit c room (v ∷ vs) r h =
     let way = way_of c in
-    let b = behind c room (bits_to way v) v vs r h (bits_are way v) in
+    let b = beyond c room (bits_to way v) v vs r h (bits_are way v) in
     rw b.1 (AllFit-append (reading_to way v) b.0 (packet_fit way v (carried_packet c v (All-head (Carries c) v vs h.carried))) (runs_fit c (room - bits_to way v) vs b.0 b.3))
 
 pub run_regular : (c : Carrier) (room : ℕ) → Regular (PacketsIn c room)

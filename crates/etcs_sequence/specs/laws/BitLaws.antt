@@ -90,8 +90,8 @@ module _ (v : Var) (one : width v ≡ 1) where
       let one_is : m / 2 ^ 0 ≡ m = omega arith in
       omega (arith, g, q, one_is, bit_below b)
 
-  pub bits_behind : (n : ℕ) (t : List Bool) → length t ≤ n → Residual (BitsLeft v n) (kept v t) (BitsLeft v (n - length t))
-  bits_behind n t le = record {
+  pub bits_after : (n : ℕ) (t : List Bool) → length t ≤ n → Residual (BitsLeft v n) (kept v t) (BitsLeft v (n - length t))
+  bits_after n t le = record {
     to = λ q (f, l, e). (let r = bits_cut v t f q (omega (arith, l, le)) e in (r.0, (let m = r.1 in omega (arith, m, l)), r.2));
     from = λ q (g, l, e). (t ++ g, omega (arith, length-append t g, l, le), ap (λ (x : Reading). kept v t ++ x) e ∙ sym (bits_append v t g));
   }

@@ -23,12 +23,12 @@ module _ (L : Reading → Type 0) (x : Var) (After : ℕ → Reading → Type 0)
   opens_begins r l = let (n, q, e, small, a) = o.opens r l in (n, q, e)
 
   pub opens_regular : ((n : ℕ) → Regular (After n)) → Regular L
-  opens_regular behind = record {
+  opens_regular beyond = record {
     agree = λ a b la lb.
         let (n, p, e, small, h) = o.opens a la in
         let (m, q, f, small', k) = o.opens b lb in
-        rw (e, f) (refl, λ s. (behind n).agree p q h (let same : m ≡ n = sym (ap (λ (u : Sent). u.1) s) in subst (λ (j : ℕ). After j q) same k));
-    fit = λ a la. let (n, p, e, small, h) = o.opens a la in rw e (small, (behind n).fit p h);
+        rw (e, f) (refl, λ s. (beyond n).agree p q h (let same : m ≡ n = sym (ap (λ (u : Sent). u.1) s) in subst (λ (j : ℕ). After j q) same k));
+    fit = λ a la. let (n, p, e, small, h) = o.opens a la in rw e (small, (beyond n).fit p h);
   }
 
   opens_after : (n : ℕ) (q : Reading) → L ((x, n) ∷ q) → After n q
@@ -37,8 +37,8 @@ module _ (L : Reading → Type 0) (x : Var) (After : ℕ → Reading → Type 0)
       let h = head_of x n m q q' e in
       rw (h.0, h.1) at a
 
-  pub opens_behind : (n : ℕ) → Residual L ((x, n) ∷ []) (After n)
-  opens_behind n = record { to = λ q l. opens_after n q l; from = λ q a. o.closes n q a }
+  pub opens_beyond : (n : ℕ) → Residual L ((x, n) ∷ []) (After n)
+  opens_beyond n = record { to = λ q l. opens_after n q l; from = λ q a. o.closes n q a }
 
   -- something continues
   pub opens_goes : Goes L → (n : ℕ) × (r : Reading) × After n r

@@ -30,9 +30,9 @@ pub both_length : (a b : Reading) → length (spelled (a ++ b)) ≡ length (spel
 both_length a b = ap length (spelled-append a b) ∙ length-append (spelled a) (spelled b)
 
 -- a packet's bits leave as much of the room after it
-pub fills_behind : (c : Carrier) (room l m : ℕ) → Fills c room (l + m) → (l ≤ room) × Fills c (room - l) m
-fills_behind Telegram room l m h = (omega (arith, h), omega (arith, h))
-fills_behind (Message way) room l m h = (omega (arith, h.0), (omega (arith, h.0), omega (arith, h.1)))
+pub fills_after : (c : Carrier) (room l m : ℕ) → Fills c room (l + m) → (l ≤ room) × Fills c (room - l) m
+fills_after Telegram room l m h = (omega (arith, h), omega (arith, h))
+fills_after (Message way) room l m h = (omega (arith, h.0), (omega (arith, h.0), omega (arith, h.1)))
 
 pub fills_before : (c : Carrier) (room l m : ℕ) → l ≤ room → Fills c (room - l) m → Fills c room (l + m)
 fills_before Telegram room l m le h = omega (arith, le, h)
@@ -52,12 +52,12 @@ in_front c room l v q carried len le (vs, run) = (
 )
 
 -- what is after the first packet of a run
-pub behind : (c : Carrier) (room l : ℕ) (v : PacketValue) (vs : List PacketValue) (r : Reading) → ReadsPackets c room (v ∷ vs) r → length (spelled (reading_to (way_of c) v)) ≡ l → (q : Reading) × (r ≡ reading_to (way_of c) v ++ q) × (l ≤ room) × ReadsPackets c (room - l) vs q
-behind c room l v vs r run len =
+pub beyond : (c : Carrier) (room l : ℕ) (v : PacketValue) (vs : List PacketValue) (r : Reading) → ReadsPackets c room (v ∷ vs) r → length (spelled (reading_to (way_of c) v)) ≡ l → (q : Reading) × (r ≡ reading_to (way_of c) v ++ q) × (l ≤ room) × ReadsPackets c (room - l) vs q
+beyond c room l v vs r run len =
     let q = readings_to (way_of c) vs ++ closing c in
     let e : r ≡ reading_to (way_of c) v ++ q = run.reading_is ∙ append_assoc (reading_to (way_of c) v) (readings_to (way_of c) vs) (closing c) in
     let total : length (spelled r) ≡ l + length (spelled q) = ap (λ (t : Reading). length (spelled t)) e ∙ both_length (reading_to (way_of c) v) q ∙ ap (λ (k : ℕ). k + length (spelled q)) len in
-    let f = fills_behind c room l (length (spelled q)) (rw total at run.fills) in
+    let f = fills_after c room l (length (spelled q)) (rw total at run.fills) in
     (q, e, f.0, record { carried = All-tail (Carries c) v vs run.carried; reading_is = refl; fills = f.1 })
 
 pub carried_packet : (c : Carrier) (v : PacketValue) → Carries c v → IsPacketTo (way_of c) v
@@ -75,9 +75,9 @@ framed_opens c room nid dir bits body r q framed a short b le run e =
     let way = way_of c in
     let n = frame_bits way in
     let less : n + bits - n ≡ bits = omega arith in
-    let behind : Reading = (L_PACKET, n + bits) ∷ (body ++ q) in
+    let beyond : Reading = (L_PACKET, n + bits) ∷ (body ++ q) in
     let after : AfterLength c nid room (n + bits) (body ++ q) = (omega arith, omega (arith, short, (frame_between way).1), le, (body, q, refl, rw less b, run)) in
-    (nid, directed way dir behind, e ∙ in_frame-append way nid dir bits body q, framed_small way nid framed, inr (inr (framed, (dir, behind, refl, a, (n + bits, body ++ q, refl, after)))))
+    (nid, directed way dir beyond, e ∙ in_frame-append way nid dir bits body q, framed_small way nid framed, inr (inr (framed, (dir, beyond, refl, a, (n + bits, body ++ q, refl, after)))))
 
 number_opens : (c : Carrier) (room : ℕ) (vs : List PacketValue) (r : Reading) → IsOpen c room → ReadsPackets c room vs r → (n : ℕ) × (r' : Reading) × (r ≡ (NID_PACKET, n) ∷ r') × (n < 2 ^ 8) × AfterNumber c room n r'
 number_opens Telegram room [] r more run =
@@ -87,7 +87,7 @@ number_opens (Message way) room [] r more run =
     let len : length (spelled r) ≡ 0 = ap (λ (t : Reading). length (spelled t)) run.reading_is in
     absurd (omega (arith, len, run.fills.1, more))
 number_opens Telegram room (packets.marker n ∷ vs) r more run =
-    let b = behind Telegram room 14 (packets.marker n) vs r run (marker_length n []) in
+    let b = beyond Telegram room 14 (packets.marker n) vs r run (marker_length n []) in
     (0, (NID_VBCMK, n) ∷ b.0, b.1, omega arith, inr (inl (refl, refl, (n, b.0, refl, (All-head (Carries Telegram) (packets.marker n) vs run.carried, b.2, (vs, b.3))))))
 number_opens (Message way) room (packets.marker n ∷ vs) r more run = let first = All-head (Carries (Message way)) (packets.marker n) vs run.carried in absurd (marker_marked way n first.0 first.1)
 number_opens c room (packets.typed nid dir body ∷ vs) r more run =
@@ -95,7 +95,7 @@ number_opens c room (packets.typed nid dir body ∷ vs) r more run =
     let v = packets.typed nid dir body in
     let bits = length (spelled body) in
     let (row, e, a, reads, short) = carried_packet c v (All-head (Carries c) v vs run.carried) in
-    let b = behind c room (frame_bits way + bits) v vs r run (length-in_frame way nid dir bits body) in
+    let b = beyond c room (frame_bits way + bits) v vs r run (length-in_frame way nid dir bits body) in
     framed_opens c room nid dir bits body r b.0 (typed_framed way nid row e) a (omega (arith, short, row_limit way)) (inl (row, e, (reads, refl))) b.2 (vs, b.3) b.1
 number_opens c room (packets.kept nid dir bs ∷ vs) r more run =
     let way = way_of c in
@@ -103,7 +103,7 @@ number_opens c room (packets.kept nid dir bs ∷ vs) r more run =
     let bits = length bs in
     let k = kept_parts way nid dir bits (carried_packet c v (All-head (Carries c) v vs run.carried)) in
     let len = length-in_frame way nid dir bits (kept OTHER_DATA bs) ∙ ap (λ (j : ℕ). frame_bits way + j) (length-kept bs) in
-    let b = behind c room (frame_bits way + bits) v vs r run len in
+    let b = beyond c room (frame_bits way + bits) v vs r run len in
     framed_opens c room nid dir bits (kept OTHER_DATA bs) r b.0 (kept_framed way nid k.0) k.1 k.2 (inr (k.0, (bs, refl, refl))) b.2 (vs, b.3) b.1
 
 -- a frame and its body are a packet

@@ -37,7 +37,7 @@ bad_items kind b es line place endless h = (endless, h)
 
 front_of : (text bytes : List ℕ) (line place : ℕ) → IsBad text bytes line place → SaysFirst Hex text bytes
 front_of text bytes line place bad = elim bad.text_is [
-  | inl h ↦ inl (bad.lines, bad.bad ++ 10 ∷ bad.behind, h.0, bad.lines_good, bad.bytes_are)
+  | inl h ↦ inl (bad.lines, bad.bad ++ 10 ∷ bad.beyond, h.0, bad.lines_good, bad.bytes_are)
   | inr h ↦ inl (bad.lines, bad.bad, h.0, bad.lines_good, bad.bytes_are)
 ]
 

@@ -74,9 +74,9 @@ hex_short job reader after lines part output h long =
 -- nor has it an item
 last_short : (kind : Kind) (lines : List (List ℕ)) (part : List ℕ) (es : List EntryValue) → AreItemLines kind (map strip_cr (lines ++ part ∷ [])) es → length (strip_cr part) ≤ 1048576
 last_short kind [] part es (inl h) = omega (arith, ap length h.0)
-last_short kind [] part es (inr (e, behind, is, item, h)) = item.1
+last_short kind [] part es (inr (e, beyond, is, item, h)) = item.1
 last_short kind (line ∷ lines) part es (inl h) = last_short kind lines part es h.1
-last_short kind (line ∷ lines) part es (inr (e, behind, is, item, h)) = last_short kind lines part behind h
+last_short kind (line ∷ lines) part es (inr (e, beyond, is, item, h)) = last_short kind lines part beyond h
 
 pub json_short : (job : Job) (after : Reported) (lines : List (List ℕ)) (part output : List ℕ) → JsonTook job after (lines ++ part ∷ []) output → most_characters job.from + 1 < length part → ⊥
 json_short job after lines part output h long =

@@ -28,7 +28,7 @@ use Rattle.etcs_telegram.specs.declared.phase.Phase.TheVariants.{Header, Packets
 use Rattle.etcs_telegram.specs.Telegrams.{pad_bits}
 use Rattle.etcs_tables.specs.Headers.{header_row}
 use Rattle.etcs_telegram.specs.Phases.{PadLeft, FillLeft}
-use Rattle.etcs_telegram.specs.Lefts.{FillBy, PacketsBehind, left_at, next_at, is_open, stands_at, TelegramState, Left, next_var, HoldsIn, Follows}
+use Rattle.etcs_telegram.specs.Lefts.{FillBy, PacketsAfter, left_at, next_at, is_open, stands_at, TelegramState, Left, next_var, HoldsIn, Follows}
 
 -- ---- FILL and PAD.
 
@@ -51,20 +51,20 @@ pad_begins (suc n) some r e = (0, kept PAD (replicate n false), e)
 -- ---- Packets with FILL after them.
 
 module _ (size : Size) (l : PacketsState) where
-  behind_regular : Regular (PacketsBehind size l)
-  behind_regular =
+  after_regular : Regular (PacketsAfter size l)
+  after_regular =
       let room = ahead l.carrier l.room l.stage in
       chain_regular (left_of l.carrier l.room l.stage) (FillBy size room) (left_regular l.carrier l.room l.stage) (λ a _. fill_regular size (room - length (spelled a)))
 
   regular_at : (phase : Phase) → Regular (left_at size phase l)
-  regular_at (Header at) = chain_regular (ReadsFields (drop at header_row)) (λ _. PacketsBehind size l) (fields_regular (drop at header_row)) (λ _ _. behind_regular)
-  regular_at Packets = behind_regular
+  regular_at (Header at) = chain_regular (ReadsFields (drop at header_row)) (λ _. PacketsAfter size l) (fields_regular (drop at header_row)) (λ _ _. after_regular)
+  regular_at Packets = after_regular
   regular_at (Fill left) = fill_regular size left
   regular_at (Pad left) = pad_regular left
   regular_at Whole = pad_regular 0
 
   begins_at : (phase : Phase) (n : ℕ) → IsTrue (stands_at phase n l) → (x : Var) → next_at phase l ≡ Some x → BeginsWith (left_at size phase l) x
-  begins_at (Header at) n h x e = chain_begins (ReadsFields (drop at header_row)) (λ _. PacketsBehind size l) x (fields_begin (drop at header_row) x e)
+  begins_at (Header at) n h x e = chain_begins (ReadsFields (drop at header_row)) (λ _. PacketsAfter size l) x (fields_begin (drop at header_row) x e)
   begins_at Packets n h x e = chain_begins (left_of l.carrier l.room l.stage) (FillBy size (ahead l.carrier l.room l.stage)) x (left_begins l.carrier l.room l.stage l.stands x e)
   begins_at (Fill left) n h x e =
       let same : FILL ≡ x = cc in

@@ -3,7 +3,7 @@ use Rattle.std.proofs.lemmas.List.{length-take, length-drop}
 use borrow.Rule.Slice.PartMut.{put_mid}
 use Rattle.etcs_bits.specs.Bits.{bits, part, replaced}
 use Rattle.etcs_bits.proofs.Positions.{length-bits}
-use Rattle.etcs_bits.proofs.Copies.{part_length, words_behind, written_by_three}
+use Rattle.etcs_bits.proofs.Copies.{part_length, words_after, written_by_three}
 use Rattle.etcs_bits.proofs.inner.write_slice.Goals as goal
 
 pub slice_bounds-copy_words-count : goal.slice_bounds-copy_words-count
@@ -32,8 +32,8 @@ write_part-requires-3-clause-inside c =
     let words = 64 * ((c.len-2.result - front - 8) / 64) in
     let one = c.write_part-2.new.bytes in
     let at = c.byte_of-at.result.0 in
-    let behind = words_behind c.args.bytes.now one c.copy_words.new.to c.args.slice.now c.args.start front words at (omega arith) (omega arith) (omega arith) c.write_part-2.ensures c.copy_words.ensures in
-    omega (arith, behind.1, length-bits c.args.bytes.now, length-bits (put_mid at (length one - at) one c.copy_words.new.to))
+    let beyond = words_after c.args.bytes.now one c.copy_words.new.to c.args.slice.now c.args.start front words at (omega arith) (omega arith) (omega arith) c.write_part-2.ensures c.copy_words.ensures in
+    omega (arith, beyond.1, length-bits c.args.bytes.now, length-bits (put_mid at (length one - at) one c.copy_words.new.to))
 
 pub returns : goal.returns
 returns c =
@@ -43,5 +43,5 @@ returns c =
     let one = c.write_part-2.new.bytes in
     let at = c.byte_of-at.result.0 in
     let two = put_mid at (length one - at) one c.copy_words.new.to in
-    let behind = words_behind c.args.bytes.now one c.copy_words.new.to seen c.args.start front words at (omega arith) (omega arith) (omega arith) c.write_part-2.ensures c.copy_words.ensures in
-    c.write_part-3.ensures ∙ ap (λ k. replaced (c.args.start + (front + words)) (part (front + words) (k - (front + words)) seen) (bits two)) c.len-3.ensures ∙ written_by_three seen (bits c.args.bytes.now) (bits one) (bits two) c.args.start front words (omega arith) (omega arith) c.write_part-2.ensures behind.0
+    let beyond = words_after c.args.bytes.now one c.copy_words.new.to seen c.args.start front words at (omega arith) (omega arith) (omega arith) c.write_part-2.ensures c.copy_words.ensures in
+    c.write_part-3.ensures ∙ ap (λ k. replaced (c.args.start + (front + words)) (part (front + words) (k - (front + words)) seen) (bits two)) c.len-3.ensures ∙ written_by_three seen (bits c.args.bytes.now) (bits one) (bits two) c.args.start front words (omega arith) (omega arith) c.write_part-2.ensures beyond.0

@@ -16,7 +16,7 @@ loop-field-preserved c =
     let f : EtcsField = get_or fields i (record { number = 0; var = 0; width = 0 }) in
     let more : take (i + 1) fields ≡ take i fields ++ f ∷ [] = take_more fields i (record { number = 0; var = 0; width = 0 }) c.loop-field-test.true in
     subst (λ (fs : List EtcsField). Packs fs c.args.out.now c.put-place.new.out c.put-place.result) (sym more)
-    (packs_more (take i fields) f c.args.out.now c.loop-field.out c.put-place.new.out c.loop-field.place c.put-place.result c.loop-field.invariant c.requires.room c.put-place.ensures.behind c.put-place.ensures.room c.put-place.ensures.bits)
+    (packs_more (take i fields) f c.args.out.now c.loop-field.out c.put-place.new.out c.loop-field.place c.put-place.result c.loop-field.invariant c.requires.room c.put-place.ensures.beyond c.put-place.ensures.room c.put-place.ensures.bits)
 
 pub returns-clause-inside : goal.returns-clause-inside
 returns-clause-inside c =

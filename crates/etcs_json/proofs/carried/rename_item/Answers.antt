@@ -37,7 +37,7 @@ returns-in-Telegram c =
     λ kind o other s.
     (let s' = rw c.in-Telegram.is at s in
     telegram_renamed (telegram_value t) r (items_view c.args.trees.now) old new x is long
-    (λ vs front behind values. c.rename.ensures.bits vs front behind (ap (map packet_value) c.packets.ensures ∙ values)) kind o s')
+    (λ vs front beyond values. c.rename.ensures.bits vs front beyond (ap (map packet_value) c.packets.ensures ∙ values)) kind o s')
 
 pub returns-in-Some : goal.returns-in-Some
 returns-in-Some c =

@@ -14,7 +14,7 @@ use Rattle.etcs_json_trees.proofs.carried.rename.Goals as goal
 pub loop-packet-init : goal.loop-packet-init
 loop-packet-init c = record {
   place_is = omega arith;
-  renaming = λ vs front behind values packets trees at is. renaming_start (bits c.args.bytes.now) front behind c.args.at vs c.args.packets.now (items_view c.args.trees.now) values packets trees at is;
+  renaming = λ vs front beyond values packets trees at is. renaming_start (bits c.args.bytes.now) front beyond c.args.at vs c.args.packets.now (items_view c.args.trees.now) values packets trees at is;
 }
 
 pub write-requires-clause-inside : goal.write-requires-clause-inside
@@ -59,14 +59,14 @@ loop-packet-preserved c =
     let next : l.place + c.bit_len-place.result ≡ l.place + bits_of (packet_value p) = omega (arith, c.bit_len-place.ensures.bits) in
     record {
       place_is = next ∙ next_place c.args.packets.now k _ p c.args.at l.place more t.0 (t.2 p) l.invariant.place_is;
-      renaming = λ vs front behind values packets trees at is. next_renamed c.args.packets.now c.args.trees.now k _ p tree old now _ behind l.place _ c.kept_number.result more t.0 t.1 (t.2 p) (t.3 tree) c.kept_number.ensures put next (l.invariant.renaming vs front behind values packets trees at is);
+      renaming = λ vs front beyond values packets trees at is. next_renamed c.args.packets.now c.args.trees.now k _ p tree old now _ beyond l.place _ c.kept_number.result more t.0 t.1 (t.2 p) (t.3 tree) c.kept_number.ensures put next (l.invariant.renaming vs front beyond values packets trees at is);
     }
 
 pub returns-clause-bits : goal.returns-clause-bits
-returns-clause-bits c = λ vs front behind values packets trees at is.
+returns-clause-bits c = λ vs front beyond values packets trees at is.
     (let l = c.loop-packet in
     let s = c.into_iter-packet-iterator.result in
     let first : iter_rest (zip_first s) ≡ c.args.packets.now = ap (λ z. iter_rest (zip_first z)) c.into_iter-packet-iterator.ensures.into_iter_gives ∙ ap iter_rest c.zip-packet-items.ensures.first ∙ c.iter.ensures.rest in
     let second : iter_rest (zip_second s) ≡ c.args.trees.now = ap (λ z. iter_rest (zip_second z)) c.into_iter-packet-iterator.ensures.into_iter_gives ∙ c.zip-packet-items.ensures.second.0 in
     let end = zip_end c.args.packets.now c.args.trees.now l.yielded s l.packet-iterator c.next.new.self c.next.result first second l.yielded_by c.in-None.is c.next.ensures.steps in
-    renamed_at_end c.args.packets.now c.args.trees.now (length l.yielded) (bits l.bytes) _ behind l.place end (l.invariant.renaming vs front behind values packets trees at is))
+    renamed_at_end c.args.packets.now c.args.trees.now (length l.yielded) (bits l.bytes) _ beyond l.place end (l.invariant.renaming vs front beyond values packets trees at is))

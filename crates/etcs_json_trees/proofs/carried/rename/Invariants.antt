@@ -14,6 +14,6 @@ use Rattle.etcs_json_trees.proofs.carried.rename.Given as goal
 abbrev pub invariant-loop-packet : goal.invariant-loop-packet
 invariant-loop-packet l = record {
   place_is : l.place ≡ l.at + bits_before l.packets (length l.yielded);
-  renaming : (vs : List PacketValue) (front behind : List Bool) → map packet_value l.packets ≡ map (unnamed ToTrain) vs → All IsPacket (map (unnamed ToTrain) vs) → ArePacketTrees ToTrain vs (items_view l.trees) → length front ≡ l.at → bits l.fn.bytes ≡ front ++ spelled (packets_reading (map (unnamed ToTrain) vs)) ++ behind
-      → Renaming (bits l.bytes) (front ++ spelled (packets_reading vs) ++ behind) behind l.place (drop (length l.yielded) l.packets) (items_view (drop (length l.yielded) l.trees));
+  renaming : (vs : List PacketValue) (front beyond : List Bool) → map packet_value l.packets ≡ map (unnamed ToTrain) vs → All IsPacket (map (unnamed ToTrain) vs) → ArePacketTrees ToTrain vs (items_view l.trees) → length front ≡ l.at → bits l.fn.bytes ≡ front ++ spelled (packets_reading (map (unnamed ToTrain) vs)) ++ beyond
+      → Renaming (bits l.bytes) (front ++ spelled (packets_reading vs) ++ beyond) beyond l.place (drop (length l.yielded) l.packets) (items_view (drop (length l.yielded) l.trees));
 }

@@ -5,7 +5,7 @@ use Rattle.etcs_bits.specs.Bits.{bits, num, part}
 use Rattle.etcs_vars.specs.Vars.{width}
 use Rattle.etcs_vars.proofs.Prefixes.{width-le, width_pos}
 use Rattle.etcs_reader.specs.Readers.{Passed}
-use Rattle.etcs_reader.proofs.Parts.{passed_none, passed_one, goes_behind}
+use Rattle.etcs_reader.proofs.Parts.{passed_none, passed_one, goes_after}
 use Rattle.etcs_reader.proofs.Passing.{passed_along, front_of}
 use Rattle.etcs_reader.proofs.inner.pass_front.Goals as goal
 
@@ -46,7 +46,7 @@ loop-at-preserved g c =
     let one = passed_one (λ p. R.follows m p n) x k 0 0 (part at w xs) (omega arith) follows b in
     let further = passed_along (λ p. R.follows s p m) (λ p. R.follows m p n) (λ p. R.follows s p n) (g.met.R.Rest.both s m n) (take at xs) [] [] (part at w xs) c.loop-at.invariant.passed one in
     record {
-      goes = goes_behind (R.left m) (R.left n) x k 0 refl residual (c.begins.ensures.0 c.if-not-begins.false);
+      goes = goes_after (R.left m) (R.left n) x k 0 refl residual (c.begins.ensures.0 c.if-not-begins.false);
       within = omega (arith, c.loop-at.invariant.within, c.if-width-end.false);
       passed = subst (λ t. Passed (λ p. R.follows s p n) t []) (front_of [] xs at w) further;
     }

@@ -3,7 +3,7 @@ use Rattle.std.specs.Prelude.{◌↔◌}
 use Rattle.std.proofs.lemmas.Bool.{both_ways}
 use Rattle.etcs_vars.specs.Vars.{width}
 use Rattle.etcs_tables.specs.Layouts.{Layout, layout}
-use Rattle.etcs_rows.specs.Lengths.{LengthsBy, front, behind, GroupsWithin}
+use Rattle.etcs_rows.specs.Lengths.{LengthsBy, front, beyond, GroupsWithin}
 use Rattle.etcs_rows.specs.Progressions.{InProgression, TimesWithin}
 use Rattle.etcs_rows.specs.Totals.{InTotal}
 use Rattle.etcs_rows.specs.Sums.{Plus}
@@ -33,7 +33,7 @@ onward-returns-in-None t c =
 pub onward-returns-in-Some : goal.onward-returns-in-Some
 onward-returns-in-Some t c =
     let S = InTotal c.in_ok-sum.sum in let T = Tails (reverse c.args.waiting.now) in let row = layout c.in-Some.field-0.rest.now in
-    let G = GroupsWithin c.in-Some.field-0.var row 0 18446744073709551615 in let B = LengthsBy (behind row) 0 in
+    let G = GroupsWithin c.in-Some.field-0.var row 0 18446744073709551615 in let B = LengthsBy (beyond row) 0 in
     answer_same c.choose.result (Plus S (Plus G (Plus B T)) c.args.bits) (Plus (InTotal c.args.sum) (Onward c.args.items.now c.args.waiting.now) c.args.bits)
     (set_along (Plus S (Plus G (Plus B T))) (Plus S (Plus (Plus G B) T)) (Plus (InTotal c.args.sum) (Onward c.args.items.now c.args.waiting.now))
     (Plus-same S (Plus G (Plus B T)) S (Plus (Plus G B) T) (set_self S) (set_back (Plus (Plus G B) T) (Plus G (Plus B T)) (Plus-assoc G B T)))
@@ -55,35 +55,35 @@ leave-returns-then-is_empty t c =
 pub leave-returns-in_ok-groups-in-Some : goal.leave-returns-in_ok-groups-in-Some
 leave-returns-in_ok-groups-in-Some t c =
     let S = InTotal c.args.sum in let g = c.in_ok-groups-in-Some.groups in
-    let items = c.behind_groups.result.now in let outer = c.in-Some.outer.now in
+    let items = c.after_groups.result.now in let outer = c.in-Some.outer.now in
     let more = Plus (InProgression g) (Onward items outer) in let T = Tails (reverse c.args.waiting.now) in
     answer_same c.spread.result (Plus S more c.args.bits) (Plus S T c.args.bits)
-    (Plus-same S more S T (set_self S) (leave_sum g c.in-Some.pending.now outer c.args.waiting.now items c.in-Some.ensures.cases.0 c.in_ok-groups-in-Some.ensures c.behind_groups.ensures.behind) c.args.bits) c.spread.ensures
+    (Plus-same S more S T (set_self S) (leave_sum g c.in-Some.pending.now outer c.args.waiting.now items c.in-Some.ensures.cases.0 c.in_ok-groups-in-Some.ensures c.after_groups.ensures.beyond) c.args.bits) c.spread.ensures
 
 pub choose-returns-in-Some-times_steps : goal.choose-returns-in-Some-times_steps
 choose-returns-in-Some-times_steps t c =
     let rest = layout c.args.rest.now in let all = InProgression c.in-Some-times_steps.all in
     let times = TimesWithin c.in-Some.group c.in-Some.first c.in-Some.last in let G = GroupsWithin c.args.var rest c.args.low c.args.high in
-    chosen c.spread-in-Some-times_steps.result (InTotal c.args.sum) all G c.behind_groups-behind.result.now rest c.args.waiting.now c.args.bits (set_along all times G c.in-Some-times_steps.ensures c.in-Some.ensures.all) c.behind_groups-behind.ensures.behind c.spread-in-Some-times_steps.ensures
+    chosen c.spread-in-Some-times_steps.result (InTotal c.args.sum) all G c.after_groups-beyond.result.now rest c.args.waiting.now c.args.bits (set_along all times G c.in-Some-times_steps.ensures c.in-Some.ensures.all) c.after_groups-beyond.ensures.beyond c.spread-in-Some-times_steps.ensures
 
 pub choose-returns-in_ok-with-in-None-times_steps : goal.choose-returns-in_ok-with-in-None-times_steps
 choose-returns-in_ok-with-in-None-times_steps t c =
     let rest = layout c.args.rest.now in let S = InTotal c.args.sum in let sum = c.in_ok-with-in-None-times_steps.field-0 in
     let times = TimesWithin c.in-Some.group c.in-Some.first c.in-Some.last in let G = GroupsWithin c.args.var rest c.args.low c.args.high in
-    let items = c.behind_groups-behind.result.now in let X = Onward items c.args.waiting.now in
-    chosen c.onward.result S times G items rest c.args.waiting.now c.args.bits c.in-Some.ensures.all c.behind_groups-behind.ensures.behind
+    let items = c.after_groups-beyond.result.now in let X = Onward items c.args.waiting.now in
+    chosen c.onward.result S times G items rest c.args.waiting.now c.args.bits c.in-Some.ensures.all c.after_groups-beyond.ensures.beyond
     (answer_same c.onward.result (Plus (InTotal sum) X c.args.bits) (Plus S (Plus times X) c.args.bits)
     (set_along (Plus (InTotal sum) X) (Plus (Plus S times) X) (Plus S (Plus times X)) (Plus-same (InTotal sum) X (Plus S times) X c.in_ok-with-in-None-times_steps.ensures (set_self X)) (Plus-assoc S times X) c.args.bits) c.onward.ensures)
 
 pub choose-returns-in-Some-steps_each : goal.choose-returns-in-Some-steps_each
 choose-returns-in-Some-steps_each t c =
     let rest = layout c.args.rest.now in let g = InProgression c.in-Some-steps_each.groups in let G = GroupsWithin c.args.var rest c.args.low c.args.high in
-    chosen c.spread-in-Some-steps_each.result (InTotal c.args.sum) g G c.behind_groups-behind.result.now rest c.args.waiting.now c.args.bits c.in-Some-steps_each.ensures c.behind_groups-behind.ensures.behind c.spread-in-Some-steps_each.ensures
+    chosen c.spread-in-Some-steps_each.result (InTotal c.args.sum) g G c.after_groups-beyond.result.now rest c.args.waiting.now c.args.bits c.in-Some-steps_each.ensures c.after_groups-beyond.ensures.beyond c.spread-in-Some-steps_each.ensures
 
 pub choose_each-loop-number-preserved : goal.choose_each-loop-number-preserved
 choose_each-loop-number-preserved t c =
     let F = λ (n : ℕ). LengthsBy (front (layout c.args.rest.now)) n in let n = c.loop-number.number in let inv = c.loop-number.invariant in
-    let S = InTotal c.args.sum in let X = Onward c.behind_groups-behind.result.now c.args.waiting.now in
+    let S = InTotal c.args.sum in let X = Onward c.after_groups-beyond.result.now c.args.waiting.now in
     record {
       none = elim c.if-admits.branch [
         | choose_each-then-admits+in_ok-groups+in_ok-spread+else-branch w ↦
@@ -98,12 +98,12 @@ pub choose_each-returns : goal.choose_each-returns
 choose_each-returns t c =
     let rest = layout c.args.rest.now in
     let F = λ (n : ℕ). LengthsBy (front rest) n in let S = InTotal c.args.sum in let T = Tails (reverse c.args.waiting.now) in
-    let G = GroupsWithin c.args.var rest c.args.low c.args.high in let items = c.behind_groups-behind.result.now in
+    let G = GroupsWithin c.args.var rest c.args.low c.args.high in let items = c.after_groups-beyond.result.now in
     let none : NoneTo c.args.var F S (Onward items c.args.waiting.now) c.args.low c.loop-number.number c.args.bits = c.loop-number.invariant.none in
     let all : IsTrue false ↔ Plus S (Plus G (Plus (LengthsBy (layout items) 0) T)) c.args.bits =
     none_all c.args.var rest S (Onward items c.args.waiting.now) c.args.low c.args.high c.loop-number.number c.args.bits none
     (λ n l u a. let most : n ≤ 18446744073709551615 / 2 ^ (64 - c.width.result) = rw c.width.ensures (most_admits c.args.var n a) in omega (arith, most, c.in_ok-end.ensures)) in
-    subst (λ (row : Layout). IsTrue false ↔ Plus S (Plus G (Plus (LengthsBy row 0) T)) c.args.bits) c.behind_groups-behind.ensures.behind all
+    subst (λ (row : Layout). IsTrue false ↔ Plus S (Plus G (Plus (LengthsBy row 0) T)) c.args.bits) c.after_groups-beyond.ensures.beyond all
 
 pub spread-returns-then-is_empty-2 : goal.spread-returns-then-is_empty-2
 spread-returns-then-is_empty-2 t c =

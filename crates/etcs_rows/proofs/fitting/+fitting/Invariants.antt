@@ -33,7 +33,7 @@ decreases-spread_each l = 6 * items_left l.items.now l.waiting.now + 3
 
 abbrev pub invariant-choose_each-loop-number : goal.invariant-choose_each-loop-number
 invariant-choose_each-loop-number l = record {
-  none : NoneTo l.var (λ n. LengthsBy (front (layout l.rest)) n) (InTotal l.sum) (Onward l.behind l.waiting) l.low l.number l.bits;
+  none : NoneTo l.var (λ n. LengthsBy (front (layout l.rest)) n) (InTotal l.sum) (Onward l.beyond l.waiting) l.low l.number l.bits;
   within : (n : ℕ) → l.low ≤ n → n < l.number → n ≤ l.high;
 }
 

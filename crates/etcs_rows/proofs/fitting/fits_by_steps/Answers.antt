@@ -6,7 +6,7 @@ use Rattle.etcs_tables.specs.declared.item.RowItem.TheVariants.{One}
 use Rattle.etcs_rows.specs.declared.place.Pending.{Pending}
 use Rattle.etcs_rows.specs.Cursors.{left_of}
 use Rattle.etcs_tables.specs.Layouts.{layout}
-use Rattle.etcs_rows.specs.Lengths.{LengthsBy, behind, GroupsWithin, FitsWithin}
+use Rattle.etcs_rows.specs.Lengths.{LengthsBy, beyond, GroupsWithin, FitsWithin}
 use Rattle.etcs_rows.specs.Progressions.{InProgression, IsProgression, AtMost}
 use Rattle.etcs_rows.specs.Totals.{InTotal}
 use Rattle.etcs_rows.specs.Sums.{Plus}
@@ -32,7 +32,7 @@ returns-in_ok-sum-in-Some-One-default c =
     (set_along (Plus (InProgression sum) (AtMost 0)) (InProgression sum) (Plus A W) (no_slack (InProgression sum))
     (set_along (InProgression sum) (Plus A (InProgression c.single.result)) (Plus A W) c.in_ok-sum-in-Some-One-default.ensures (Plus-same A (InProgression c.single.result) A W (set_self A) own))) in
     let small : bits ≤ 8191 = omega arith in
-    let G = GroupsWithin v (layout rest) low high in let B = LengthsBy (behind (layout rest)) 0 in
+    let G = GroupsWithin v (layout rest) low high in let B = LengthsBy (beyond (layout rest)) 0 in
     answer_same c.choose.result (Plus S (Plus G (Plus B (Tails (reverse cursor.pending.items)))) bits) (FitsWithin (left_of cursor) low high bits)
     (fits_sum cursor v rest low high bits again S is ha hs small)
     (subst (λ (ps : List Pending). IfSome c.choose.result (λ b. IsTrue b ↔ Plus S (Plus G (Plus B (Tails (reverse ps)))) bits)) slice c.choose.ensures)

@@ -13,11 +13,11 @@ use Rattle.etcs_rows.proofs.fitting.meets_by_steps.Goals as goal
 pub returns : goal.returns
 returns c =
     let cursor = c.args.cursor.now in let low = c.args.low in let high = c.min-high.result in
-    let again = c.in_ok-again.again in let g = c.in_ok-groups.groups in let items = c.behind_groups.result.now in
+    let again = c.in_ok-again.again in let g = c.in_ok-groups.groups in let items = c.after_groups.result.now in
     let slice = c.as_slice-waiting.ensures.value in let S = InTotal c.new-sum.result in
     let ha : IsProgression again (Agains (reverse cursor.pending.items)) = subst (λ (ps : List Pending). IsProgression again (Agains (reverse ps))) slice c.in_ok-again.ensures in
     let L = LengthsBy (left_of cursor) 0 in
     answer_same c.spread.result (Plus S (Plus (InProgression g) (Onward items cursor.pending.items)) high) ((m : ℕ) × L m × (m ≤ 8191) × (low ≤ m) × (m ≤ c.args.high))
     (meets_sum (InProgression again) (Plus (InProgression g) (Onward items cursor.pending.items)) L c.new-sum.result low high c.args.high c.new-sum.ensures
-    (reaches_sum cursor again g items ha c.in_ok-groups.ensures c.behind_groups.ensures.behind) c.if-high-low.false c.min-high.ensures)
+    (reaches_sum cursor again g items ha c.in_ok-groups.ensures c.after_groups.ensures.beyond) c.if-high-low.false c.min-high.ensures)
     (subst (λ (ps : List Pending). IfSome c.spread.result (λ b. IsTrue b ↔ Plus S (Plus (InProgression g) (Onward items ps)) high)) slice c.spread.ensures)

@@ -2,26 +2,26 @@ use Rattle.std.proofs.Common.{◌≡◌, ℕ, ◌+◌, ◌-◌, ◌/◌, ◌^◌
 use Rattle.std.proofs.lemmas.Bool.{both_ways}
 use Rattle.etcs_tables.specs.declared.item.RowItem.{RowItem}
 use Rattle.etcs_tables.specs.Layouts.{Layout, layout, one}
-use Rattle.etcs_rows.specs.Lengths.{LengthsBy, front, behind}
+use Rattle.etcs_rows.specs.Lengths.{LengthsBy, front, beyond}
 use Rattle.etcs_rows.specs.Sums.{Plus}
 use Rattle.etcs_rows.proofs.LengthLemmas.{set_back}
-use Rattle.etcs_rows.proofs.SumLemmas.{set_same, set_plus, lengths-parts, behind_begins, set_whole, set_passed, set_not_passed, set_counted, set_one, set_free_one, set_first, groups_none, groups_more, groups_same, groups_all, GroupsTo, most_admits, set_no_front, counted_all, open_end}
+use Rattle.etcs_rows.proofs.SumLemmas.{set_same, set_plus, lengths-parts, after_begins, set_whole, set_passed, set_not_passed, set_counted, set_one, set_free_one, set_first, groups_none, groups_more, groups_same, groups_all, GroupsTo, most_admits, set_no_front, counted_all, open_end}
 use Rattle.etcs_rows.proofs.measure.+lengths.Goals as goal
 use Rattle.etcs_rows.proofs.measure.+lengths.Goals.{groups_each-then-admits, groups_each-else-admits}
 
 pub lengths_of-returns : goal.lengths_of-returns
 lengths_of-returns t c =
-    let row = layout c.args.items.now in let n = c.args.before in let F = LengthsBy (front row) n in let B = LengthsBy (behind row) 0 in
-    let bare = c.open_lengths.ensures (rw c.behind_groups.ensures.behind (behind_begins row)) in
+    let row = layout c.args.items.now in let n = c.args.before in let F = LengthsBy (front row) n in let B = LengthsBy (beyond row) 0 in
+    let bare = c.open_lengths.ensures (rw c.after_groups.ensures.beyond (after_begins row)) in
     set_same c.plus.result (Plus F B) (LengthsBy row n) (set_back (LengthsBy row n) (Plus F B) (lengths-parts row n))
-    (set_plus c.groups_at.result c.open_lengths.result c.plus.result F B c.groups_at.ensures (rw c.behind_groups.ensures.behind at bare) c.plus.ensures)
+    (set_plus c.groups_at.result c.open_lengths.result c.plus.result F B c.groups_at.ensures (rw c.after_groups.ensures.beyond at bare) c.plus.ensures)
 
 pub first_lengths-returns : goal.first_lengths-returns
 first_lengths-returns t c =
     let rest = layout c.args.rest.now in
-    let bare = c.open_lengths.ensures (rw c.behind_groups.ensures.behind (behind_begins rest)) in
+    let bare = c.open_lengths.ensures (rw c.after_groups.ensures.beyond (after_begins rest)) in
     set_first c.groups_within.result c.shift.result c.open_lengths.result c.plus.result c.args.var rest c.args.low c.args.high c.groups_within.ensures
-    (rw c.width.ensures at c.shift.ensures) (rw c.behind_groups.ensures.behind at bare) c.plus.ensures
+    (rw c.width.ensures at c.shift.ensures) (rw c.after_groups.ensures.beyond at bare) c.plus.ensures
 
 pub open_lengths-returns-then-has_group : goal.open_lengths-returns-then-has_group
 open_lengths-returns-then-has_group t c = λ none.
@@ -42,14 +42,14 @@ open_lengths-returns-in_default t c = λ none. set_whole c.single.result (layout
 pub groups_at-returns-then-passes : goal.groups_at-returns-then-passes
 groups_at-returns-then-passes t c =
     let w = c.in-When in
-    set_passed c.lengths_of.result c.groups_at-behind.result c.plus.result (front (layout c.args.items.now)) w.guard (layout w.group.now) (front (layout w.rest.now)) c.args.before
-    (ap (λ (x : Layout). front x) w.ensures.0) (sym c.passes.ensures ∙ c.if-passes.true) c.lengths_of.ensures c.groups_at-behind.ensures c.plus.ensures
+    set_passed c.lengths_of.result c.groups_at-beyond.result c.plus.result (front (layout c.args.items.now)) w.guard (layout w.group.now) (front (layout w.rest.now)) c.args.before
+    (ap (λ (x : Layout). front x) w.ensures.0) (sym c.passes.ensures ∙ c.if-passes.true) c.lengths_of.ensures c.groups_at-beyond.ensures c.plus.ensures
 
 pub groups_at-returns-else-passes : goal.groups_at-returns-else-passes
 groups_at-returns-else-passes t c =
     let w = c.in-When in
-    set_not_passed c.groups_at-behind.result (front (layout c.args.items.now)) w.guard (layout w.group.now) (front (layout w.rest.now)) c.args.before
-    (ap (λ (x : Layout). front x) w.ensures.0) (sym c.passes.ensures ∙ c.if-passes.false) c.groups_at-behind.ensures
+    set_not_passed c.groups_at-beyond.result (front (layout c.args.items.now)) w.guard (layout w.group.now) (front (layout w.rest.now)) c.args.before
+    (ap (λ (x : Layout). front x) w.ensures.0) (sym c.passes.ensures ∙ c.if-passes.false) c.groups_at-beyond.ensures
 
 pub groups_at-returns-in-Many : goal.groups_at-returns-in-Many
 groups_at-returns-in-Many t c =

@@ -1,7 +1,7 @@
 use Rattle.std.proofs.Common.{◌≡◌, ℕ, ◌-◌, ◌/◌, ◌^◌, ◌≤◌, sym, ap, ◌∙◌, arith, Some}
 use Rattle.std.proofs.lemmas.Bool.{both_ways}
 use Rattle.etcs_tables.specs.Layouts.{Layout, layout}
-use Rattle.etcs_rows.specs.Lengths.{LengthsBy, front, behind, GroupsWithin, SetsWithin}
+use Rattle.etcs_rows.specs.Lengths.{LengthsBy, front, beyond, GroupsWithin, SetsWithin}
 use Rattle.etcs_rows.specs.Progressions.{InProgression, InGuarded, TimesWithin}
 use Rattle.etcs_rows.specs.Sums.{Plus, SumOf}
 use Rattle.etcs_rows.proofs.LengthLemmas.{set_along, set_back, set_self, SameSet}
@@ -14,8 +14,8 @@ use Rattle.etcs_rows.proofs.progression.+steps.Goals.{groups_each-then-admits+in
 pub steps_of-returns : goal.steps_of-returns
 steps_of-returns t c =
     let row = layout c.args.items.now in let n = c.args.before in
-    plus_are c.plus.result c.in_ok-groups.groups c.in_ok-open_steps.field-0 (LengthsBy (front row) n) (LengthsBy (behind row) 0) (LengthsBy row n) c.in_ok-groups.ensures
-    (rw c.behind_groups.ensures.behind at c.in_ok-open_steps.ensures) (set_back (LengthsBy row n) (Plus (LengthsBy (front row) n) (LengthsBy (behind row) 0)) (lengths-parts row n)) c.plus.ensures
+    plus_are c.plus.result c.in_ok-groups.groups c.in_ok-open_steps.field-0 (LengthsBy (front row) n) (LengthsBy (beyond row) 0) (LengthsBy row n) c.in_ok-groups.ensures
+    (rw c.after_groups.ensures.beyond at c.in_ok-open_steps.ensures) (set_back (LengthsBy row n) (Plus (LengthsBy (front row) n) (LengthsBy (beyond row) 0)) (lengths-parts row n)) c.plus.ensures
 
 pub groups_steps-returns-in_ok-groups_steps-in-When : goal.groups_steps-returns-in_ok-groups_steps-in-When
 groups_steps-returns-in_ok-groups_steps-in-When t c =
@@ -54,10 +54,10 @@ pub open_steps-returns-in_ok-tail-in-Some : goal.open_steps-returns-in_ok-tail-i
 open_steps-returns-in_ok-tail-in-Some t c =
     let v = c.in-Some.field-0.var in let rest = layout c.in-Some.field-0.rest.now in let row = layout c.args.items.now in
     let W : ℕ → Type 0 = λ k. k ≡ c.in_ok-width.width in
-    let G = GroupsWithin v rest 0 18446744073709551615 in let B = LengthsBy (behind rest) 0 in
+    let G = GroupsWithin v rest 0 18446744073709551615 in let B = LengthsBy (beyond rest) 0 in
     let both : SameSet (InProgression c.in_ok-tail-in-Some.tail) (Plus G B) =
     plus_are (Some c.in_ok-tail-in-Some.tail) c.in_ok-groups-in-Some.groups c.in_ok-open_steps-in-Some.field-0 G B (Plus G B)
-    c.in_ok-groups-in-Some.ensures (rw c.behind_groups.ensures.behind at c.in_ok-open_steps-in-Some.ensures) (set_self (Plus G B)) c.in_ok-tail-in-Some.ensures in
+    c.in_ok-groups-in-Some.ensures (rw c.after_groups.ensures.beyond at c.in_ok-open_steps-in-Some.ensures) (set_self (Plus G B)) c.in_ok-tail-in-Some.ensures in
     plus_are c.plus-in-Some.result c.single-front.result c.in_ok-tail-in-Some.tail W (Plus G B) (LengthsBy row 0) c.single-front.ensures both
     (set_back (LengthsBy row 0) (Plus W (Plus G B)) (rw c.in-Some.is at c.in_ok-width.ensures.sum)) c.plus-in-Some.ensures
 

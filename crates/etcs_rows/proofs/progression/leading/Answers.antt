@@ -2,7 +2,7 @@ use Rattle.std.proofs.Common.{◌≡◌, List, ◌∷◌, sym, ap, ◌∙◌, ar
 use Rattle.etcs_vars.specs.Vars.{width}
 use Rattle.etcs_tables.specs.declared.item.RowItem.{RowItem}
 use Rattle.etcs_tables.specs.Layouts.{layout, one}
-use Rattle.etcs_rows.specs.Lengths.{LengthsBy, behind, GroupsWithin, FirstWithin}
+use Rattle.etcs_rows.specs.Lengths.{LengthsBy, beyond, GroupsWithin, FirstWithin}
 use Rattle.etcs_rows.specs.Sums.{Plus}
 use Rattle.etcs_rows.proofs.LengthLemmas.{set_along}
 use Rattle.etcs_rows.proofs.SumLemmas.{no_items}
@@ -26,7 +26,7 @@ returns-then-has_group-clause-sum c =
     let v = c.in-Some-One-default.var in let rest = c.in-Some-One-default.rest.now in
     let left = layout c.loop-var.left.now in let row = layout rest in
     let is : left ≡ one v row = ap (λ (x : List RowItem). layout x) (c.in-Some-One-default.ensures.cases.0 ∙ ap (λ (x : RowItem). x ∷ rest) c.in-Some-One-default.field-0-0-is) in
-    let R = Plus (GroupsWithin v row 0 18446744073709551615) (LengthsBy (behind row) 0) in
+    let R = Plus (GroupsWithin v row 0 18446744073709551615) (LengthsBy (beyond row) 0) in
     more_width (LengthsBy (layout c.args.items.now) 0) (LengthsBy left 0) R c.loop-var.width (width v) c.in_ok-width.width (rw c.width.ensures at c.in_ok-width.ensures.1)
     c.loop-var.invariant.sum (set_along (Plus (λ k. k ≡ width v) R) (FirstWithin v row 0 18446744073709551615) (LengthsBy left 0) (first_sum v row 0 18446744073709551615) (one_sum left v row 0 is))
 

@@ -10,9 +10,9 @@ use Rattle.etcs_runs.proofs.digits.take_words.Goals as goal
 use Rattle.etcs_runs.proofs.digits.take_words.Goals.{then-word-count-via-then-word-count, then-word-count-via-else-word-count+then-not-decode}
 
 pub returns-then-word-count-clause-bytes : goal.returns-then-word-count-clause-bytes
-returns-then-word-count-clause-bytes c behind h =
+returns-then-word-count-clause-bytes c beyond h =
     let i = c.loop-before.invariant in
-    let taken = i.bytes behind h in
+    let taken = i.bytes beyond h in
     let at = parts_at c.args.cut in
     let n = c.args.count in
     let half = n / 2 in
@@ -54,8 +54,8 @@ loop-before-preserved c =
       before = omega (arith, i.before);
       room = omega (arith, short.1, long, even, count, i.room);
       same = length-put_mid (here - half) (here - (here - half)) c.loop-before.buffer c.decode.new.bytes (omega (arith, i.before, i.same, fits)) long_bytes ∙ i.same;
-      bytes = λ behind h. (
-          let taken = i.bytes behind h in
+      bytes = λ beyond h. (
+          let taken = i.bytes beyond h in
           let yes : c.decode.result ≡ true = cc in
           let one : decode_of (bare word) ≡ Ok c.decode.new.bytes = subst (λ (z : List ℕ). decode_of z ≡ Ok c.decode.new.bytes) value (c.decode.ensures.bytes yes) in (
             bare word ++ taken.0,

@@ -9,7 +9,7 @@ invariant-loop-before l = record {
   before : l.at ≤ l.end;
   room : length l.rest ≤ 2 * l.at;
   same : length l.buffer ≡ length l.fn.buffer;
-  bytes : (behind : List ℕ) → decode_of behind ≡ Ok (drop l.end l.fn.buffer) → (digits : List ℕ) × (decode_of digits ≡ Ok (drop l.at l.buffer)) × (run l.count (last_first (parts_at l.cut) l.text) ++ behind ≡ run l.count (last_first (parts_at l.cut) l.rest) ++ digits);
+  bytes : (beyond : List ℕ) → decode_of beyond ≡ Ok (drop l.end l.fn.buffer) → (digits : List ℕ) × (decode_of digits ≡ Ok (drop l.at l.buffer)) × (run l.count (last_first (parts_at l.cut) l.text) ++ beyond ≡ run l.count (last_first (parts_at l.cut) l.rest) ++ digits);
 }
 
 abbrev pub decreases-loop-before : goal.decreases-loop-before

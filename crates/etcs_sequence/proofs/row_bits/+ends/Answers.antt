@@ -4,7 +4,7 @@ use Rattle.etcs_bits.specs.Bits.{number_at}
 use Rattle.etcs_bits.specs.SliceWalker.{SliceWalk}
 use Rattle.etcs_tables.specs.declared.item.RowItem.{RowItem}
 use Rattle.etcs_tables.specs.Layouts.{Layout, layout, one}
-use Rattle.etcs_rows.proofs.Behind.{ReadsBy}
+use Rattle.etcs_rows.proofs.Following.{ReadsBy}
 use Rattle.etcs_rows.proofs.Cuts.{layout-when_cut, layout-many_cut}
 use Rattle.etcs_sequence.specs.RowBits.{EndsAt}
 use Rattle.etcs_sequence.proofs.RowBits.{ends_one, ends_passed, ends_not_passed, ends_counted, ends_again}
@@ -20,8 +20,8 @@ step-returns-else-not-admits-clause-onward t c = λ end e.
     let is : layout s.items.now ≡ one v (layout rest) = ap (λ (x : List RowItem). layout x) (c.in-Some-One-default.ensures.cases.0 ∙ ap (λ (x : RowItem). x ∷ rest) c.in-Some-One-default.field-0-0-is) in
     let found = ap (λ k. number_at w.place k w.bits) (sym c.width.ensures) ∙ sym c.next.ensures.number ∙ m.was in
     let moved = ap (λ (x : SliceWalk). x.place) c.next.ensures.moved ∙ ap (λ (r : Option ℕ). if is_some r then w.place + c.width.result else w.place) m.was ∙ ap (λ k. w.place + k) c.width.ensures in
-    let behind = subst (λ k. EndsAt (ReadsBy (layout rest) m.before) w.bits k end) moved e in
-    subst (λ (x : Layout). EndsAt (ReadsBy x s.before) w.bits w.place end) (sym is) (ends_one v (layout rest) s.before m.before w.bits w.place end found (sym c.admits.ensures ∙ c.if-not-admits.false) behind))
+    let beyond = subst (λ k. EndsAt (ReadsBy (layout rest) m.before) w.bits k end) moved e in
+    subst (λ (x : Layout). EndsAt (ReadsBy x s.before) w.bits w.place end) (sym is) (ends_one v (layout rest) s.before m.before w.bits w.place end found (sym c.admits.ensures ∙ c.if-not-admits.false) beyond))
 
 pub step-returns-then-not-passes-clause-onward : goal.step-returns-then-not-passes-clause-onward
 step-returns-then-not-passes-clause-onward t c = λ end e.

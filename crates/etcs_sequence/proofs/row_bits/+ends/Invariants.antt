@@ -1,7 +1,7 @@
 use Rattle.std.proofs.Common.{◌≡◌, ◌+◌, ◌*◌, ◌^◌, ◌≤◌, ℕ, length}
 use Rattle.etcs_vars.specs.Reading.{Times}
 use Rattle.etcs_tables.specs.Layouts.{layout}
-use Rattle.etcs_rows.proofs.Behind.{ReadsBy}
+use Rattle.etcs_rows.proofs.Following.{ReadsBy}
 use Rattle.etcs_sequence.specs.RowBits.{EndsAt}
 use Rattle.etcs_sequence.proofs.row_bits.+ends.Given as goal
 

@@ -2,7 +2,7 @@ use Rattle.std.proofs.Common.{length, ap, subst, sym, ◌∙◌, arith}
 use Rattle.std.proofs.lemmas.Bool.{leb-true}
 use Rattle.etcs_bits.specs.SliceWalker.{SliceWalk}
 use Rattle.etcs_tables.specs.Layouts.{layout}
-use Rattle.etcs_rows.proofs.Behind.{ReadsBy}
+use Rattle.etcs_rows.proofs.Following.{ReadsBy}
 use Rattle.etcs_rows.proofs.PlaceLemmas.{sound_parts}
 use Rattle.etcs_sequence.specs.RowBits.{EndsAt}
 use Rattle.etcs_sequence.proofs.RowBits.{ends_whole}

@@ -2,7 +2,7 @@ use Rattle.std.proofs.Common.{◌++◌}
 use Rattle.std.specs.Prelude.{codes}
 use Rattle.serde_json.specs.Written.{compact_text}
 use Rattle.etcs_packet_text.specs.Trees.{pairs_tree}
-use Rattle.etcs_packet_text.proofs.Refusals.{behind_ok, on_error}
+use Rattle.etcs_packet_text.proofs.Refusals.{after_ok, on_error}
 use Rattle.etcs_text.proofs.json_lines.write_front.Goals as goal
 
 pub returns-clause-ok : goal.returns-clause-ok
@@ -15,9 +15,9 @@ returns-clause-ok g c =
     let x = compact_text (pairs_tree (g.B.Variables.reading_of c.args.body.now)) in
     let b = codes ",\"header\":" in
     let y = compact_text (pairs_tree (g.H.Variables.reading_of c.args.head.now)) in
-    behind_ok r c.args.page.now.0 (codes "{\"fields\":") one (x ++ (b ++ y)) new c.in_ok-put.ensures.ok
-    (behind_ok r one x two (b ++ y) new c.in_ok-write_variables.ensures.ok
-    (behind_ok r two b three y new c.in_ok-put-2.ensures.ok c.write_variables-2.ensures.ok))
+    after_ok r c.args.page.now.0 (codes "{\"fields\":") one (x ++ (b ++ y)) new c.in_ok-put.ensures.ok
+    (after_ok r one x two (b ++ y) new c.in_ok-write_variables.ensures.ok
+    (after_ok r two b three y new c.in_ok-put-2.ensures.ok c.write_variables-2.ensures.ok))
 
 pub returns-clause-err : goal.returns-clause-err
 returns-clause-err g c =

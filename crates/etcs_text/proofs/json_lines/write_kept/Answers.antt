@@ -3,7 +3,7 @@ use Rattle.std.specs.Prelude.{codes}
 use Rattle.etcs_messages.specs.Readings.{nid_of_message}
 use Rattle.etcs_text.specs.JsonParts.{way_member}
 use Rattle.etcs_packet_text.specs.Show.{bit_digit}
-use Rattle.etcs_packet_text.proofs.Refusals.{behind_ok, on_ok}
+use Rattle.etcs_packet_text.proofs.Refusals.{after_ok, on_ok}
 use Rattle.etcs_text.proofs.TreeTexts.{kept_is}
 use Rattle.etcs_text.proofs.json_lines.write_kept.Goals as goal
 
@@ -22,7 +22,7 @@ returns-clause-ok g c =
     let way = c.way_member.ensures ∙ ap way_member c.WAY.ensures in
     let nid = c.from.ensures ∙ c.nid.ensures in
     on_ok r old new (codes "{\"data\":\"" ++ (x ++ (b ++ n))) _ (kept_is g.H.Packet.AnyPacket.WAY g.H.Head.head g.B.Own.own g.H.Packet.AnyPacket.form m c.args.bits.now c.requires)
-    (behind_ok r old (codes "{\"data\":\"") one (x ++ (b ++ n)) new c.in_ok-put.ensures.ok
-    (behind_ok r one x two (b ++ n) new c.in_ok-put_slice.ensures.ok
-    (behind_ok r two b three n new c.in_ok-put-2.ensures.ok
+    (after_ok r old (codes "{\"data\":\"") one (x ++ (b ++ n)) new c.in_ok-put.ensures.ok
+    (after_ok r one x two (b ++ n) new c.in_ok-put_slice.ensures.ok
+    (after_ok r two b three n new c.in_ok-put-2.ensures.ok
     (on_ok r three new _ n (λ i. way i ++ (decimal (nid i) ++ codes "}")) c.put_between.ensures.ok))))

@@ -10,7 +10,7 @@ use Rattle.etcs_packet_text.specs.laws.Fronts.{begins_more}
 use Rattle.etcs_text.specs.JsonParts.{kind_member}
 use Rattle.etcs_packet_text.specs.Show.{bit_digit}
 use Rattle.etcs_packet_text.specs.Trees.{packets_tree, pairs_tree}
-use Rattle.etcs_packet_text.proofs.Refusals.{behind_ok, on_err, on_ok}
+use Rattle.etcs_packet_text.proofs.Refusals.{after_ok, on_err, on_ok}
 use Rattle.etcs_text.proofs.TreeTexts.{telegram_is}
 use Rattle.etcs_text.proofs.json_lines.write_telegram.Goals as goal
 
@@ -55,10 +55,10 @@ returns-clause-ok c =
     let z = compact_text (packets_tree ToTrain (map packet_value t.packets)) in
     let e = codes "}" in
     on_ok r old new (codes "{\"fill\":\"" ++ (x ++ (b ++ (y ++ (k ++ (z ++ e)))))) _ (telegram_is t.size t.header (map packet_value t.packets) t.fill)
-    (behind_ok r old (codes "{\"fill\":\"") one (x ++ (b ++ (y ++ (k ++ (z ++ e))))) new c.in_ok-put.ensures.ok
-    (behind_ok r one x two (b ++ (y ++ (k ++ (z ++ e)))) new (c.in_ok-put_slice.ensures.ok ∙ ap (λ (f : List Bool). one ++ map bit_digit f) c.fill.ensures)
-    (behind_ok r two b three (y ++ (k ++ (z ++ e))) new c.in_ok-put-2.ensures.ok
-    (behind_ok r three y four (k ++ (z ++ e)) new (c.in_ok-write_variables.ensures.ok ∙ ap (λ (h : HeaderValue). three ++ compact_text (pairs_tree (header_reading h))) c.header.ensures)
-    (behind_ok r four k five (z ++ e) new (c.in_ok-put-3.ensures.ok ∙ ap (λ (w : List ℕ). four ++ w) (c.kind_member.ensures ∙ ap (λ (s : Size). kind_member s) c.size.ensures))
-    (behind_ok r five z six e new (c.in_ok-write_packets.ensures.ok ∙ ap (λ (ps : List Packet). five ++ compact_text (packets_tree ToTrain (map packet_value ps))) c.packets.ensures)
+    (after_ok r old (codes "{\"fill\":\"") one (x ++ (b ++ (y ++ (k ++ (z ++ e))))) new c.in_ok-put.ensures.ok
+    (after_ok r one x two (b ++ (y ++ (k ++ (z ++ e)))) new (c.in_ok-put_slice.ensures.ok ∙ ap (λ (f : List Bool). one ++ map bit_digit f) c.fill.ensures)
+    (after_ok r two b three (y ++ (k ++ (z ++ e))) new c.in_ok-put-2.ensures.ok
+    (after_ok r three y four (k ++ (z ++ e)) new (c.in_ok-write_variables.ensures.ok ∙ ap (λ (h : HeaderValue). three ++ compact_text (pairs_tree (header_reading h))) c.header.ensures)
+    (after_ok r four k five (z ++ e) new (c.in_ok-put-3.ensures.ok ∙ ap (λ (w : List ℕ). four ++ w) (c.kind_member.ensures ∙ ap (λ (s : Size). kind_member s) c.size.ensures))
+    (after_ok r five z six e new (c.in_ok-write_packets.ensures.ok ∙ ap (λ (ps : List Packet). five ++ compact_text (packets_tree ToTrain (map packet_value ps))) c.packets.ensures)
     c.put-4.ensures.ok))))))

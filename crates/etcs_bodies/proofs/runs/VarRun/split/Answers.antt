@@ -9,15 +9,15 @@ pub returns-then-not-admits-clause-none : goal.returns-then-not-admits-clause-no
 returns-then-not-admits-clause-none c = λ b k h.
     (let v = c.args.self in
     let word = c.args.word in
-    let behind = c.args.behind in
-    let found = ap (λ j. word / 2 ^ behind % 2 ^ j) (sym c.width.ensures) ∙ sym c.field-number.ensures in
-    not_in_bits v c.field-number.result b k (first_lies word (width v) behind b k h ∙ ap Some found) (sym c.admits.ensures ∙ c.if-not-admits.true))
+    let beyond = c.args.beyond in
+    let found = ap (λ j. word / 2 ^ beyond % 2 ^ j) (sym c.width.ensures) ∙ sym c.field-number.ensures in
+    not_in_bits v c.field-number.result b k (first_lies word (width v) beyond b k h ∙ ap Some found) (sym c.admits.ensures ∙ c.if-not-admits.true))
 
 pub returns-clause-some : goal.returns-clause-some
 returns-clause-some c = λ b k h.
     (let v = c.args.self in
     let word = c.args.word in
-    let behind = c.args.behind in
-    let found = ap (λ j. word / 2 ^ behind % 2 ^ j) (sym c.width.ensures) ∙ sym c.field-number.ensures in
+    let beyond = c.args.beyond in
+    let found = ap (λ j. word / 2 ^ beyond % 2 ^ j) (sym c.width.ensures) ∙ sym c.field-number.ensures in
     let fits = sym c.admits.ensures ∙ c.if-not-admits.false in
-    (next_is_in_bits v c.field-number.result b k (first_lies word (width v) behind b k h ∙ ap Some found) fits, number_ok v c.field-number.result fits, fits))
+    (next_is_in_bits v c.field-number.result b k (first_lies word (width v) beyond b k h ∙ ap Some found) fits, number_ok v c.field-number.result fits, fits))

@@ -22,7 +22,7 @@ invariant_of-self-inside g c =
     let carrier : i.packets.left.carrier ≡ Message g.H.Packet.AnyPacket.WAY = rw (← v) at (packets_parts c.args.self.now c.requires.phase).0 in
     let (xs, at, run) = c.requires.run in
     let leap = c.resume.ensures xs at (rw carrier (rw (← v) at run)) in
-    (packets_stands s c.behind_packets-self-inside.result c.resume.new.self.left leap.whole (rw (← v) at c.requires.phase) c.behind_packets-self-inside.ensures leap.follows.0, tt)
+    (packets_stands s c.after_packets-self-inside.result c.resume.new.self.left leap.whole (rw (← v) at c.requires.phase) c.after_packets-self-inside.ensures leap.follows.0, tt)
 
 pub returns : goal.returns
 returns g c =
@@ -30,7 +30,7 @@ returns g c =
     let v = c.self.view_is in
     let s = state g.H.Packet.AnyPacket.WAY i.nid i.phase i.front.items i.packets.left i.padding i.packets.store i.stands in
     let l' = c.resume.new.self.left in
-    let e = c.behind_packets-self-inside.ensures in
+    let e = c.after_packets-self-inside.ensures in
     let holds = g.H.Store.PacketStore.holds in
     let phase : i.phase ≡ Packets = rw (← v) at c.requires.phase in
     let carrier : i.packets.left.carrier ≡ Message g.H.Packet.AnyPacket.WAY = rw (← v) at (packets_parts c.args.self.now c.requires.phase).0 in

@@ -3,7 +3,7 @@ use Rattle.std.proofs.lemmas.Result.{err_from_is_err_and}
 use Rattle.etcs_bits.specs.Bits.{bits, part}
 use Rattle.etcs_bits.proofs.Positions.{length-bits}
 use Rattle.etcs_reader.specs.Readers.{Passed, part_of}
-use Rattle.etcs_reader.proofs.Passing.{passed_along, front_of, takes_all, halts_behind, halts_within}
+use Rattle.etcs_reader.proofs.Passing.{passed_along, front_of, takes_all, halts_after, halts_within}
 use Rattle.etcs_reader.proofs.reader.Reader.push.Goals as goal
 
 pub overflow_mul-end : goal.overflow_mul-end
@@ -29,7 +29,7 @@ returns-in_err-at-clause-err g c =
     let p = err_from_is_err_and c.from_residual.result c.from_residual.ensures.1 in
     let within : c.loop-at.at ≤ length (bits c.args.piece.now) = omega (arith, length-bits c.args.piece.now, c.loop-at-test.true) in
     rw (p.1, p.2)
-    (λ s b f. halts_behind g.R.Rest.left g.met.R.Rest.regular g.R.Rest.follows g.met.R.Rest.residual g.met.R.Rest.both g.R.Rest.fails s b c.loop-at.self c.advance.new.self (bits c.args.piece.now) c.loop-at.at (c.loop-at.invariant.passed s b f) within c.in_err-at.field-0.0 c.in_err-at.ensures.err)
+    (λ s b f. halts_after g.R.Rest.left g.met.R.Rest.regular g.R.Rest.follows g.met.R.Rest.residual g.met.R.Rest.both g.R.Rest.fails s b c.loop-at.self c.advance.new.self (bits c.args.piece.now) c.loop-at.at (c.loop-at.invariant.passed s b f) within c.in_err-at.field-0.0 c.in_err-at.ensures.err)
 
 pub returns-in_err-at-clause-within : goal.returns-in_err-at-clause-within
 returns-in_err-at-clause-within g c =

@@ -5,7 +5,7 @@ use Rattle.etcs_bits.proofs.Numbers.{length-num}
 use Rattle.etcs_bits.proofs.Positions.{length-bits}
 use Rattle.etcs_vars.specs.Vars.{width}
 use Rattle.etcs_vars.proofs.Stepping.{parts_fit}
-use Rattle.etcs_reader.proofs.Parts.{high_fits, unfinished_none, unfinished_more, passed_none, passed_more, passed_front, passed_whole, goes_behind, refuses_front, starts_with, unfinished_owner}
+use Rattle.etcs_reader.proofs.Parts.{high_fits, unfinished_none, unfinished_more, passed_none, passed_more, passed_front, passed_whole, goes_after, refuses_front, starts_with, unfinished_owner}
 use Rattle.etcs_reader.proofs.reader.Reader.step.Goals as goal
 
 pub overflow_mul-piece : goal.overflow_mul-piece
@@ -74,7 +74,7 @@ returns-in-Ok-clause-ok g c =
     let none : c.width.result - s.taken - c.min-count.result ≡ 0 = omega (arith, c.if-rest-gt0.false) in
     let whole : s.taken + c.min-count.result ≡ width c.args.var = omega (arith, c.if-rest-gt0.false, c.width.ensures, lt, c.min-count.ensures) in
     let residual = g.met.R.Rest.residual s.rest new ((c.args.var, c.joined-number.result) ∷ []) c.in-Ok.ensures.ok in
-    let goes = goes_behind (g.R.Rest.left s.rest) (g.R.Rest.left new) c.args.var c.joined-number.result (c.width.result - s.taken - c.min-count.result) none residual (c.begins.ensures.0 c.if-not-begins.false) in
+    let goes = goes_after (g.R.Rest.left s.rest) (g.R.Rest.left new) c.args.var c.joined-number.result (c.width.result - s.taken - c.min-count.result) none residual (c.begins.ensures.0 c.if-not-begins.false) in
     let follows = rw c.joined-number.ensures at c.in-Ok.ensures.ok in
     record {
       reader = unfinished_none (g.R.Rest.left new) (g.met.R.Rest.regular new) (g.R.Rest.next new) (g.met.R.Rest.begins_with new) goes;

@@ -4,7 +4,7 @@ use Rattle.etcs_bits.specs.Bits.{bits, num, part}
 use Rattle.etcs_bits.proofs.Positions.{length-bits}
 use Rattle.etcs_vars.specs.Vars.{width}
 use Rattle.etcs_vars.proofs.Prefixes.{width-le, width_pos}
-use Rattle.etcs_reader.proofs.Parts.{unfinished_leap, passed_none, passed_one, goes_behind, starts_one, unfinished_owner}
+use Rattle.etcs_reader.proofs.Parts.{unfinished_leap, passed_none, passed_one, goes_after, starts_one, unfinished_owner}
 use Rattle.etcs_reader.proofs.reader.Reader.whole.Goals as goal
 
 pub overflow_mul-piece : goal.overflow_mul-piece
@@ -33,7 +33,7 @@ returns-in-Ok-clause-ok g c =
     let xs = bits c.args.piece.now in
     let new = c.pass.new.self in
     let residual = g.met.R.Rest.residual s.rest new ((c.args.var, c.number_at-number.result) ∷ []) c.in-Ok.ensures.ok in
-    let goes = goes_behind (g.R.Rest.left s.rest) (g.R.Rest.left new) c.args.var c.number_at-number.result 0 refl residual (c.begins.ensures.0 c.if-not-begins.false) in
+    let goes = goes_after (g.R.Rest.left s.rest) (g.R.Rest.left new) c.args.var c.number_at-number.result 0 refl residual (c.begins.ensures.0 c.if-not-begins.false) in
     let b = subst (λ k. num k c.number_at-number.result ≡ part c.args.at c.width-width.result xs) c.width-width.ensures c.number_at-number.ensures.bits in
     record {
       reader = unfinished_leap (g.R.Rest.left new) (g.met.R.Rest.regular new) (g.R.Rest.next new) (g.met.R.Rest.begins_with new) s.number s.taken c.requires.reader.fits c.requires.none goes;

@@ -24,11 +24,11 @@ loop-line-preserved g c =
     let before = c.loop-line.invariant in
     let ended = c.in_ok-end_line.ensures in
     let line = c.in-Some.line.now in
-    let behind = c.in-Some.behind.now in
+    let beyond = c.in-Some.beyond.now in
     record {
       front = before.front ++ (line ++ 10 ∷ []);
       job_is = ended.job ∙ before.job_is;
-      all = cut_line c.args.piece.now before.front c.loop-line.rest.now line behind before.all c.in-Some.ensures.some.0;
+      all = cut_line c.args.piece.now before.front c.loop-line.rest.now line beyond before.all c.in-Some.ensures.some.0;
       stands = λ given output h. (
           subst (λ (z : List ℕ). Stands g.T.LineHandler c.end_line.new.self z (output ++ c.end_line.new.text.items)) (append_assoc given before.front (line ++ 10 ∷ []))
           (ended.ok (given ++ before.front) output (before.stands given output h))
@@ -42,7 +42,7 @@ end_line-requires g c =
     let rest = c.loop-line.rest.now in
     let line = c.in-Some.line.now in
     record {
-      stands = (given ++ before.front, output, before.stands given output h, omega (arith, short, length-append given before.front, ap length before.all, length-append before.front rest, ap length c.in-Some.ensures.some.0, length-append line (10 ∷ c.in-Some.behind.now)));
+      stands = (given ++ before.front, output, before.stands given output h, omega (arith, short, length-append given before.front, ap length before.all, length-append before.front rest, ap length c.in-Some.ensures.some.0, length-append line (10 ∷ c.in-Some.beyond.now)));
       line = c.in-Some.ensures.some.1;
     }
 
@@ -63,8 +63,8 @@ returns-in_err-end_line-clause-err g c given output h =
     let text = c.end_line.new.text.items in
     let e = c.in_err-end_line.field-0.0 in
     let r = err_from_is_err_and c.from_residual.result c.from_residual.ensures.1 in
-    let stops = c.in_err-end_line.ensures.err c.in-Some.behind.now (given ++ before.front) output (before.stands given output h) in
-    let all = piece_stops (λ (z : List ℕ). IsOfEngine e × p.Stops z (output ++ text) e) given piece before.front c.loop-line.rest.now c.in-Some.line.now c.in-Some.behind.now before.all c.in-Some.ensures.some.0 stops in
+    let stops = c.in_err-end_line.ensures.err c.in-Some.beyond.now (given ++ before.front) output (before.stands given output h) in
+    let all = piece_stops (λ (z : List ℕ). IsOfEngine e × p.Stops z (output ++ text) e) given piece before.front c.loop-line.rest.now c.in-Some.line.now c.in-Some.beyond.now before.all c.in-Some.ensures.some.0 stops in
     rw (r.1, r.2) (rw before.job_is at all)
 
 pub returns-clause-ok : goal.returns-clause-ok

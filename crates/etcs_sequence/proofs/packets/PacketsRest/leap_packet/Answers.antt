@@ -10,7 +10,7 @@ use Rattle.etcs_tables.specs.declared.row.Way.TheVariants.{ToTrain, ToTrack}
 use Rattle.etcs_packets.specs.PacketReadings.{reading_to}
 use Rattle.etcs_packets.specs.laws.PacketReadings.{bits_are}
 use Rattle.etcs_rows.specs.Frames.{way_of}
-use Rattle.etcs_sequence.proofs.Carried.{behind_whole}
+use Rattle.etcs_sequence.proofs.Carried.{after_whole}
 use Rattle.etcs_rows.specs.Frames.{may_be_left}
 use Rattle.etcs_sequence.proofs.Fits.{run_some}
 use Rattle.etcs_sequence.specs.AtOnce.{WholeAt}
@@ -69,7 +69,7 @@ returns-clause-some g c =
     let within = rw c.in-Some.is at c.in-Ok.ensures.within in
     let left : IsTrue (may_be_left s.carrier (s.room - n)) = rw c.in-Some.is at c.in-Ok.ensures.left in
     let w : WholeAt s.carrier H H' xs c.args.at n = rw c.in-Some.is at c.in-Ok.ensures.whole in
-    let moved = c.skip.ensures.moved (reading_to (way_of s.carrier) w.packet) (behind_whole s.carrier s.room H H' xs c.args.at n w within.1, bits_are (way_of s.carrier) w.packet ∙ w.long) in
+    let moved = c.skip.ensures.moved (reading_to (way_of s.carrier) w.packet) (after_whole s.carrier s.room H H' xs c.args.at n w within.1, bits_are (way_of s.carrier) w.packet ∙ w.long) in
     let held = leapt_held s.carrier c.skip.new.self.carrier H H' xs c.args.at n s.stage c.skip.new.self.stage w c.requires.stage c.skip.ensures.carrier c.skip.ensures.here in
     let small = s.small in
     let some = run_some s.carrier (s.room - n) (omega (arith, small)) left in
@@ -86,7 +86,7 @@ pub returns-in_default-clause-none : goal.returns-in_default-clause-none
 returns-in_default-clause-none g c =
     let r = c.args.self.now in
     let e = (rw c.in_default.is at c.in-Ok.ensures.none) refl in
-    λ none. subst (λ (store : g.row.S.Denot). (w : way_of r.left.carrier ≡ g.S.PacketStore.WAY) (h : held-type g.row.S.Denot g.S.PacketStore r.left store w) → ◌≡◌ {A = PacketsRest g.row.S.Denot g.S.PacketStore} (record { left = r.left; store = store; way = w; held = h }) r) (sym e) (λ w h i. record { left = r.left; store = r.store; way = ways_alike (way_of r.left.carrier) g.S.PacketStore.WAY w r.way i; held = ∥∥₁_prop h r.held i }) _ _
+    λ none. subst (λ (store : g.row.S.Denot). (w : way_of r.left.carrier ≡ g.S.PacketStore.WAY) (h : held-type g.row.S.Denot g.S.PacketStore r.left store r.tried w) → ◌≡◌ {A = PacketsRest g.row.S.Denot g.S.PacketStore} (record { left = r.left; store = store; tried = r.tried; way = w; held = h }) r) (sym e) (λ w h i. record { left = r.left; store = r.store; tried = r.tried; way = ways_alike (way_of r.left.carrier) g.S.PacketStore.WAY w r.way i; held = ∥∥₁_prop h r.held i }) _ _
 
 pub returns-in-Err-clause-viable : goal.returns-in-Err-clause-viable
 returns-in-Err-clause-viable g c =

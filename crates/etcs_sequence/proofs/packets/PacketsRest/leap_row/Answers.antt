@@ -23,8 +23,8 @@ finish-requires g c =
     let by = run_taken s.carrier s.stage e.new.self.stage run.run c.as_slice.result.now e.result (g.S.PacketStore.holds c.args.self.now.store) (g.S.PacketStore.holds c.absorb_numbers.new.store) (run.numbers_are ∙ sym c.as_slice.ensures.value) c.in-Ok.ensures.ok (e.ensures.here c.in-Row.row run.run stage run.follows) in
     ∥∥₁_map c.args.self.now.held (λ old. let w = old (rw stage refl) in event_held g.S.PacketStore.WAY c.args.self.now.way (by w.0 w.1))
 
-pub invariant_of-self-in-Ok-finish : goal.invariant_of-self-in-Ok-finish
-invariant_of-self-in-Ok-finish g c =
+pub invariant_of-self-2 : goal.invariant_of-self-2
+invariant_of-self-2 g c =
     let s = c.args.self.now.left in
     let stage = same_row s.stage c.in-Row.field-0 c.in-Row.field-1 c.args.nid c.args.dir c.in-Row.row c.in-Row.is c.requires.row in
     let run = c.in-Some.ensures.run in

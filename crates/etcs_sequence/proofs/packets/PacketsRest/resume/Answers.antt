@@ -3,7 +3,7 @@ use Rattle.std.proofs.Math.Bridge.{le_prop}
 use Rattle.std.proofs.Math.Logic.{∥∥₁_elim, ∥∥₁_map}
 use Rattle.etcs_rows.specs.Frames.{way_of}
 use Rattle.etcs_sequence.proofs.Fits.{run_some}
-use Rattle.etcs_sequence.proofs.Resuming.{variables, run_long, run_inside, run_behind, run_held, run_follows}
+use Rattle.etcs_sequence.proofs.Resuming.{variables, run_long, run_inside, run_after, run_held, run_follows}
 use Rattle.etcs_sequence.proofs.packets.PacketsRest.resume.Goals as goal
 
 pub overflow_sub-taken : goal.overflow_sub-taken
@@ -25,7 +25,7 @@ returns g c xs at (run, some, may) =
     let left = c.args.left in
     let H = g.S.PacketStore.holds c.args.self.now.store in
     let H' = g.S.PacketStore.holds c.args.store in
-    let moved = c.skip.ensures.moved (variables s.carrier s.room H' xs at left run) (run_behind s.carrier s.room H' xs at left run, run_long s.carrier s.room H' xs at left run) in
+    let moved = c.skip.ensures.moved (variables s.carrier s.room H' xs at left run) (run_after s.carrier s.room H' xs at left run, run_long s.carrier s.room H' xs at left run) in
     let held = run_follows s.carrier s.room H' xs at left run H s.stage t.stage t.carrier c.requires.stage c.requires.none c.skip.ensures.carrier c.skip.ensures.here in
     let small = s.small in
     let same : s.room - (s.room - left) ≡ left = omega (arith, some) in

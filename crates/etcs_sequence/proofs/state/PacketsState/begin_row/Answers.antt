@@ -32,7 +32,7 @@ pub returns-then-is_none : goal.returns-then-is_none
 returns-then-is_none c =
     let s = c.args.self.now in
     let a = c.args in
-    let b = c.behind_packet-self in
+    let b = c.after_packet-self in
     let v = c.begin-left.result in
     let goes = rw c.requires.stage at c.requires.goes in
     let w = rw (c.frame_bits.ensures.bits, c.way.ensures) at c.begin-left.ensures in

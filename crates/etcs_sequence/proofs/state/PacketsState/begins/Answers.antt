@@ -63,8 +63,8 @@ returns-in-Row c =
     let row = c.in-Row.row in
     let reads = ReadsIn row.place row.len in
     let next = rw c.in-Row.is at c.requires.next in
-    let behind = (then_goes reads (PacketsIn s.carrier s.room) (rw c.in-Row.is at c.requires.goes)).1 in
-    let both = then_starts reads (PacketsIn s.carrier s.room) c.args.var (row_begins_with row.place row.len c.args.var next) behind c.args.rest c.args.number in
+    let beyond = (then_goes reads (PacketsIn s.carrier s.room) (rw c.in-Row.is at c.requires.goes)).1 in
+    let both = then_starts reads (PacketsIn s.carrier s.room) c.args.var (row_begins_with row.place row.len c.args.var next) beyond c.args.rest c.args.number in
     rw c.in-Row.is (λ t. both.0 (c.begins-in-Row.ensures.0 t), λ h. c.begins-in-Row.ensures.1 (both.1 h))
 
 pub returns-in-Kept : goal.returns-in-Kept
@@ -72,6 +72,6 @@ returns-in-Kept c =
     let s = c.args.self.now in
     let left = c.in-Kept.field-2 in
     let some = some_left s.carrier s.room c.in-Kept.field-0 c.in-Kept.field-1 left (rw c.in-Kept.is at s.stands) in
-    let behind = (then_goes (KeptIn left) (PacketsIn s.carrier s.room) (rw c.in-Kept.is at c.requires.goes)).1 in
+    let beyond = (then_goes (KeptIn left) (PacketsIn s.carrier s.room) (rw c.in-Kept.is at c.requires.goes)).1 in
     let next = rw c.in-Kept.is at c.requires.next in
-    rw c.in-Kept.is (λ t. kept_starts left (PacketsIn s.carrier s.room) c.args.var c.args.rest c.args.number next some behind c.requires.rest c.requires.fits, λ h. refl)
+    rw c.in-Kept.is (λ t. kept_starts left (PacketsIn s.carrier s.room) c.args.var c.args.rest c.args.number next some beyond c.requires.rest c.requires.fits, λ h. refl)

@@ -7,5 +7,5 @@ overflow_sub-self c = marker_room c.args.self.now.room c.args.number (rw c.requi
 pub returns-clause-moved : goal.returns-clause-moved
 returns-clause-moved c =
     let s = c.args.self.now in
-    let e = c.behind_packet-self.ensures in
-    rw c.requires.stage (marker_moved s.carrier s.room c.args.number c.behind_packet-self.result (rw c.requires.stage at s.stands) (rw c.requires.stage at c.requires.goes) e.same e.ahead)
+    let e = c.after_packet-self.ensures in
+    rw c.requires.stage (marker_moved s.carrier s.room c.args.number c.after_packet-self.result (rw c.requires.stage at s.stands) (rw c.requires.stage at c.requires.goes) e.same e.ahead)

@@ -15,7 +15,7 @@ pub invariant_of-self : goal.invariant_of-self
 invariant_of-self c =
     let s = c.args.self.now in
     let framed : IsTrue (is_framed (way_of s.carrier) c.args.number) = rw c.way-way.ensures at (sym c.is_framed.ensures ∙ c.if-is_framed.true) in
-    record { small = s.small; stands = rw (c.behind_framed-self.ensures, c.way-way.ensures) (framed_stands s.carrier s.room c.args.number framed) }
+    record { small = s.small; stands = rw (c.after_framed-self.ensures, c.way-way.ensures) (framed_stands s.carrier s.room c.args.number framed) }
 
 pub returns-then-is_framed : goal.returns-then-is_framed
 returns-then-is_framed c =
@@ -23,7 +23,7 @@ returns-then-is_framed c =
     let more = rw c.requires.stage at s.stands in
     let goes = rw c.requires.stage at c.requires.goes in
     let framed : IsTrue (is_framed (way_of s.carrier) c.args.number) = rw c.way-way.ensures at (sym c.is_framed.ensures ∙ c.if-is_framed.true) in
-    rw (c.requires.stage, c.behind_framed-self.ensures, c.way-way.ensures) record { moved = framed_moved s.carrier s.room c.args.number more goes framed; here = framed_here s.carrier s.room c.args.number more goes }
+    rw (c.requires.stage, c.after_framed-self.ensures, c.way-way.ensures) record { moved = framed_moved s.carrier s.room c.args.number more goes framed; here = framed_here s.carrier s.room c.args.number more goes }
 
 pub returns-then-nid : goal.returns-then-nid
 returns-then-nid c =

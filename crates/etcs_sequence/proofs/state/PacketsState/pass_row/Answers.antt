@@ -12,8 +12,8 @@ use Rattle.etcs_sequence.specs.Lefts.{is_stage}
 use Rattle.etcs_sequence.proofs.LeftBodies.{row_starts, row_goes, row_passed, row_whole, here_more, here_whole}
 use Rattle.etcs_sequence.proofs.state.PacketsState.pass_row.Goals as goal
 
-pub go_on-requires-clause-goes : goal.go_on-requires-clause-goes
-go_on-requires-clause-goes c =
+pub continue_with-requires-clause-goes : goal.continue_with-requires-clause-goes
+continue_with-requires-clause-goes c =
     let s = c.args.self.now in
     row_starts s.carrier s.room c.in-Row.row c.args.var c.args.number (rw c.in-Row.is at c.requires.next) (rw c.in-Row.is at c.requires.goes)
 
@@ -21,24 +21,24 @@ pub returns-then-is_some-clause-moved : goal.returns-then-is_some-clause-moved
 returns-then-is_some-clause-moved c =
     let s = c.args.self.now in
     let r = c.in-Row in
-    let e = c.go_on.ensures in
-    rw r.is (row_passed s.carrier s.room r.field-0 r.field-1 r.row c.go_on.new.self c.args.var c.args.number (rw r.is at c.requires.next) e.len e.after)
+    let e = c.continue_with.ensures in
+    rw r.is (row_passed s.carrier s.room r.field-0 r.field-1 r.row c.continue_with.new.self c.args.var c.args.number (rw r.is at c.requires.next) e.len e.after)
 
 pub returns-then-is_some-clause-here : goal.returns-then-is_some-clause-here
 returns-then-is_some-clause-here c f k h here =
     let s = c.args.self.now in
     let r = c.in-Row in
-    let new = c.go_on.new.self in
+    let new = c.continue_with.new.self in
     let i = rw r.is at here in
-    rw r.is (i.0, here_more (way_of s.carrier) r.field-0 r.field-1 r.row.place r.row.len new.place new.len f h ((c.args.var, c.args.number) ∷ []) i.1 c.go_on.ensures.left)
+    rw r.is (i.0, here_more (way_of s.carrier) r.field-0 r.field-1 r.row.place r.row.len new.place new.len f h ((c.args.var, c.args.number) ∷ []) i.1 c.continue_with.ensures.left)
 
 pub returns-clause-moved : goal.returns-clause-moved
 returns-clause-moved c =
     let s = c.args.self.now in
     let r = c.in-Row in
-    let new = c.go_on.new.self in
-    let b = c.behind_packet-self in
-    let e = c.go_on.ensures in
+    let new = c.continue_with.new.self in
+    let b = c.after_packet-self in
+    let e = c.continue_with.ensures in
     let next = rw r.is at c.requires.next in
     let goes = row_goes s.carrier s.room r.row new c.args.var c.args.number next (rw r.is at c.requires.goes) e.left in
     let none = rw c.var.ensures at (none_is c.var.result (sym c.if-is_some.ensures)) in
@@ -49,8 +49,8 @@ pub returns-clause-here : goal.returns-clause-here
 returns-clause-here c f k h here =
     let s = c.args.self.now in
     let r = c.in-Row in
-    let new = c.go_on.new.self in
-    let d = c.go_on.ensures.left in
+    let new = c.continue_with.new.self in
+    let d = c.continue_with.ensures.left in
     let i = rw r.is at here in
     let (row, at) = c.requires.row in
     let two : ◌≡◌ {A = Stage} (Row r.field-0 r.field-1 r.row) (Row c.args.nid c.args.dir row) = sym r.is ∙ at in
@@ -62,4 +62,4 @@ returns-clause-here c f k h here =
     let goes = row_goes s.carrier s.room r.row new c.args.var c.args.number (rw r.is at c.requires.next) (rw r.is at c.requires.goes) d in
     let none = rw c.var.ensures at (none_is c.var.result (sym c.if-is_some.ensures)) in
     let more = here_more (way_of s.carrier) r.field-0 r.field-1 r.row.place r.row.len new.place new.len f h ((c.args.var, c.args.number) ∷ []) i.1 d in
-    rw (r.is, ← number, ← direction) (i.0, here_whole s.carrier r.field-0 r.field-1 new (f ++ c.args.number ∷ []) (h ++ (c.args.var, c.args.number) ∷ []) directed none goes more, c.behind_packet-self.ensures.here)
+    rw (r.is, ← number, ← direction) (i.0, here_whole s.carrier r.field-0 r.field-1 new (f ++ c.args.number ∷ []) (h ++ (c.args.var, c.args.number) ∷ []) directed none goes more, c.after_packet-self.ensures.here)

@@ -28,7 +28,7 @@ pub returns-clause-moved : goal.returns-clause-moved
 returns-clause-moved c row p is to =
     let s = c.args.self.now in
     let left = c.args.left in
-    let b = c.behind_packet-self in
+    let b = c.after_packet-self in
     let none = rw c.var.ensures at (none_is c.var.result (sym c.if-is_some.ensures)) in
     let m = row_run s.carrier s.room c.args.nid c.args.dir row left p to.read in
     rw is (row_whole s.carrier s.room (Row c.args.nid c.args.dir row) p s.carrier s.room c.args.nid c.args.dir left b.result m none c.requires.goes b.ensures.same b.ensures.ahead)
@@ -44,4 +44,4 @@ returns-clause-here c row p is to f k h here =
     let directed = (and_both (is_direction way c.args.dir) (is_some (first_variable row.place)) last.1).0 in
     let none = rw c.var.ensures at (none_is c.var.result (sym c.if-is_some.ensures)) in
     let more = here_more way c.args.nid c.args.dir row.place row.len left.place left.len f h p i.1 to.residual in
-    (i.0, here_whole s.carrier c.args.nid c.args.dir left (f ++ numbers p) (h ++ p) directed none c.requires.goes more, c.behind_packet-self.ensures.here)
+    (i.0, here_whole s.carrier c.args.nid c.args.dir left (f ++ numbers p) (h ++ p) directed none c.requires.goes more, c.after_packet-self.ensures.here)

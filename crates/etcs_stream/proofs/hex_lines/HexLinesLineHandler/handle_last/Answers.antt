@@ -4,7 +4,7 @@ use Rattle.etcs_runs.specs.Lines.{lines_text}
 use Rattle.etcs_stream.specs.Stands.{HexStands}
 use Rattle.etcs_runs.proofs.Keeping.{none_output}
 use Rattle.etcs_stream.proofs.HexSteps.{hex_last_stops, hex_finish_ends, hex_finish_stops}
-use Rattle.etcs_stream.proofs.HexTakes.{kept_behind}
+use Rattle.etcs_stream.proofs.HexTakes.{kept_after}
 use Rattle.etcs_stream.proofs.Saying.{says_first, says_first_if, says_same, says_then_if}
 use Rattle.etcs_stream.proofs.hex_lines.HexLinesLineHandler.handle_last.Goals as goal
 
@@ -19,7 +19,7 @@ returns-in_err-handle-clause-err c lines output h l m =
     let i = c.args.self.now.items in
     let line = c.args.line.now in
     let given = lines_text lines ++ line in
-    let h' = none_output (HexStands i.job i.reader i.printer line (length lines) given) output c.args.text.now.items c.requires.empty (kept_behind i.job i.reader i.printer lines line output h l) in
+    let h' = none_output (HexStands i.job i.reader i.printer line (length lines) given) output c.args.text.now.items c.requires.empty (kept_after i.job i.reader i.printer lines line output h l) in
     let p = err_from_is_err_and c.from_residual.result c.from_residual.ensures.1 in
     rw (p.1, p.2)
     (hex_last_stops i.job i.reader i.printer line (length lines) given output c.args.text.now.items h' c.handle.new.text.items c.in_err-handle.field-0.0 (rw m at c.in_err-handle.ensures.err))
@@ -30,7 +30,7 @@ returns-clause-ok c lines output h l =
     let i' = c.handle.new.self.items in
     let line = c.args.line.now in
     let given = lines_text lines ++ line in
-    let h' = none_output (HexStands i.job i.reader i.printer line (length lines) given) output c.args.text.now.items c.requires.empty (kept_behind i.job i.reader i.printer lines line output h l) in
+    let h' = none_output (HexStands i.job i.reader i.printer line (length lines) given) output c.args.text.now.items c.requires.empty (kept_after i.job i.reader i.printer lines line output h l) in
     let e = c.in_ok-handle.ensures in
     let f = c.finish.ensures in
     hex_finish_ends i.job i.reader i.printer line (length lines) given output c.args.text.now.items h' i'.reader i'.printer c.handle.new.text.items e.good e.waits e.reported e.room e.ok c.finish.new.text.items c.finish.result f.whole (rw e.job at f.ok)
@@ -41,7 +41,7 @@ returns-clause-err c lines output h l m =
     let i' = c.handle.new.self.items in
     let line = c.args.line.now in
     let given = lines_text lines ++ line in
-    let h' = none_output (HexStands i.job i.reader i.printer line (length lines) given) output c.args.text.now.items c.requires.empty (kept_behind i.job i.reader i.printer lines line output h l) in
+    let h' = none_output (HexStands i.job i.reader i.printer line (length lines) given) output c.args.text.now.items c.requires.empty (kept_after i.job i.reader i.printer lines line output h l) in
     let e = c.in_ok-handle.ensures in
     hex_finish_stops i.job i.reader i.printer line (length lines) given output c.args.text.now.items h' i'.reader i'.printer c.handle.new.text.items e.good e.waits e.reported e.room e.ok c.finish.new.text.items c.finish.result c.finish.ensures.err
 

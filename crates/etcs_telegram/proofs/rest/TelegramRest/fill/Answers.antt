@@ -2,7 +2,7 @@ use Rattle.std.proofs.Common.{◌≡◌, [], ap, ◌∙◌, length}
 use Rattle.std.proofs.Math.Logic.{∥∥₁_map}
 use Rattle.etcs_telegram.specs.Phases.{after_fill}
 use Rattle.etcs_telegram.proofs.RestSteps.{fill_goes}
-use Rattle.etcs_telegram.proofs.RestHolds.{state, fill_follows, fill_room, fits_behind}
+use Rattle.etcs_telegram.proofs.RestHolds.{state, fill_follows, fill_room, fits_after}
 use Rattle.etcs_telegram.proofs.rest.TelegramRest.fill.Goals as goal
 
 pub bits-requires : goal.bits-requires
@@ -15,7 +15,7 @@ invariant_of-self-2 g c =
     let i = c.self.inside in
     let holds = g.S.PacketStore.holds in
     let to : c.after_fill-self-inside.result ≡ after_fill i.size c.args.left (length c.args.slice.now) = c.after_fill-self-inside.ensures ∙ ap (after_fill i.size c.args.left) c.len.ensures in
-    ∥∥₁_map c.self.invariant (fits_behind i.size i.phase c.after_fill-self-inside.result c.args.left (holds i.packets.store) (holds c.bits.new.self) c.args.slice.now (rw (← c.self.view_is) at c.requires.phase) to c.requires.within (λ vs k h. c.in_ok-bits.ensures.ok vs [] k h))
+    ∥∥₁_map c.self.invariant (fits_after i.size i.phase c.after_fill-self-inside.result c.args.left (holds i.packets.store) (holds c.bits.new.self) c.args.slice.now (rw (← c.self.view_is) at c.requires.phase) to c.requires.within (λ vs k h. c.in_ok-bits.ensures.ok vs [] k h))
 
 pub returns : goal.returns
 returns g c =

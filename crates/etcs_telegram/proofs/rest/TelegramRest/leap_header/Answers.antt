@@ -5,7 +5,7 @@ use Rattle.etcs_telegram.proofs.FrontSteps.{front_left, front_leaps}
 use Rattle.etcs_telegram.specs.declared.phase.Phase.{Phase}
 use Rattle.etcs_telegram.specs.declared.phase.Phase.TheVariants.{Header, Packets}
 use Rattle.etcs_tables.specs.Headers.{header_row}
-use Rattle.etcs_telegram.specs.Lefts.{PacketsBehind, left_at}
+use Rattle.etcs_telegram.specs.Lefts.{PacketsAfter, left_at}
 use Rattle.etcs_telegram.proofs.RestHolds.{state, whole_header}
 use Rattle.etcs_telegram.proofs.rest.TelegramRest.leap_header.Goals as goal
 
@@ -19,5 +19,5 @@ returns-clause-some g c =
     let goes : Goes (left_at i.size (Header 0) i.packets.left) = subst (λ (x : Phase). Goes (left_at i.size x i.packets.left)) phase (rw (← v) at c.requires.goes) in
     rw (← v)
     (front_leaps header_row (bits c.args.piece.now) c.args.at c.in_ok-numbers.numbers.items c.in_ok-numbers.end (left_at i.size Packets i.packets.left) _ (omega arith) f
-    (front_left (PacketsBehind i.size i.packets.left) header_row goes)
+    (front_left (PacketsAfter i.size i.packets.left) header_row goes)
     (whole_header g.S.PacketStore.holds s c.in_ok-numbers.numbers.items _ (bits c.args.piece.now) c.args.at c.in_ok-numbers.end phase f))

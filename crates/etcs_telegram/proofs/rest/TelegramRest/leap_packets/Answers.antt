@@ -4,7 +4,7 @@ use Rattle.etcs_sequence.specs.Lefts.{is_closed}
 use Rattle.etcs_bits.specs.Bits.{bits, part}
 use Rattle.etcs_sequence.specs.declared.packets.PacketsRest.{PacketsRest}
 use Rattle.etcs_telegram.specs.declared.phase.Phase.TheVariants.{Packets}
-use Rattle.etcs_telegram.specs.Lefts.{behind_packets}
+use Rattle.etcs_telegram.specs.Lefts.{after_packets}
 use Rattle.etcs_sequence.proofs.Leaps.{on_err, steps, leaps_on}
 use Rattle.etcs_telegram.proofs.RestSteps.{packets_all, packets_viable, packets_parts}
 use Rattle.etcs_telegram.proofs.RestHolds.{state, same_state, packets_follow, packets_fits}
@@ -17,7 +17,7 @@ invariant_of-self-2 g c =
     let holds = g.S.PacketStore.holds in
     let s = state i.size i.phase i.header.items i.packets.left i.packets.store i.stands in
     let by = steps i.packets.left l' (holds i.packets.store) (holds c.leap.new.self.store) (bits c.args.piece.now) c.args.at c.in_ok-leapt.leapt (λ none. let same = c.in_ok-leapt.ensures.none none in (ap (λ (p : PacketsRest _ _). p.left) same, ap (λ (p : PacketsRest _ _). holds p.store) same)) c.in_ok-leapt.ensures.some in
-    ∥∥₁_map i.packets.held (packets_fits s c.behind_packets-self-inside.result l' (holds i.packets.store) (holds c.leap.new.self.store) by.0 (rw (← c.self.view_is) at c.requires.phase) c.behind_packets-self-inside.ensures by.1)
+    ∥∥₁_map i.packets.held (packets_fits s c.after_packets-self-inside.result l' (holds i.packets.store) (holds c.leap.new.self.store) by.0 (rw (← c.self.view_is) at c.requires.phase) c.after_packets-self-inside.ensures by.1)
 
 pub returns-clause-some : goal.returns-clause-some
 returns-clause-some g c =
@@ -25,7 +25,7 @@ returns-clause-some g c =
     let v = c.self.view_is in
     let s = state i.size i.phase i.header.items i.packets.left i.packets.store i.stands in
     let l' = c.leap.new.self.left in
-    let e = c.behind_packets-self-inside.ensures in
+    let e = c.after_packets-self-inside.ensures in
     let holds = g.S.PacketStore.holds in
     let phase : i.phase ≡ Packets = rw (← v) at c.requires.phase in
     rw (← v)
@@ -40,7 +40,7 @@ returns-clause-none g c =
     let is_open : is_closed i.packets.left.stage ≡ false = rw (← v) at (packets_parts c.args.self.now c.requires.phase).2 in
     λ none.
     let e : c.leap.new.self ≡ i.packets = c.in_ok-leapt.ensures.none none in
-    let f : c.behind_packets-self-inside.result ≡ i.phase = c.behind_packets-self-inside.ensures ∙ ap (λ (p : PacketsRest _ _). behind_packets i.size p.left) e ∙ rw is_open (sym phase) in
+    let f : c.after_packets-self-inside.result ≡ i.phase = c.after_packets-self-inside.ensures ∙ ap (λ (p : PacketsRest _ _). after_packets i.size p.left) e ∙ rw is_open (sym phase) in
     rw (← v) (same_state i.size i.header.items _ _ _ _ _ _ _ _ f (ap (λ (p : PacketsRest _ _). p.left) e) (ap (λ (p : PacketsRest _ _). p.store) e))
 
 pub returns-in_err-leapt-clause-viable : goal.returns-in_err-leapt-clause-viable

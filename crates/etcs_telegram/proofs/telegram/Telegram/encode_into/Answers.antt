@@ -7,9 +7,9 @@ use Rattle.etcs_telegram.proofs.telegram.Telegram.encode_into.Goals as goal
 
 pub returns-clause-ok : goal.returns-clause-ok
 returns-clause-ok c =
-    let behind = drop c.container_bytes-len.result c.args.out.now in (
+    let beyond = drop c.container_bytes-len.result c.args.out.now in (
       c.container_bytes-len.ensures ∙ ap container_bytes c.size.ensures,
       telegram_reading (telegram_value c.args.self.now),
       c.write_telegram.ensures.reads,
-      bits-append c.write_telegram.new.out behind ∙ ap (λ (b : List Bool). b ++ bits behind) c.write_telegram.ensures.bits,
+      bits-append c.write_telegram.new.out beyond ∙ ap (λ (b : List Bool). b ++ bits beyond) c.write_telegram.ensures.bits,
     )

@@ -1,5 +1,5 @@
 use Rattle.etcs_rows.proofs.RestLemmas.{row_admits}
-use Rattle.etcs_rows.proofs.rest.RowRest.go_on.Goals as goal
+use Rattle.etcs_rows.proofs.rest.RowRest.continue_with.Goals as goal
 
 pub pass_admitted-requires-clause-admitted : goal.pass_admitted-requires-clause-admitted
 pass_admitted-requires-clause-admitted c =

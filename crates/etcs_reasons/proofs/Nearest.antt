@@ -1,8 +1,9 @@
 -- The lengths of a packet that are nearest to a number.
 use Rattle.std.proofs.Common.{◌≡◌, ℕ, ◌+◌, ◌-◌, ◌≤◌, ◌<◌, min, Bool, true, false, [], refl, subst, arith, inl, inr}
-use Rattle.std.specs.Prelude.{◌↔◌, not, None, Some}
+use Rattle.std.specs.Prelude.{◌↔◌, not, Some}
 use Rattle.std.proofs.lemmas.Bool.{cases_lt}
-use Rattle.etcs_tables.specs.Layouts.{Layout, Lengths}
+use Rattle.etcs_tables.specs.Layouts.{Layout, Lengths, whole, one, guarded, counted}
+use Rattle.etcs_rows.specs.Lengths.{FitsWithin}
 use Rattle.etcs_reasons.specs.PacketLengths.{HasLength, AnyIn, IsLast, IsFirst}
 
 -- ---- Answers turned round.
@@ -62,14 +63,56 @@ first_upper row before low middle n le none ((h, lt), all) = (
   ],
 )
 
--- ---- The nearest of all.
+-- ---- In steps.
 
-pub last_of : (row : Layout) (before number end n : ℕ) → end ≡ min number 8192 → IsLast (λ m. HasLength row before m × (m < end)) (Some n) → IsLast (λ m. HasLength row before m × (m < number)) (Some n)
-last_of row before number end n least ((h, lt), all) =
-    ((h, omega (arith, lt, least)), λ k g. all k (g.0, omega (arith, g.1, g.0.3, least)))
+-- none is left out
+pub below_low : (row : Layout) (before number low end : ℕ) → ((k : ℕ) → HasLength row before k → k < number → k < end) → (AnyIn row before low end → ⊥) → (k : ℕ) → HasLength row before k → k < number → k < low
+below_low row before number low end all none k h lt =
+    elim (cases_lt k low) [
+      | inl less ↦ less
+      | inr more ↦ absurd (none (k, h, more, all k h lt))
+    ]
 
-pub last_none : (row : Layout) (before number end : ℕ) → end ≡ min number 8192 → (AnyIn row before 0 end → ⊥) → IsLast (λ m. HasLength row before m × (m < number)) None
-last_none row before number end least none = λ k g. none (k, g.0, omega arith, omega (arith, g.1, g.0.3, least))
+pub above_end : (row : Layout) (before number low end : ℕ) → ((k : ℕ) → HasLength row before k → number ≤ k → low ≤ k) → (AnyIn row before low end → ⊥) → (k : ℕ) → HasLength row before k → number ≤ k → end ≤ k
+above_end row before number low end all none k h le =
+    elim (cases_lt k end) [
+      | inl less ↦ absurd (none (k, h, all k h le, less))
+      | inr more ↦ more
+    ]
 
-pub first_none : (row : Layout) (before number : ℕ) → (AnyIn row before number 8192 → ⊥) → IsFirst (λ m. HasLength row before m × (number ≤ m)) None
-first_none row before number none = λ k g. none (k, g.0, g.1, omega (arith, g.0.3))
+pub last_of : (row : Layout) (before number low end n : ℕ) → end ≤ number → ((k : ℕ) → HasLength row before k → k < number → k < end) → IsLast (λ m. HasLength row before m × (m < end)) (Some n) → IsLast (λ m. HasLength row before m × (m < number)) (Some n)
+last_of row before number low end n le all ((h, lt), most) = ((h, omega (arith, lt, le)), λ k g. most k (g.0, all k g.0 g.1))
+
+pub first_of : (row : Layout) (before number low n : ℕ) → number ≤ low → ((k : ℕ) → HasLength row before k → number ≤ k → low ≤ k) → IsFirst (λ m. HasLength row before m × (low ≤ m)) (Some n) → IsFirst (λ m. HasLength row before m × (number ≤ m)) (Some n)
+first_of row before number low n le all ((h, lt), least) = ((h, omega (arith, lt, le)), λ k g. least k (g.0, all k g.0 g.1))
+
+-- ---- Numbers that fit.
+
+pub fits_one : (row : Layout) (low high bits : ℕ) → FitsWithin row low high bits → (n : ℕ) × (low ≤ n) × (n ≤ high) × FitsWithin row n n bits
+fits_one whole low high bits f = absurd f
+fits_one (one v rest) low high bits ((n, j, lo, hi, ok, h, e), small) = (n, lo, hi, ((n, j, omega arith, omega arith, ok, h, e), small))
+fits_one (guarded g group rest) low high bits f = absurd f
+fits_one (counted group rest) low high bits f = absurd f
+
+pub fits_among : (row : Layout) (low high bits n : ℕ) → low ≤ n → n ≤ high → FitsWithin row n n bits → FitsWithin row low high bits
+fits_among whole low high bits n lo hi f = absurd f
+fits_among (one v rest) low high bits n lo hi ((m, j, a, b, ok, h, e), small) = ((m, j, omega (arith, lo, a), omega (arith, hi, b), ok, h, e), small)
+fits_among (guarded g group rest) low high bits n lo hi f = absurd f
+fits_among (counted group rest) low high bits n lo hi f = absurd f
+
+-- in the upper half, where none is in the lower one
+pub fits_upper : (row : Layout) (low middle high bits : ℕ) → FitsWithin row low high bits → (FitsWithin row low (middle - 1) bits → ⊥) → low < middle → FitsWithin row middle high bits
+fits_upper row low middle high bits f none lt =
+    let (n, lo, hi, at) = fits_one row low high bits f in
+    elim (cases_lt n middle) [
+      | inl less ↦ absurd (none (fits_among row low (middle - 1) bits n lo (omega (arith, less)) at))
+      | inr more ↦ fits_among row middle high bits n more hi at
+    ]
+
+-- none that fits is left out
+pub fits_beyond : (row : Layout) (from low middle bits : ℕ) → ((n : ℕ) → FitsWithin row n n bits → from ≤ n → low ≤ n) → (FitsWithin row low (middle - 1) bits → ⊥) → (n : ℕ) → FitsWithin row n n bits → from ≤ n → middle ≤ n
+fits_beyond row from low middle bits all none n f le =
+    elim (cases_lt n middle) [
+      | inl less ↦ absurd (none (fits_among row low (middle - 1) bits n (all n f le) (omega (arith, less)) f))
+      | inr more ↦ more
+    ]

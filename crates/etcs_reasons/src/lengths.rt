@@ -1,10 +1,17 @@
-//! The lengths that a packet may have; those nearest to a given one are found by bisection.
+//! The lengths that a packet may have, those nearest to a given one, and the numbers of a variable that fit.
 
 ghost use Rattle.std.specs.Prelude.{◌≡◌, ◌↔◌, ℕ, ◌<◌, ◌≤◌, IsTrue, Some};
+ghost use Rattle.etcs_rows.specs.Lengths.{FitsWithin};
 ghost use Rattle.etcs_reasons.specs.PacketLengths.{AnyIn, HasLength, IsFirst, IsLast};
 
-use etcs_rows::{Place, reaches_between};
+use etcs_rows::{Place, fits, reaches_between};
 use etcs_tables::MOST_LENGTH;
+
+/// How many lengths are looked at first, next to a given one.
+const FIRST_STEP: usize = 32;
+
+/// How many times as many are looked at in each further step.
+const NEXT_STEP: usize = 8;
 
 /// The lengths in bits that a packet may have.
 #[derive(Drop)]
@@ -82,25 +89,56 @@ impl Lengths {
         self.first_in(middle, end)
     }
 
-    /// The greatest one below a number.
+    /// The greatest one below a number. It is looked for in ever greater steps.
     pub(crate) fn last_below(&self, number: usize) -> Option<usize>
         ensures { IsLast (λ m. HasLength self.now.place self.now.before m × (m < number)) result }
     {
-        let end = number.min(MOST_LENGTH + 1);
-        if end == 0 || !self.any(0, end) {
-            return None;
+        let mut end = number.min(MOST_LENGTH + 1);
+        let mut step = FIRST_STEP;
+        while end > 0 {
+            let low = end.saturating_sub(step);
+            if self.any(low, end) {
+                return Some(self.last_in(low, end));
+            }
+            end = low;
+            step = step.saturating_mul(NEXT_STEP);
         }
-        Some(self.last_in(0, end))
+        None
     }
 
-    /// The least one that isn't below a number.
+    /// The least one that isn't below a number. It is looked for in ever greater steps.
     pub(crate) fn first_from(&self, number: usize) -> Option<usize>
         ensures { IsFirst (λ m. HasLength self.now.place self.now.before m × (number ≤ m)) result }
     {
-        let end = MOST_LENGTH + 1;
-        if number >= end || !self.any(number, end) {
-            return None;
+        let mut low = number;
+        let mut step = FIRST_STEP;
+        while low <= MOST_LENGTH {
+            let end = low.saturating_add(step);
+            if self.any(low, end) {
+                return Some(self.first_in(low, end));
+            }
+            low = end;
+            step = step.saturating_mul(NEXT_STEP);
         }
-        Some(self.first_in(number, end))
+        None
     }
+}
+
+/// The least number of the next variable from `from` to below `end` with which what is left of a row has this many bits.
+pub(crate) fn first_fit(place: &Place, bits: usize, from: u64, end: u64) -> Option<u64>
+    ensures { IsFirst (λ n. FitsWithin place.now n n bits × (from ≤ n) × (n < end)) result }
+{
+    if from >= end || !fits(place, from, end - 1, bits) {
+        return None;
+    }
+    let (mut low, mut end) = (from, end);
+    while end - low > 1 {
+        let middle = low + (end - low) / 2;
+        if fits(place, low, middle - 1, bits) {
+            end = middle;
+        } else {
+            low = middle;
+        }
+    }
+    Some(low)
 }

@@ -5,13 +5,13 @@ ghost use Rattle.etcs_reasons.specs.Sentences.{IsWritten};
 use crate::account::Part;
 use crate::front::Front;
 use crate::kinds::way_of;
-use crate::lengths::Lengths;
+use crate::lengths::{Lengths, first_fit};
 use crate::meanings::write_meaning;
 use crate::numbers::{low_byte, write_bits};
 use crate::text::Text;
 use etcs_bits::peek;
+use etcs_rows::Place;
 use etcs_rows::inner::message_lengths;
-use etcs_rows::{Place, reaches, reaches_between};
 use etcs_tables::{MOST_LENGTH, Way, frame_bits, is_framed, row_of};
 use etcs_text::Kind;
 use etcs_vars::Var;
@@ -234,10 +234,9 @@ fn write_no_message(front: &Front, number: Option<u64>, out: &mut Text)
     }
 }
 
-/// How many bits of a packet there are up to the end of this variable, which comes next.
-fn bits_with(front: &Front, var: Var) -> usize {
-    let end = front.bit.saturating_add(var.width());
-    end.saturating_sub(front.start)
+/// How many bits of a packet there are before the variable that comes next.
+fn bits_before(front: &Front) -> usize {
+    front.bit.saturating_sub(front.start)
 }
 
 /// Appends why a packet of its length can't have this number, which the variable admits.
@@ -250,7 +249,8 @@ fn write_no_fit(front: &Front, var: Var, number: u64, out: &mut Text)
     write!(out, "with {var} {number} the packet has ");
     match place.after(number) {
         Some(next) => {
-            let lengths = Lengths::new(next, bits_with(front, var));
+            let before = bits_before(front).saturating_add(var.width());
+            let lengths = Lengths::new(next, before);
             write_nearest(&lengths, front.length, out);
         }
         None => out.push("no length"),
@@ -269,11 +269,6 @@ fn write_none_fit(front: &Front, var: Var, out: &mut Text)
         write!(out, ": L_PACKET says {}", front.length);
         write_fitting(front, place, var, out);
     }
-}
-
-/// Whether a number of the variable says how many entries or characters follow.
-fn is_count(var: Var) -> bool {
-    matches!(var, Var::N_ITER | Var::L_TEXT)
 }
 
 /// Appends a number that fits in place of one that doesn't, after this many others.
@@ -298,22 +293,15 @@ fn write_fitting(front: &Front, place: &Place, var: Var, out: &mut Text)
     requires { IsWritten out.old }
     ensures { IsWritten out.new }
 {
-    let left = front.length.saturating_sub(bits_with(front, var));
-    let mut count = 0usize;
-    for number in 0..1u64 << var.width().min(8) {
-        let Some(next) = place.after(number) else {
-            continue;
+    let left = front.length.saturating_sub(bits_before(front));
+    let end = 1u64 << var.width().min(8);
+    let mut from = 0;
+    for count in 0..5 {
+        let Some(number) = first_fit(place, left, from, end) else {
+            return;
         };
-        if reaches(&next, left) {
-            write_fit(var, number, count, out);
-            count = count.saturating_add(1);
-        } else if is_count(var) && !reaches_between(&next, 0, left) {
-            // more of them are longer
-            return;
-        }
-        if count > 4 {
-            return;
-        }
+        write_fit(var, number, count, out);
+        from = number.saturating_add(1);
     }
 }
 

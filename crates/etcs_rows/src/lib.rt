@@ -24,6 +24,6 @@ pub use etcs_bodies::Packetlike;
 pub use etcs_tables::{Guard, Row, RowItem, Test, Way, message_row, row_of};
 pub use etcs_vars::Var;
 pub use length_set::LengthSet;
-pub use place::{Place, lengths, reaches, reaches_between};
+pub use place::{Place, fits, lengths, reaches, reaches_between};
 pub use walk::{RowWalk, Step, Stopped};
 pub use write::{admits_fields, write_row};

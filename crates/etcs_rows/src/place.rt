@@ -382,6 +382,14 @@ pub fn reaches(place: &Place, bits: usize) -> bool
     place.can_take(bits)
 }
 
+/// Whether what is left of the row has a spelling of this many bits that begins with a number from `low` to `high`, both
+/// included.
+pub fn fits(place: &Place, low: u64, high: u64, bits: usize) -> bool
+    ensures { IsTrue result ↔ FitsWithin place.now low high bits }
+{
+    place.fits(low, high, bits)
+}
+
 /// Whether what is left of the row has a spelling whose number of bits is from `low` to `high`, both included.
 pub fn reaches_between(place: &Place, low: usize, high: usize) -> bool
     ensures { IsTrue result ↔ ((m : ℕ) × Lengths place.now [] m × (low ≤ m) × (m ≤ high)) }

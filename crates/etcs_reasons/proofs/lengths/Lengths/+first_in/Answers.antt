@@ -1,4 +1,4 @@
-use Rattle.std.proofs.Common.{◌+◌, ◌-◌, ◌/◌, ◌≤◌, arith}
+use Rattle.std.proofs.Common.{◌+◌, ◌-◌, ◌/◌, arith}
 use Rattle.etcs_reasons.proofs.Nearest.{first_upper}
 use Rattle.etcs_reasons.proofs.lengths.Lengths.+first_in.Goals as goal
 

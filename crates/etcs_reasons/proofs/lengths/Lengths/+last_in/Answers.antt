@@ -1,4 +1,4 @@
-use Rattle.std.proofs.Common.{◌+◌, ◌-◌, ◌/◌, ◌≤◌, arith}
+use Rattle.std.proofs.Common.{◌+◌, ◌-◌, ◌/◌, arith}
 use Rattle.etcs_reasons.proofs.Nearest.{last_lower}
 use Rattle.etcs_reasons.proofs.lengths.Lengths.+last_in.Goals as goal
 

@@ -1,14 +1,24 @@
 use Rattle.std.proofs.Common.{arith}
-use Rattle.etcs_reasons.proofs.Nearest.{first_none}
+use Rattle.etcs_reasons.proofs.Nearest.{above_end, first_of}
 use Rattle.etcs_reasons.proofs.lengths.Lengths.first_from.Goals as goal
-use Rattle.etcs_reasons.proofs.lengths.Lengths.first_from.Goals.{then-number-end-via-then-number-end, then-number-end-via-else-number-end+then-not-any}
 
-pub returns-then-number-end : goal.returns-then-number-end
-returns-then-number-end c =
+pub returns-then-any : goal.returns-then-any
+returns-then-any c =
     let s = c.args.self.now in
-    elim c.then-number-end.branch [
-      | then-number-end-via-then-number-end w ↦ first_none s.place s.before c.args.number (λ (m, h, lo, hi). absurd (omega (arith, lo, hi, w.if-number-end.true)))
-      | then-number-end-via-else-number-end+then-not-any w ↦
-          let other = w.if-not-any.true in
-          first_none s.place s.before c.args.number (λ a. let x = w.any.ensures.1 a in absurd cc)
-    ]
+    let l = c.loop-low in
+    first_of s.place s.before c.args.number l.low c.first_in.result l.invariant.from l.invariant.all c.first_in.ensures
+
+pub loop-low-preserved : goal.loop-low-preserved
+loop-low-preserved c =
+    let s = c.args.self.now in
+    let l = c.loop-low in
+    let i = l.invariant in
+    let end = c.saturating_add-end in
+    record {
+      step = omega (arith, i.step, c.saturating_mul-step.ensures);
+      from = omega (arith, i.from, end.ensures, c.loop-low-test.true);
+      all = above_end s.place s.before c.args.number l.low end.result i.all (λ a. let no = c.if-any.false in let yes = c.any.ensures.1 a in absurd cc);
+    }
+
+pub returns : goal.returns
+returns c k h = omega (arith, c.loop-low.invariant.all k h.0 h.1, c.loop-low-test.false, h.0.3)

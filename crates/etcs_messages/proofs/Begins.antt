@@ -13,15 +13,14 @@ use Rattle.etcs_tables.specs.Frames.{frame_bits}
 use Rattle.etcs_rows.specs.declared.frames.Carrier.TheVariants.{Message}
 use Rattle.etcs_rows.specs.Frames.{may_be_left}
 use Rattle.etcs_sequence.proofs.Fits.{run_some}
-use Rattle.etcs_reader.specs.Rests.{AreBits, Starts, Goes}
+use Rattle.etcs_reader.specs.Rests.{Starts, Goes}
 use Rattle.etcs_reader.proofs.FieldLaws.{some_fields}
 use Rattle.etcs_sequence.specs.laws.BitLaws.{some_bits, bits_start, bits_number}
-use Rattle.etcs_sequence.specs.Lefts.{ahead, left_of, next_of}
-use Rattle.etcs_sequence.proofs.LeapLemmas.{chain_bits, kept_bits}
+use Rattle.etcs_sequence.specs.Lefts.{left_of}
 use Rattle.etcs_rows.specs.laws.RestLaws.{head_of}
 use Rattle.etcs_sequence.proofs.StageLaws.{message_run}
 use Rattle.etcs_messages.specs.declared.phase.Phase.TheVariants as phase
-use Rattle.etcs_messages.specs.Lefts.{PaddedBy, front_row, front_bits, AfterMessageLength, LengthLeft, NumberLeft, next_at, MessageState, Left, next_var}
+use Rattle.etcs_messages.specs.Lefts.{front_row, front_bits, AfterMessageLength, LengthLeft, NumberLeft, next_at, MessageState, Left, next_var}
 use Rattle.etcs_messages.specs.laws.RestLaws.{length_opens}
 use Rattle.etcs_messages.proofs.Ways.{frame_few}
 use Rattle.etcs_messages.proofs.Fronts.{front_small}
@@ -134,13 +133,3 @@ module _ {S : Type 0} (s : MessageState S) (x : Var) (number left : ℕ) (next :
       let next' : next_at s.way s.nid (phase.Data left) s.left ≡ Some x = rw e at next in
       let same : OTHER_DATA ≡ x = cc in
       (sym same, bits_number OTHER_DATA refl left number (rw (e, ← same) at goes))
-
--- ---- Bits one after another.
-
-pub packets_run : {S : Type 0} (s : MessageState S) (n : ℕ) → s.phase ≡ phase.Packets → AreBits (left_of s.left.carrier s.left.room s.left.stage) (next_of s.left.stage) n → AreBits (Left s) (next_var s) n
-packets_run s n is are =
-    let room = ahead s.left.carrier s.left.room s.left.stage in
-    rw is (chain_bits (left_of s.left.carrier s.left.room s.left.stage) (PaddedBy room) (next_of s.left.stage) n are)
-
-pub data_run : {S : Type 0} (s : MessageState S) (left : ℕ) → s.phase ≡ phase.Data left → AreBits (Left s) (next_var s) left
-data_run s left is = rw is (kept_bits left)

@@ -19,10 +19,10 @@ module _ (holds more : Holds) (known : (vs : List PacketValue) (f : List ℕ) (k
   at_known c s q (vs, f, k, h, held, carried, here, e) = (vs, f, k, h, known vs f k held, carried, here, e)
 
   front_known : (way : Way) (nid at : ℕ) (front : List ℕ) (l : PacketsState) (q : Reading) → FrontHeld way nid at front l holds q → FrontHeld way nid at front l more q
-  front_known way nid at front l q h = record { len = h.len; vars = h.vars; typed = h.typed; none = at_known l.carrier l.stage _ h.none; reading_is = h.reading_is; room_is = h.room_is }
+  front_known way nid at front l q h = record { len = h.len; vars = h.vars; typed = h.typed; none = at_known l.carrier l.stage _ h.none; most = h.most; reading_is = h.reading_is; room_is = h.room_is }
 
   packets_known : (way : Way) (nid : ℕ) (front : List ℕ) (l : PacketsState) (q : Reading) → PacketsHeld way nid front l holds q → PacketsHeld way nid front l more q
-  packets_known way nid front l q h = record { len = h.len; vars = h.vars; here = h.here; typed = h.typed; count = h.count; held = at_known l.carrier l.stage h.here h.held; reading_is = h.reading_is; room_is = h.room_is }
+  packets_known way nid front l q h = record { len = h.len; vars = h.vars; here = h.here; typed = h.typed; count = h.count; held = at_known l.carrier l.stage h.here h.held; most = h.most; reading_is = h.reading_is; room_is = h.room_is }
 
   padding_known : (way : Way) (nid : ℕ) (front : List ℕ) (padding left : ℕ) (q : Reading) → PaddingHeld way nid front holds padding left q → PaddingHeld way nid front more padding left q
   padding_known way nid front padding left q h = record {
@@ -37,12 +37,13 @@ module _ (holds more : Holds) (known : (vs : List PacketValue) (f : List ℕ) (k
     short = h.short;
     small = h.small;
     padding_is = h.padding_is;
+    most = h.most;
     reading_is = h.reading_is;
     room_is = h.room_is;
   }
 
   data_known : (way : Way) (nid left : ℕ) (q : Reading) → DataHeld way nid holds left q → DataHeld way nid more left q
-  data_known way nid left q h = record { len = h.len; bits = h.bits; untyped = h.untyped; least = h.least; held = known _ _ h.bits h.held; reading_is = h.reading_is; room_is = h.room_is }
+  data_known way nid left q h = record { len = h.len; bits = h.bits; untyped = h.untyped; least = h.least; most = h.most; held = known _ _ h.bits h.held; reading_is = h.reading_is; room_is = h.room_is }
 
   held_known : (way : Way) (nid : ℕ) (phase : Phase) (front : List ℕ) (l : PacketsState) (padding : ℕ) (q : Reading) → HoldsBy way nid phase front l padding holds q → HoldsBy way nid phase front l padding more q
   held_known way nid Number front l padding q (z, h, e) = (z, known _ _ _ h, e)

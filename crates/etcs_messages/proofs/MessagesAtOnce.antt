@@ -136,6 +136,7 @@ typed_at_once {H} {B} {P} way hd bd form hl ol nid len front left number vars f 
       short = omega (arith, size, few.0);
       small = subst (λ k. number < 2 ^ k) (sym size) fits;
       padding_is = ap (λ k. num k number) (sym size);
+      most = most;
       reading_is = refl;
       room_is = omega (arith, long);
     } in

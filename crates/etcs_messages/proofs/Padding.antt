@@ -1,6 +1,6 @@
 -- PADDING, cut from a byte.
-use Rattle.std.proofs.Common.{◌≡◌, ℕ, ◌+◌, ◌/◌, ◌^◌, ◌≤◌, Bool, List, [], ◌∷◌, length, Some, None, sym, ap, ◌∙◌, arith}
-use Rattle.std.specs.Prelude.{◌-◌, if◌then◌else◌, nat_le}
+use Rattle.std.proofs.Common.{◌≡◌, ℕ, ◌+◌, ◌-◌, ◌/◌, ◌^◌, ◌≤◌, Bool, List, [], ◌∷◌, length, Some, None, sym, ap, ◌∙◌, arith}
+use Rattle.std.specs.Prelude.{if◌then◌else◌, nat_le}
 use Rattle.std.proofs.lemmas.List.{take_all}
 use Rattle.etcs_bits.specs.Bits.{num, bits, part}
 use Rattle.etcs_bits.proofs.ByteBits.{bits-part}
@@ -24,17 +24,23 @@ low_bits o k n h =
     ∙ part-append_right (num o (n / 2 ^ k)) (num k n) o 0 k (omega (arith, length-num o (n / 2 ^ k)))
     ∙ take_all k (num k n) (omega (arith, length-num k n))
 
+-- a byte has them
+pub padding_cut : (at count n : ℕ) → count ≤ 7 → at ≡ 8 - count → (if nat_le (at + count) (length (bits (n ∷ []))) then Some (part at count (bits (n ∷ []))) else None) ≡ Some (num count n)
+padding_cut at count n short rest =
+    let whole : at + count ≡ 8 = omega (arith, rest, short) in
+    sym (part_inside at count (bits (n ∷ [])) (num count n) (omega (arith, whole, length-bits (n ∷ []))) (sym (low_bits at count n whole)))
+
+-- that of a message
 module _ {H B P : Type 0} (way : Way) (o : OwnOf B) (form : P → Form) where
   padding_few : (m : Content H B P) → padding_bits_of way o form m ≤ 7
   padding_few (Typed head body ps padding) = omega arith
   padding_few (Kept nid b) = omega arith
 
-  -- it's cut from a byte
-  pub padding_cut : (m : Content H B P) (at count n : ℕ) → count ≡ padding_bits_of way o form m → n ≡ padding_of m → at ≡ 8 - count → (if nat_le (at + count) (length (bits (n ∷ []))) then Some (part at count (bits (n ∷ []))) else None) ≡ Some (num (padding_bits_of way o form m) (padding_of m))
-  padding_cut m at count n same number rest =
-      let whole : at + count ≡ 8 = omega (arith, rest, same, padding_few m) in
-      let all = num (padding_bits_of way o form m) (padding_of m) in
-      sym (part_inside at count (bits (n ∷ [])) all (omega (arith, whole, length-bits (n ∷ []))) (ap (λ (w : ℕ). num w (padding_of m)) (sym same) ∙ ap (num count) (sym number) ∙ sym (low_bits at count n whole)))
+  pub message_cut : (m : Content H B P) (at count n : ℕ) → count ≡ padding_bits_of way o form m → n ≡ padding_of m → at ≡ 8 - count → (if nat_le (at + count) (length (bits (n ∷ []))) then Some (part at count (bits (n ∷ []))) else None) ≡ Some (num (padding_bits_of way o form m) (padding_of m))
+  message_cut m at count n same number rest =
+      padding_cut at count n (omega (arith, same, padding_few m)) rest
+      ∙ ap (λ (w : ℕ). Some (num w n)) same
+      ∙ ap (λ (k : ℕ). Some (num (padding_bits_of way o form m) k)) number
 
 pub some_bits : (a b : List Bool) → Some a ≡ Some b → a ≡ b
 some_bits a b e = cc

@@ -87,6 +87,7 @@ padding_more way nid left c number padding front holds q le fits f =
       short = omega (arith, long, short, le);
       small = rw long (parts_fit k c padding number f.small fits);
       padding_is = rw long (ap (λ (s : List Bool). s ++ t) f.padding_is ∙ sym (next_number k c padding number fits));
+      most = f.most;
       reading_is = ap (λ (x : Reading). x ++ kept PADDING t) f.reading_is ∙ ap (headed nid f.len) (append_assoc v (p ++ kept PADDING f.bits) (kept PADDING t) ∙ ap (λ (x : Reading). v ++ x) (append_assoc p (kept PADDING f.bits) (kept PADDING t) ∙ ap (λ (x : Reading). p ++ x) (sym (bits_append PADDING f.bits t))));
       room_is = (let a = kept_bits q PADDING t refl in let b = f.room_is in omega (arith, a, b, wide, le));
     }
@@ -94,10 +95,10 @@ padding_more way nid left c number padding front holds q le fits f =
 -- ---- The packets.
 
 -- packets that are closed, with none of PADDING
-closed_held : (way : Way) (nid : ℕ) (front : List ℕ) (c : Carrier) (room padding : ℕ) (holds : Holds) (len : ℕ) (vars : List Var) (here q : Reading) → c ≡ (Message way) → room ≤ 7 → padding ≡ 0 → front_row way nid ≡ Some vars → length front ≡ length vars → q ≡ headed nid len (labelled vars front ++ here)
+closed_held : (way : Way) (nid : ℕ) (front : List ℕ) (c : Carrier) (room padding : ℕ) (holds : Holds) (len : ℕ) (vars : List Var) (here q : Reading) → c ≡ (Message way) → room ≤ 7 → padding ≡ 0 → len < 2 ^ 10 → front_row way nid ≡ Some vars → length front ≡ length vars → q ≡ headed nid len (labelled vars front ++ here)
     → length (spelled q) + room ≡ 8 * len → HoldsAt c stage.Closed holds here → PaddingHeld way nid front holds padding room q
 unfolding num
-closed_held way nid front c room padding holds len vars here q same short none typed count is bits (vs, f, k, t, held, carried, (no_numbers, no_bits, all), reading) =
+closed_held way nid front c room padding holds len vars here q same short none most typed count is bits (vs, f, k, t, held, carried, (no_numbers, no_bits, all), reading) =
     let here-is : here ≡ readings_to way vs ++ kept PADDING [] = reading ∙ ap (λ (x : Reading). readings_to (way_of c) vs ++ x) (all ∙ ap closing same) ∙ ap (λ (d : Carrier). readings_to (way_of d) vs ++ []) same in
     record {
       len = len;
@@ -111,6 +112,7 @@ closed_held way nid front c room padding holds len vars here q same short none t
       short = omega (arith, short);
       small = omega (arith, none);
       padding_is = refl;
+      most = most;
       reading_is = is ∙ ap (λ (x : Reading). headed nid len (labelled vars front ++ x)) here-is;
       room_is = bits;
     }
@@ -124,7 +126,7 @@ packets_first way nid front l padding holds q m none h =
     let room : length (spelled q) + l.room ≡ 8 * h.len = rw e at h.room_is in
     let held : HoldsAt l.carrier stage.Closed holds h.here = rw e at h.held in
     let short = parts.1 t in
-    padding_first way nid l.room front l padding holds q (closed_held way nid front l.carrier l.room padding holds h.len h.vars h.here q parts.0 (omega (arith, short)) none h.typed h.count h.reading_is room held))
+    padding_first way nid l.room front l padding holds q (closed_held way nid front l.carrier l.room padding holds h.len h.vars h.here q parts.0 (omega (arith, short)) none h.most h.typed h.count h.reading_is room held))
     (λ _. (none, h))
 
 packets_held : (way : Way) (nid : ℕ) (front : List ℕ) (l l' : PacketsState) (padding : ℕ) (holds holds' : Holds) (p : Reading) → IsTrue (is_message way l') → Moved l.carrier l.room l.stage p l'.carrier l'.room l'.stage
@@ -137,6 +139,7 @@ packets_held way nid front l l' padding holds holds' p m moved more q (none, h) 
       typed = h.typed;
       count = h.count;
       held = more h.here h.held;
+      most = h.most;
       reading_is = ap (λ (x : Reading). x ++ p) h.reading_is ∙ ap (headed nid h.len) (append_assoc (labelled h.vars front) h.here p);
       room_is = (let a = both_length q p in let b = h.room_is in let d = moved.ahead_is in omega (arith, a, b, d));
     }
@@ -154,7 +157,7 @@ front_held way nid at front l padding holds x n q below len m next (none, h) =
     let long : length (front ++ n ∷ []) ≡ suc at = length-append front (n ∷ []) ∙ omega (arith, len) in
     let next_at-is : at + 1 ≡ suc at = omega arith in
     by_test (ltb (at + 1) (length (front_vars way nid))) (λ p. HoldsBy way nid p (front ++ n ∷ []) l padding holds (q ++ (x, n) ∷ [])) (phase.Front (at + 1)) (after_packets l)
-    (λ _. (none, record { len = h.len; vars = h.vars; typed = h.typed; none = h.none; reading_is = reading; room_is = rw next_at-is room }))
+    (λ _. (none, record { len = h.len; vars = h.vars; typed = h.typed; none = h.none; most = h.most; reading_is = reading; room_is = rw next_at-is room }))
     (λ t. let over = below_false (at + 1) (length (front_vars way nid)) t in
     let size = ap (λ (vs : List Var). length vs) vars in
     let all : drop (suc at) h.vars ≡ [] = drop_of_length-le h.vars {i = suc at} (omega (arith, over, size)) in
@@ -166,6 +169,7 @@ front_held way nid at front l padding holds x n q below len m next (none, h) =
       typed = h.typed;
       count = omega (arith, long, over, size, below);
       held = h.none;
+      most = h.most;
       reading_is = reading ∙ ap (headed nid h.len) (sym (append-nil (labelled h.vars (front ++ n ∷ []))));
       room_is = omega (arith, room, no_more);
     })
@@ -184,6 +188,7 @@ data_more way nid left holds holds' t q le more f = record {
   bits = f.bits ++ t;
   untyped = f.untyped;
   least = f.least;
+  most = f.most;
   held = more [] f.bits f.held;
   reading_is = ap (λ (x : Reading). x ++ kept OTHER_DATA t) f.reading_is ∙ ap (headed nid f.len) (sym (bits_append OTHER_DATA f.bits t));
   room_is = (let n = f.room_is in omega (arith, n, le, length-append f.bits t));
@@ -235,6 +240,7 @@ module _ {S : Type 0} (holds : S → Holds) (s : MessageState S) where
           vars = vs;
           typed = found;
           none = begun k;
+          most = bounds.1;
           reading_is = ap (λ (x : Reading). x ++ (L_MESSAGE, len) ∷ []) is ∙ ap (headed s.nid len) (sym (ap (labelled vs) no_front ∙ labelled_none vs));
           room_is = (let a = heads s.nid len q is in let b = bounds.0 in omega (arith, a, b, room));
         },
@@ -255,6 +261,7 @@ module _ {S : Type 0} (holds : S → Holds) (s : MessageState S) where
         bits = [];
         untyped = found;
         least = bounds.0;
+        most = bounds.1;
         held = k;
         reading_is = ap (λ (x : Reading). x ++ (L_MESSAGE, len) ∷ []) is;
         room_is = (let b = bounds.0 in omega (arith, b, left_is));

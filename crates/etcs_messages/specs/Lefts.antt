@@ -170,6 +170,7 @@ pub record FrontHeld (way : Way) (nid : ℕ) (at : ℕ) (front : List ℕ) (l : 
   pub vars : List Var
   pub typed : front_row way nid ≡ Some vars
   pub none : HoldsAt l.carrier l.stage holds []
+  pub most : len < 2 ^ 10
   pub reading_is : q ≡ headed nid len (labelled vars front)
   pub room_is : length (spelled q) + (widths (drop at vars) + ahead l.carrier l.room l.stage) ≡ 8 * len
 
@@ -181,6 +182,7 @@ pub record PacketsHeld (way : Way) (nid : ℕ) (front : List ℕ) (l : PacketsSt
   pub typed : front_row way nid ≡ Some vars
   pub count : length front ≡ length vars
   pub held : HoldsAt l.carrier l.stage holds here
+  pub most : len < 2 ^ 10
   pub reading_is : q ≡ headed nid len (labelled vars front ++ here)
   pub room_is : length (spelled q) + ahead l.carrier l.room l.stage ≡ 8 * len
 
@@ -197,6 +199,7 @@ pub record PaddingHeld (way : Way) (nid : ℕ) (front : List ℕ) (holds : Holds
   pub short : length bits + left ≤ 7
   pub small : padding < 2 ^ length bits
   pub padding_is : bits ≡ num (length bits) padding
+  pub most : len < 2 ^ 10
   pub reading_is : q ≡ headed nid len (labelled vars front ++ (readings_to way packets ++ kept PADDING bits))
   pub room_is : length (spelled q) + left ≡ 8 * len
 
@@ -206,6 +209,7 @@ pub record DataHeld (way : Way) (nid : ℕ) (holds : Holds) (left : ℕ) (q : Re
   pub bits : List Bool
   pub untyped : front_row way nid ≡ None
   pub least : 3 ≤ len
+  pub most : len < 2 ^ 10
   pub held : holds [] [] bits
   pub reading_is : q ≡ headed nid len (kept OTHER_DATA bits)
   pub room_is : 18 + length bits + left ≡ 8 * len

@@ -21,8 +21,9 @@ use etcs_packets::inner::AnyPacket;
 use etcs_sequence::inner::Room;
 use etcs_sequence::{Held, ItemReader, ItemRest, ListStore, PacketList};
 use etcs_tables::head_row;
+use etcs_vars::inner::VarSink;
 use etcs_vars::{Fed, ReadFault};
-use std::alloc::Global;
+use std::alloc::{AllocError, Global};
 use std::marker::Model;
 
 /// The head and the body of a typed message by the numbers before its packets.
@@ -129,6 +130,10 @@ impl<H: Head, B: Own<Front = H>> ItemRest for MessageRest<H, B> {
     #[inline]
     fn store(&self) -> &PacketList<H::Packet> {
         self.packets.store.list()
+    }
+
+    fn send<S: VarSink>(&self, taken: usize, out: &mut S) -> Result<(), AllocError> {
+        self.send_read(taken, out)
     }
 
     #[inline(always)]

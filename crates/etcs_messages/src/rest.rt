@@ -353,15 +353,6 @@ impl<H: Head, B: Own<Front = H>> Rest for MessageRest<H, B> {
         }
     }
 
-    #[inline]
-    fn run(&self) -> usize {
-        match self.phase {
-            Phase::Packets => self.packets.run(),
-            Phase::Data(left) => left,
-            _ => 0,
-        }
-    }
-
     ghost regular = { rest_regular };
 
     ghost begins_with = { rest_begins };

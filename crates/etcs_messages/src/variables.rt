@@ -1,15 +1,17 @@
 //! The variables of messages with their numbers, sent in order (SUBSET-026, 8).
 
-ghost use Rattle.std.specs.Prelude.{◌≡◌, ℕ, ◌≤◌, ◌++◌, ◌⊎◌, List, Some, false, length, IfOk, IfSome, IsTrue, OnErr, OnOk};
+ghost use Rattle.std.specs.Prelude.{◌≡◌, ℕ, ◌+◌, ◌≤◌, ◌++◌, List, Some, length, IfOk, OnErr, OnOk};
 ghost use Rattle.etcs_bits.specs.Bits.{num};
 ghost use Rattle.etcs_vars.specs.declared.var.Var.{Var};
 ghost use Rattle.etcs_vars.specs.declared.var.Var.TheVariants.{PADDING};
 ghost use Rattle.etcs_vars.specs.Reading.{Reading, kept, spelled};
+ghost use Rattle.etcs_reader.specs.Rests.{Goes};
 ghost use Rattle.etcs_sequence.specs.Labels.{labelled};
 ghost use Rattle.etcs_packets.specs.PacketReadings.{readings_to};
-ghost use Rattle.etcs_messages.specs.Lefts.{front_row, headed, HoldsIn};
+ghost use Rattle.etcs_messages.specs.Lefts.{front_row, headed, HoldsIn, Left};
 ghost use Rattle.etcs_messages.specs.Messages.{values_of};
-ghost use Rattle.etcs_messages.specs.Readings.{front_reading, own_reading, padding_bits_of, padding_of};
+ghost use Rattle.etcs_messages.specs.Readers.{so_far};
+ghost use Rattle.etcs_messages.specs.Readings.{front_reading, own_reading};
 ghost use Rattle.etcs_messages.specs.laws.Parts.{closed_message};
 
 use crate::kind::{Head, Own};
@@ -18,7 +20,7 @@ use crate::phase::{Phase, front_bits, front_var};
 use crate::rest::MessageRest;
 use etcs_bits::BitSlice;
 use etcs_packets::inner::{AnyPacket, room_after, send_all};
-use etcs_sequence::{ListStore, Stage};
+use etcs_sequence::ListStore;
 use etcs_tables::Way;
 use etcs_vars::Var;
 use etcs_vars::inner::{PairList, VarSink, Variables, send_bits};
@@ -99,15 +101,12 @@ fn send_own<H: Head, B: Own<Front = H>, S: VarSink>(
     }
 }
 
-/// Sends PADDING.
-fn send_padding<H: Head, B: Own<Front = H>, S: VarSink>(
-    message: &MessageOf<H, B>,
-    out: &mut S,
-) -> Result<(), AllocError>
-    ensures ok { OnOk result (out.new ≡ S.with out.old (kept PADDING (num (padding_bits_of H.Packet.WAY B.own H.Packet.form message.now) (padding_of message.now)))) }
+/// Sends this many bits of PADDING, which are a number's last.
+fn send_padding<S: VarSink>(number: u8, count: usize, out: &mut S) -> Result<(), AllocError>
+    requires { count ≤ 7 }
+    ensures ok { OnOk result (out.new ≡ S.with out.old (kept PADDING (num count number))) }
     ensures err { OnErr result (S.failed out.old out.new) }
 {
-    let (count, number) = message.padding();
     let byte = [number];
     match BitSlice::new(&byte, 8 - count, count) {
         Some(bits) => send_bits(Var::PADDING, &bits, out),
@@ -124,7 +123,8 @@ fn send_closed<H: Head, B: Own<Front = H>, S: VarSink>(
     ensures err { OnErr result (S.failed out.old out.new) }
 {
     send_all(message.packets(), out)?;
-    send_padding(message, out)
+    let (count, number) = message.padding();
+    send_padding(number, count, out)
 }
 
 /// Sends the variables between L_MESSAGE and the packets of a typed message of this number, which have these numbers.
@@ -134,7 +134,8 @@ fn send_numbers<S: VarSink>(
     numbers: &[u64],
     out: &mut S,
 ) -> Result<(), AllocError>
-    ensures { OnOk result ((vars : List Var) → front_row way nid ≡ Some vars → length numbers.now ≡ length vars → out.new ≡ S.with out.old (labelled vars numbers.now)) }
+    ensures ok { OnOk result ((vars : List Var) → front_row way nid ≡ Some vars → out.new ≡ S.with out.old (labelled vars numbers.now)) }
+    ensures err { OnErr result (S.failed out.old out.new) }
 {
     for at in 0..numbers.len() {
         let Some(var) = front_var(way, nid, at) else {
@@ -146,58 +147,70 @@ fn send_numbers<S: VarSink>(
 }
 
 impl<H: Head, B: Own<Front = H>> MessageRest<H, B> {
-    /// L_MESSAGE, where the variables that were read, which take this many bits, are all before PADDING, and the packet
-    /// that is read last is whole.
-    fn bytes_by(&self, bits: usize) -> Option<usize>
-        requires { bits ≤ 8184 }
-        ensures { IfSome result (λ len. (q : Reading) → HoldsIn H.Store.holds self.now q → length (spelled q) ≡ bits → (vars : List Var) × (front_row H.Packet.WAY self.now.nid ≡ Some vars) × (length self.now.front ≡ length vars) × (q ≡ headed self.now.nid len (labelled vars self.now.front ++ readings_to H.Packet.WAY (values_of H.Packet.form (H.Store.list self.now.store).packets.items)))) }
+    /// L_MESSAGE, where it was read, by how many bits the variables take that were read.
+    fn bytes_by(&self, bits: usize) -> usize
+        requires goes { Goes (Left self.now) }
+        requires held { HoldsIn H.Store.holds self.now (so_far H.Packet.form H.Store.list self.now) }
+        requires bits { bits ≡ length (spelled (so_far H.Packet.form H.Store.list self.now)) }
+        ensures { (len : ℕ) (r : Reading) → so_far H.Packet.form H.Store.list self.now ≡ headed self.now.nid len r → result ≡ len }
     {
         match self.phase {
-            Phase::Packets => match &self.packets.left.stage {
-                Stage::Number => Some((bits + self.packets.left.room) / 8),
-                _ => None,
-            },
-            Phase::Padding(_) | Phase::Whole => self.closed_bytes(bits),
-            _ => None,
+            Phase::Front(_) => {
+                let front = front_bits(H::Packet::WAY, self.nid).unwrap_or(0);
+                (front + self.packets.left.ahead()) / 8
+            }
+            Phase::Packets => (bits + self.packets.left.ahead()) / 8,
+            Phase::Padding(left) => (bits + left) / 8,
+            Phase::Data(left) => (bits + left) / 8,
+            _ => bits / 8,
         }
     }
 
-    /// The same where the packets are closed.
-    fn closed_bytes(&self, bits: usize) -> Option<usize>
-        requires small { bits ≤ 8184 }
-        requires phase { ((left : ℕ) × (self.now.phase ≡ Phase.Padding left)) ⊎ (self.now.phase ≡ Phase.Whole) }
-        ensures { IfSome result (λ len. (q : Reading) → HoldsIn H.Store.holds self.now q → length (spelled q) ≡ bits → (vars : List Var) × (front_row H.Packet.WAY self.now.nid ≡ Some vars) × (length self.now.front ≡ length vars) × (q ≡ headed self.now.nid len (labelled vars self.now.front ++ readings_to H.Packet.WAY (values_of H.Packet.form (H.Store.list self.now.store).packets.items)))) }
+    /// Sends the packets and the bits of PADDING that were read, which take this many bits.
+    fn send_padded<S: VarSink>(&self, bits: usize, out: &mut S) -> Result<(), AllocError>
+        requires { (count : ℕ) × (count ≤ 7) × (bits ≡ length (spelled (readings_to H.Packet.WAY (values_of H.Packet.form (H.Store.list self.now.store).packets.items))) + count) }
+        ensures ok { OnOk result ((count : ℕ) → bits ≡ length (spelled (readings_to H.Packet.WAY (values_of H.Packet.form (H.Store.list self.now.store).packets.items))) + count → out.new ≡ S.with out.old (readings_to H.Packet.WAY (values_of H.Packet.form (H.Store.list self.now.store).packets.items) ++ kept PADDING (num count self.now.padding))) }
+        ensures err { OnErr result (S.failed out.old out.new) }
     {
-        let front = front_bits(H::Packet::WAY, self.nid)?;
-        if bits < front {
-            return None;
-        }
-        if room_after(bits - front, self.packets.store.list().packets.as_slice())? > 0 {
-            return None;
-        }
-        Some((bits + 7) / 8)
+        let packets = self.packets.store.list().packets.as_slice();
+        let Some(count) = room_after(bits, packets) else {
+            unreachable!()
+        };
+        send_all(packets, out)?;
+        send_padding(self.padding, count, out)
     }
 
-    /// Sends the variables that were read, which take this many bits, and returns true, if the message is typed and NID_PACKET
-    /// comes next, or its packets are closed and no bit of PADDING was read. Otherwise it sends none and returns false.
+    /// Sends the variables that were read, which take this many bits.
     ///
     /// # Errors
     ///
-    /// That of the sink. Some of them may then be sent.
-    pub fn send<S: VarSink>(&self, bits: usize, out: &mut S) -> Result<bool, AllocError>
-        requires { bits ≤ 8184 }
-        ensures sent { IfOk result (λ b. IsTrue b → (q : Reading) → HoldsIn H.Store.holds self.now q → length (spelled q) ≡ bits → out.new ≡ S.with out.old q) }
-        ensures none { IfOk result (λ b. b ≡ false → out.new ≡ out.old) }
+    /// That of the sink.
+    pub(crate) fn send_read<S: VarSink>(&self, bits: usize, out: &mut S) -> Result<(), AllocError>
+        requires goes { Goes (Left self.now) }
+        requires held { HoldsIn H.Store.holds self.now (so_far H.Packet.form H.Store.list self.now) }
+        requires bits { bits ≡ length (spelled (so_far H.Packet.form H.Store.list self.now)) }
+        ensures ok { OnOk result (out.new ≡ S.with out.old (so_far H.Packet.form H.Store.list self.now)) }
+        ensures err { OnErr result (S.failed out.old out.new) }
     {
-        let Some(bytes) = self.bytes_by(bits) else {
-            return Ok(false);
-        };
+        match self.phase {
+            Phase::Number => return out.send(&[]),
+            Phase::Length => return out.send(&[(Var::NID_MESSAGE, u64::from(self.nid))]),
+            _ => {}
+        }
         out.send(&[
             (Var::NID_MESSAGE, u64::from(self.nid)),
-            (Var::L_MESSAGE, bytes as u64),
+            (Var::L_MESSAGE, self.bytes_by(bits) as u64),
         ])?;
+        let list = self.packets.store.list();
+        let Some(front) = front_bits(H::Packet::WAY, self.nid) else {
+            return send_bits(Var::OTHER_DATA, &list.bits.as_slice(), out);
+        };
         send_numbers(H::Packet::WAY, self.nid, self.front.as_slice(), out)?;
-        send_all(self.packets.store.list().packets.as_slice(), out)?;
-        Ok(true)
+        match self.phase {
+            Phase::Packets => self.packets.left.send(bits - front, list, out),
+            Phase::Padding(_) => self.send_padded(bits - front, out),
+            Phase::Whole => self.send_padded(bits - front, out),
+            _ => out.send(&[]),
+        }
     }
 }

@@ -3,5 +3,5 @@
 pub use crate::any_packet::{AnyPacket, append_all, room_after};
 pub use crate::copies::copy_all;
 pub use crate::typed::{Formed, Made, Source, hold, none_of, packet_of, typed_bits, typed_nid};
-pub use crate::variables::send_all;
+pub use crate::variables::{send_all, send_frame};
 pub use crate::write::{append_variables, room_left};

@@ -50,8 +50,12 @@ impl Variables for Packet {
 }
 
 /// Sends a frame; to the track Q_DIR isn't sent.
+///
+/// # Errors
+///
+/// That of the sink.
 #[inline(always)]
-fn send_frame<S: VarSink>(
+pub fn send_frame<S: VarSink>(
     way: Way,
     nid: u64,
     dir: u8,

@@ -1,9 +1,8 @@
 -- What is left of a language.
-use Rattle.std.specs.Prelude.{◌≡◌, ℕ, ◌+◌, ◌/◌, ◌^◌, ◌<◌, ◌≤◌, Bool, List, [], ◌∷◌, ◌++◌, Option, Some, length}
+use Rattle.std.specs.Prelude.{◌≡◌, ℕ, ◌+◌, ◌/◌, ◌^◌, ◌<◌, ◌≤◌, Bool, List, [], ◌∷◌, ◌++◌, length}
 use Rattle.etcs_bits.specs.Bits.{part}
 use Rattle.etcs_vars.specs.declared.var.Var.{Var}
-use Rattle.etcs_vars.specs.Vars.{width}
-use Rattle.etcs_vars.specs.Reading.{Reading, kept, spelled}
+use Rattle.etcs_vars.specs.Reading.{Reading, spelled}
 
 -- some reading of L begins with x and a number whose first bits these are, with rest bits more after them
 abbrev pub Starts : (Reading → Type 0) → Var → ℕ → ℕ → Type 0
@@ -20,10 +19,6 @@ BeginsWith L x = (r : Reading) → L r → (n : ℕ) × (r' : Reading) × (r ≡
 -- nothing is left of L
 abbrev pub Ended : (Reading → Type 0) → Type 0
 Ended L = (r : Reading) → L r → r ≡ []
-
--- each reading of L begins with n variables x of one bit each
-abbrev pub AreBits : (Reading → Type 0) → Option Var → ℕ → Type 0
-AreBits L next n = 0 < n → (x : Var) × (next ≡ Some x) × (width x ≡ 1) × ((r : Reading) → L r → (t : List Bool) × (q : Reading) × (length t ≡ n) × (r ≡ kept x t ++ q))
 
 -- n bits of xs from at on spell whole variables, after which something is left
 pub record LeapsBy (Left Follows : Reading → Type 0) (xs : List Bool) (at n : ℕ) : Type 0 where

@@ -11,9 +11,7 @@ pub mod inner;
 pub mod laws;
 mod reader;
 mod rest;
-mod stored;
 
 pub use feeder::{Feeder, Stop};
 pub use fields::Fields;
 pub use rest::Rest;
-pub use stored::Stored;

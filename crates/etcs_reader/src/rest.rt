@@ -7,7 +7,7 @@ ghost use Rattle.etcs_vars.specs.Vars.{width};
 ghost use Rattle.etcs_vars.specs.Reading.{Reading, Viable};
 ghost use Rattle.etcs_vars.specs.Walking.{Residual};
 ghost use Rattle.etcs_vars.proofs.Walk.{Regular};
-ghost use Rattle.etcs_reader.specs.Rests.{Starts, Goes, BeginsWith, Ended, LeapsBy, AreBits};
+ghost use Rattle.etcs_reader.specs.Rests.{Starts, Goes, BeginsWith, Ended, LeapsBy};
 
 use etcs_vars::Var;
 use std::alloc::AllocError;
@@ -73,13 +73,6 @@ pub trait Rest {
         ensures viable { OnErr result (Viable (left self.old) (part at 1 (bits piece.now))) }
     {
         Ok(None)
-    }
-
-    /// How many bits come next that are variables of one bit each, all of them the next one. It may always say none.
-    fn run(&self) -> usize
-        ensures { AreBits (left self.now) (next self.now) result }
-    {
-        0
     }
 
     ghost regular: { (s : Self) → Regular (left s) };

@@ -1,8 +1,8 @@
 -- The clauses about the bits so far, variable by variable.
 use Rattle.std.proofs.Common.{◌≡◌, ℕ, ◌+◌, ◌≤◌, ◌<◌, min, Bool, List, [], ◌++◌, length, take, sym, ap, subst, ◌∙◌, arith, inl, inr}
-use Rattle.std.specs.Prelude.{Result, Ok, Err, IfOk}
+use Rattle.std.specs.Prelude.{None, Option, Result, Ok, Err, IfOk}
 use Rattle.std.proofs.lemmas.Bool.{cases_lt}
-use Rattle.std.proofs.lemmas.List.{append-nil, take_all}
+use Rattle.std.proofs.lemmas.List.{append-nil, length-append, length-take-le, take_all}
 use Rattle.etcs_bits.specs.Bits.{bits, num}
 use Rattle.etcs_bits.proofs.Numbers.{length-num}
 use Rattle.etcs_bits.proofs.Owned.{bits-take}
@@ -16,9 +16,13 @@ use Rattle.etcs_vars.proofs.Outcomes.{viable_front, none_refused}
 use Rattle.etcs_vars.proofs.Walk.{Regular}
 use Rattle.etcs_telegram.proofs.SameReadings.{owner_along, refuses_along}
 use Rattle.etcs_reader.specs.Rests.{Goes}
+use Rattle.etcs_reader.specs.declared.feeder.Stop.{Stop}
+use Rattle.etcs_reader.specs.Feeders.{FeederValue, Feeds, all_of}
 use Rattle.etcs_reader.specs.Readers.{Passed}
+use Rattle.etcs_reader.proofs.Leaping.{all_by}
 use Rattle.etcs_reader.proofs.Passing.{passed_owner}
 use Rattle.etcs_reasons.specs.Accounts.{Shows, Accounts}
+use Rattle.etcs_reasons.specs.Traces.{Taken}
 use Rattle.etcs_reasons.specs.declared.account.Account.{Account}
 use Rattle.etcs_reasons.specs.declared.account.Part.{Part}
 use Rattle.etcs_reasons.specs.declared.account.End.{End}
@@ -42,54 +46,81 @@ whole_unrefused L regular p b a i x r = none_refused L regular b i x r a.1 a.2 (
 pub open_unrefused : (L : Reading → Type 0) (p : Reading) (part : Part) (b : List Bool) → Accounts L p (end.Open part) b → (i : ℕ) (x : Var) → Refuses L b i x → ⊥
 open_unrefused L p part b a i x r = r.blocked (viable_front L (i + 1) b a.1.viable)
 
--- a part of equal values
-pub through : {A B : Type 0} (x y : A) (f : A → B) → x ≡ y → f x ≡ f y
-through x y f e = ap f e
+-- ---- Where a reader is: s is left, after whole variables from start on.
 
--- ---- Where a reader is that keeps the variables that it read: s is left, and r was read after none.
+module _ {S : Type 0} (left : S → Reading → Type 0) (regular : (s : S) → Regular (left s)) (follows : S → Reading → S → Type 0) (residual : (s t : S) (p : Reading) → follows s p t → Residual (left s) p (left t)) (start : S) (xs : List Bool) (v : FeederValue S) where
+  -- after the bits b
+  abbrev pub At : List Bool → Type 0
+  At b = Passed (λ p. follows start p v.rest) b v.part
 
-module _ {S : Type 0} (left : S → Reading → Type 0) (regular : (s : S) → Regular (left s)) (follows : S → Reading → S → Type 0) (residual : (s t : S) (p : Reading) → follows s p t → Residual (left s) p (left t)) (both : (s t u : S) (p q : Reading) → follows s p t → follows t q u → follows s (p ++ q) u) (start : S) (none : Reading) (empty : none ≡ []) (L : Reading → Type 0) (same : Same (left start) L) where
-  -- after the bits b, with these of the variable that comes next
-  abbrev pub At : S → Reading → List Bool → List Bool → Type 0
-  At s r b part = Passed (λ p. follows start p s × (r ≡ none ++ p)) b part
+  shown : (b : List Bool) (f : At b) (count bits : ℕ) → v.part ≡ num count bits → Goes (left v.rest) → Shows (left start) f.whole (num count bits) b
+  shown b f count bits is (q, l) = record {
+    rest = q;
+    begins = (residual start v.rest f.whole f.follows).from q l;
+    bits = ap (λ (u : List Bool). spelled f.whole ++ u) (sym is) ∙ f.bits;
+  }
 
-  read_is : (s : S) (r : Reading) (b part : List Bool) (f : At s r b part) → r ≡ f.whole
-  read_is s r b part f = f.follows.1 ∙ ap (λ (u : Reading). u ++ f.whole) empty
+  owned : (b : List Bool) → At b → (x : Var) → Owner (left v.rest) v.part x → Goes (left v.rest) × Owner (left start) b x
+  owned b f x o =
+      let (q, c, l, e) = o.viable in
+      ((q, l), passed_owner (left start) (regular start) (left v.rest) (λ p. follows start p v.rest) (residual start v.rest) b v.part f (q, l) x o)
 
-  shown : (s : S) (r : Reading) (b part : List Bool) → At s r b part → (count bits : ℕ) → part ≡ num count bits → Goes (left s) → Shows L r (num count bits) b
-  shown s r b part f count bits is (q, l) =
-      let same_read = read_is s r b part f in
+  counted : (n : ℕ) (f : At (take n xs)) → n ≤ length xs → v.count ≡ n → length (spelled f.whole) + length v.part ≡ v.count
+  counted n f le count = sym (length-append (spelled f.whole) v.part) ∙ ap length f.bits ∙ length-take-le n xs le ∙ sym count
+
+  pub taken_whole : (n : ℕ) → At (take n xs) → n ≤ length xs → v.count ≡ n → v.part ≡ [] → left v.rest [] → Taken S left follows start xs end.Whole v
+  taken_whole n f le count gone l =
+      let all : left start f.whole = subst (left start) (append-nil f.whole) ((residual start v.rest f.whole f.follows).from [] l) in
+      let bits : spelled f.whole ≡ take n xs = sym (append-nil (spelled f.whole)) ∙ ap (λ (u : List Bool). spelled f.whole ++ u) (sym gone) ∙ f.bits in
+      record { whole = f.whole; along = f.follows; goes = ([], l); long = counted n f le count; accounts = (all, n, le, bits) }
+
+  pub taken_open : (n : ℕ) → At (take n xs) → n ≡ length xs → v.count ≡ n → (x : Var) → Owner (left v.rest) v.part x → length v.part < width x → (count bits : ℕ) → v.part ≡ num count bits → Taken S left follows start xs (end.Open (record { var = x; bits = bits; count = count })) v
+  taken_open n f all counts x o short count bits is =
+      let e : take n xs ≡ xs = take_all n xs (omega (arith, all)) in
+      let (goes, own) = owned (take n xs) f x o in
+      let shows = subst (λ (u : List Bool). Shows (left start) f.whole (num count bits) u) e (shown (take n xs) f count bits is goes) in
+      let owner = subst (λ (u : List Bool). Owner (left start) u x) e own in
       record {
-        rest = q;
-        begins = subst (λ (u : Reading). L (u ++ q)) (sym same_read) ((same (f.whole ++ q)).0 ((residual start s f.whole f.follows.0).from q l));
-        bits = ap (λ (u : Reading). spelled u ++ num count bits) same_read ∙ ap (λ (u : List Bool). spelled f.whole ++ u) (sym is) ∙ f.bits;
+        whole = f.whole;
+        along = f.follows;
+        goes = goes;
+        long = counted n f (omega (arith, all)) counts;
+        accounts = (shows, owner, omega (arith, short, ap length is, length-num count bits));
       }
 
-  owned : (s : S) (r : Reading) (b part : List Bool) → At s r b part → (x : Var) → Owner (left s) part x → Goes (left s) × Owner (left start) b x
-  owned s r b part f x o =
-      let (q, c, l, e) = o.viable in
-      ((q, l), passed_owner (left start) (regular start) (left s) (λ p. follows start p s × (r ≡ none ++ p)) (λ p h. residual start s p h.0) b part f (q, l) x o)
+  pub taken_refused : (n bit : ℕ) (x : Var) → At (take n xs) → Goes (left v.rest) → (k : ℕ) → k ≡ n → Refuses (left start) xs k x → length v.part < width x → bit ≡ n → v.count ≡ n → (count bits : ℕ) → v.part ≡ num count bits → Taken S left follows start xs (end.Refused bit (record { var = x; bits = bits; count = count })) v
+  taken_refused n bit x f goes k k_is refuses short place counts count bits is =
+      let here = subst (λ (m : ℕ). Refuses (left start) xs m x) k_is refuses in
+      let le : n ≤ length xs = (let w = refuses.within in omega (arith, w, k_is)) in
+      record {
+        whole = f.whole;
+        along = f.follows;
+        goes = goes;
+        long = counted n f le counts;
+        accounts = subst (λ (m : ℕ). Accounts (left start) f.whole (end.Refused m (record { var = x; bits = bits; count = count })) xs) (sym place) (shown (take n xs) f count bits is goes, here, omega (arith, short, ap length is, length-num count bits));
+      }
 
-  pub account_whole : (s : S) (r : Reading) (xs part : List Bool) (n : ℕ) → At s r (take n xs) part → n ≤ length xs → part ≡ [] → left s [] → Accounts L r end.Whole xs
-  account_whole s r xs part n f le gone l =
-      let same_read = read_is s r (take n xs) part f in
-      let all : L f.whole = subst L (append-nil f.whole) ((same (f.whole ++ [])).0 ((residual start s f.whole f.follows.0).from [] l)) in (
-        subst L (sym same_read) all,
-        n,
-        le,
-        ap spelled same_read ∙ sym (append-nil (spelled f.whole)) ∙ ap (λ (u : List Bool). spelled f.whole ++ u) (sym gone) ∙ f.bits,
-      )
+-- from the first bit on
+pub from_all : {S : Type 0} (left : S → Reading → Type 0) (next : S → Option Var) (follows : S → Reading → S → Type 0) (fails : S → Type 0) (xs : List Bool) (fed : Result ℕ Stop) (v old : FeederValue S) (start : S) → old.rest ≡ start → old.part ≡ [] → old.count ≡ 0 → old.stop ≡ None → Feeds S left next follows fails old xs fed v → Feeds S left next follows fails (all_of start) xs fed v
+from_all {S} left next follows fails xs fed v old start rest part count stop h = subst (λ (o : FeederValue S). Feeds S left next follows fails o xs fed v) (all_by old start rest part count stop) h
 
-  pub account_open : (s : S) (r : Reading) (xs part : List Bool) (n : ℕ) → At s r (take n xs) part → length xs ≤ n → (x : Var) → Owner (left s) part x → length part < width x → (count bits : ℕ) → part ≡ num count bits → Accounts L r (end.Open (record { var = x; bits = bits; count = count })) xs
-  account_open s r xs part n f ge x o short count bits is =
-      let g : At s r xs part = subst (λ (u : List Bool). At s r u part) (take_all n xs ge) f in
-      let own = owned s r xs part g x o in
-      (shown s r xs part g count bits is own.0, owner_along (left start) L same xs x own.1, omega (arith, short, ap length is, length-num count bits))
+-- ---- The variables that what is left knows.
 
-  pub account_refused : (t : S) (r : Reading) (xs part : List Bool) (n bit : ℕ) (x : Var) → At t r (take n xs) part → Goes (left t) → (k : ℕ) → k ≡ n → Refuses (left start) xs k x → length part < width x → bit ≡ n → (count bits : ℕ) → part ≡ num count bits → Accounts L r (end.Refused bit (record { var = x; bits = bits; count = count })) xs
-  account_refused t r xs part n bit x f goes k k_is refuses short place count bits is =
-      subst (λ (k : ℕ). Accounts L r (end.Refused k (record { var = x; bits = bits; count = count })) xs) (sym place)
-      (shown t r (take n xs) part f count bits is goes, refuses_along (left start) L same xs n x (subst (λ (m : ℕ). Refuses (left start) xs m x) k_is refuses), omega (arith, short, ap length is, length-num count bits))
+module _ {S : Type 0} (left : S → Reading → Type 0) (follows : S → Reading → S → Type 0) (holds : S → Reading → Type 0) (far : S → Reading) (held : (s t : S) (p q : Reading) → follows s p t → holds s q → holds t (q ++ p)) (far_is : (s : S) (q : Reading) → Goes (left s) → holds s q → q ≡ far s) (start : S) (none : holds start []) (xs : List Bool) (e : End) (v : FeederValue S) (t : Taken S left follows start xs e v) where
+  holds_all : holds v.rest t.whole
+  holds_all = held start v.rest t.whole [] t.along none
+
+  is_far : t.whole ≡ far v.rest
+  is_far = far_is v.rest t.whole t.goes holds_all
+
+  pub far_held : holds v.rest (far v.rest)
+  far_held = subst (holds v.rest) is_far holds_all
+
+  pub far_long : length (spelled (far v.rest)) + length v.part ≡ v.count
+  far_long = subst (λ (r : Reading). length (spelled r) + length v.part ≡ v.count) is_far t.long
+
+  pub far_accounts : (L : Reading → Type 0) → Same (left start) L → Accounts L (far v.rest) e xs
+  far_accounts L same = accounts_along (left start) L same (far v.rest) e xs (subst (λ (r : Reading). Accounts (left start) r e xs) is_far t.accounts)
 
 -- ---- The first bits of bytes.
 

@@ -1,4 +1,3 @@
 pub mod Accounting
 pub mod ItemLengths
 pub mod Nearest
-pub mod Tracing

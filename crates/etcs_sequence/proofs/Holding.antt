@@ -30,7 +30,7 @@ row_is way nid dir len left f h (u, l) r =
     let same : in_frame way nid dir r.total r.read ≡ row_so_far way (Some r.row) nid dir f len = rw (total, read-is) refl in
     r.here ∙ same ∙ ap (λ (o : Option Layout). row_so_far way o nid dir f len) (sym r.typed)
 
-first_of : (P Q : Reading → Type 0) → Goes (Then P Q) → (u : Reading) × P u
+pub first_of : (P Q : Reading → Type 0) → Goes (Then P Q) → (u : Reading) × P u
 first_of P Q (r, (u, v, e, l, k)) = (u, l)
 
 -- what is held gives the variables

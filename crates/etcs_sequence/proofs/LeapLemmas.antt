@@ -1,12 +1,11 @@
 -- Variables of a piece that are taken together.
 use Rattle.std.proofs.Common.{◌≡◌, ℕ, ◌+◌, ◌-◌, ◌/◌, ◌^◌, ◌≤◌, ◌<◌, Bool, true, false, List, [], ◌∷◌, ◌++◌, length, replicate, refl, sym, ap, subst, ◌∙◌, arith, append-nil, append_assoc}
-use Rattle.std.specs.Prelude.{Option, Some, IsTrue, ◌&&◌, nat_lt}
+use Rattle.std.specs.Prelude.{IsTrue, ◌&&◌, nat_lt}
 use Rattle.std.proofs.lemmas.Bool.{ltb-true}
 use Rattle.std.proofs.lemmas.List.{length-replicate}
 use Rattle.std.proofs.lemmas.List.Elements.{All-nil}
 use Rattle.etcs_bits.specs.Bits.{num, part}
 use Rattle.etcs_bits.proofs.Lists.{length-part, part-add}
-use Rattle.etcs_vars.specs.declared.var.Var.{Var}
 use Rattle.etcs_vars.specs.declared.var.Var.TheVariants.{NID_PACKET, L_PACKET, OTHER_DATA}
 use Rattle.etcs_vars.specs.Reading.{Reading, Then, spelled, numbers, kept, Viable}
 use Rattle.etcs_vars.specs.Walking.{Residual}
@@ -27,18 +26,17 @@ use Rattle.etcs_packets.specs.PacketValues as packets
 use Rattle.etcs_packets.specs.PacketValues.{PacketValue, IsTypedOf, variables_of, IsPacketTo, bits_to}
 use Rattle.etcs_packets.specs.PacketReadings.{in_frame, reading_to, readings_to}
 use Rattle.etcs_packets.specs.laws.PacketReadings.{bits_are}
-use Rattle.etcs_sequence.specs.ChainLaws.{Chain}
 use Rattle.etcs_sequence.specs.Contents.{Carries, PacketsIn, KeptIn}
 use Rattle.etcs_sequence.proofs.Fits.{run_some}
 use Rattle.etcs_sequence.proofs.Wholes.{spelled_kept, kept_after}
 use Rattle.etcs_sequence.specs.laws.Others.{kept_parts, kept_fault, kept_framed}
 use Rattle.etcs_sequence.proofs.Carried.{typed_bits, frame_spelled}
 use Rattle.etcs_sequence.specs.laws.RunSteps.{in_front, framed_carried}
-use Rattle.etcs_reader.specs.Rests.{AreBits, Goes, Starts}
+use Rattle.etcs_reader.specs.Rests.{Goes, Starts}
 use Rattle.etcs_sequence.specs.declared.stage.Stage.{Stage}
 use Rattle.etcs_sequence.specs.declared.stage.Stage.TheVariants.{Number, Row, Kept}
 use Rattle.etcs_sequence.specs.declared.stage.Event.{Event}
-use Rattle.etcs_sequence.specs.Lefts.{left_of, next_of, is_stage, keeps_at, Becomes, Here, After, HoldsAt, Moved}
+use Rattle.etcs_sequence.specs.Lefts.{left_of, is_stage, keeps_at, Becomes, Here, After, HoldsAt, Moved}
 use Rattle.etcs_sequence.specs.AtOnce.{FrameAt, Holds, WholeAt}
 use Rattle.etcs_sequence.proofs.PacketLemmas.{Taken, taken}
 use Rattle.etcs_sequence.proofs.PacketLemmas.{held_whole}
@@ -214,22 +212,3 @@ closing_held c c' s s' n H number same becomes q (vs, f, k, h, holds, all, here,
 -- its bits
 pub closing_bits : (n : ℕ) (t : List Bool) → num 8 n ≡ t → spelled ((NID_PACKET, n) ∷ []) ≡ t
 closing_bits n t e = append-nil (num 8 n) ∙ e
-
--- ---- Bits that are kept, one after another.
-
-pub kept_bits : (left : ℕ) → AreBits (KeptIn left) (Some OTHER_DATA) left
-kept_bits left some = (OTHER_DATA, refl, refl, λ r (b, long, e). (b, [], long, e ∙ sym (append-nil (kept OTHER_DATA b))))
-
--- so it is where more follows
-pub chain_bits : (P : Reading → Type 0) (Q : Reading → Reading → Type 0) (next : Option Var) (n : ℕ) → AreBits P next n → AreBits (Chain P Q) next n
-chain_bits P Q next n are some =
-    let (x, is, one, each) = are some in (
-      x,
-      is,
-      one,
-      λ r (first, rest, e, l, m). (let (t, q, long, k) = each first l in
-          (t, q ++ rest, long, e ∙ ap (λ (z : Reading). z ++ rest) k ∙ append_assoc (kept x t) q rest)),
-    )
-
-pub kept_at_stage : (c : Carrier) (room : ℕ) (s : Stage) (nid dir left : ℕ) → s ≡ Kept nid dir left → AreBits (left_of c room s) (next_of s) left
-kept_at_stage c room s nid dir left is = rw is (chain_bits (KeptIn left) (λ a. PacketsIn c room) (Some OTHER_DATA) left (kept_bits left))

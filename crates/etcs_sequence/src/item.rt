@@ -1,10 +1,11 @@
 //! One reader of every item: telegrams, and messages.
 
-ghost use Rattle.std.specs.Prelude.{◌≡◌, ◌≢◌, ◌*◌, ◌≤◌, ◌<◌, ◌^◌, ℕ, List, Bool, [], true, length, Ok, Err, None, MatchResult, IfSome, IsNone, is_some};
+ghost use Rattle.std.specs.Prelude.{◌≡◌, ◌≢◌, ◌*◌, ◌≤◌, ◌<◌, ◌^◌, ℕ, List, Bool, [], true, length, Ok, Err, None, MatchResult, OnOk, OnErr, IfSome, IsNone, is_some};
 ghost use Rattle.etcs_bits.specs.Bits as bit_lists;
 ghost use Rattle.etcs_bits.specs.Bits.{bits};
 ghost use Rattle.etcs_vars.specs.Reading.{Reading, spelled, readings_of};
 ghost use Rattle.etcs_vars.proofs.Languages.{Same};
+ghost use Rattle.etcs_reader.specs.Rests.{Goes};
 ghost use Rattle.etcs_sequence.specs.declared.list.PacketList.{PacketList};
 ghost use Rattle.etcs_sequence.specs.Holdings.{IsHeld};
 ghost use Rattle.etcs_sequence.specs.Progress.{Feeds, reading};
@@ -16,8 +17,9 @@ use crate::list::PacketList;
 use crate::room::Room;
 use etcs_packets::inner::AnyPacket;
 use etcs_reader::{Feeder, Rest, Stop};
+use etcs_vars::inner::VarSink;
 use etcs_vars::{Fed, ReadFault};
-use std::alloc::Global;
+use std::alloc::{AllocError, Global};
 use std::marker::Model;
 use std::mem;
 
@@ -100,6 +102,18 @@ pub trait ItemRest: Rest + Drop {
     /// Where the packets go.
     fn store(&self) -> &PacketList<Self::Packet>
         ensures { result.now ≡ store self.now };
+
+    /// Sends the variables that were read, which take this many bits.
+    ///
+    /// # Errors
+    ///
+    /// That of the sink.
+    fn send<S: VarSink>(&self, taken: usize, out: &mut S) -> Result<(), AllocError>
+        requires goes { Goes (Self.left self.now) }
+        requires holds { (size : Self.Size) × holds size self.now (far self.now) }
+        requires taken { length (spelled (far self.now)) ≡ taken }
+        ensures ok { OnOk result (out.new ≡ S.with out.old (far self.now)) }
+        ensures err { OnErr result (S.failed out.old out.new) };
 
     /// The item, where nothing is left of it.
     fn into_item(self, size: Self::Size) -> Self::Item

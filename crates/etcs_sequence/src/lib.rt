@@ -23,6 +23,7 @@ mod pieces;
 mod room;
 mod row_bits;
 mod run;
+mod sending;
 mod stage;
 mod state;
 mod store;

@@ -350,14 +350,6 @@ impl<S: PacketStore> Rest for PacketsRest<S> {
         }
     }
 
-    #[inline]
-    fn run(&self) -> usize {
-        match &self.left.stage {
-            Stage::Kept(_, _, left) => *left,
-            _ => 0,
-        }
-    }
-
     ghost regular = { λ s. left_regular s.left.carrier s.left.room s.left.stage };
 
     ghost begins_with = { λ s. left_begins s.left.carrier s.left.room s.left.stage s.left.stands };

@@ -1,5 +1,5 @@
 -- What is left of a telegram after each of its variables.
-use Rattle.std.proofs.Common.{◌≡◌, ℕ, zero, suc, ◌+◌, ◌-◌, ◌/◌, ◌^◌, ◌<◌, ◌≤◌, Bool, true, false, List, [], ◌∷◌, ◌++◌, length, drop, get_or, Some, refl, sym, ap, subst, ◌∙◌, arith, ltb}
+use Rattle.std.proofs.Common.{◌≡◌, ℕ, zero, suc, ◌+◌, ◌-◌, ◌/◌, ◌^◌, ◌<◌, ◌≤◌, Bool, true, false, List, [], ◌∷◌, length, drop, get_or, Some, refl, sym, ap, subst, ◌∙◌, arith, ltb}
 use Rattle.std.specs.Prelude.{IsTrue, ◌↔◌, ◌&&◌, ◌==◌, nat_lt, replicate, map, slice_get, slice_index_or}
 use Rattle.std.proofs.lemmas.Bool.{and_parts, ltb-true, eqb-true}
 use Rattle.std.proofs.Math.Seq.{drop-cons}
@@ -10,12 +10,11 @@ use Rattle.etcs_vars.specs.Reading.{Sent, Reading, kept, Viable, Then}
 use Rattle.etcs_vars.specs.Walking.{Residual}
 use Rattle.etcs_vars.proofs.Languages.{Same, same_self, same_along}
 use Rattle.etcs_sequence.proofs.Turns.{residual_same}
-use Rattle.etcs_reader.specs.Rests.{AreBits, Starts, Goes}
+use Rattle.etcs_reader.specs.Rests.{Starts, Goes}
 use Rattle.etcs_reader.specs.Fields.{ReadsFields}
 use Rattle.etcs_sequence.specs.declared.state.PacketsState.{PacketsState}
 use Rattle.etcs_sequence.specs.declared.stage.Stage.TheVariants as stage
-use Rattle.etcs_sequence.specs.Lefts.{ahead, left_of, next_of, is_closed, Moved}
-use Rattle.etcs_sequence.proofs.LeapLemmas.{chain_bits}
+use Rattle.etcs_sequence.specs.Lefts.{left_of, is_closed, Moved}
 use Rattle.etcs_sequence.specs.BitLaws.{BitsLeft}
 use Rattle.etcs_sequence.specs.laws.BitLaws.{some_bits, bits_regular, bits_begin, bits_start, bits_number, bits_after, bits_viable}
 use Rattle.etcs_sequence.proofs.StageLaws.{closed_stage}
@@ -204,13 +203,3 @@ module _ {S : Type 0} (s : TelegramState S) (x : Var) (number left : ℕ) (next 
       let goes' : Starts (PadLeft left) PAD 0 number = rw (e, ← same) at goes in
       let zero-is : number ≡ 0 = (pad_starts left number pos).1 goes' in
       cc
-
--- ---- Bits one after another.
-
-pub packets_run : {S : Type 0} (s : TelegramState S) (n : ℕ) → s.phase ≡ Packets → AreBits (left_of s.left.carrier s.left.room s.left.stage) (next_of s.left.stage) n → AreBits (Left s) (next_var s) n
-packets_run s n is are =
-    let room = ahead s.left.carrier s.left.room s.left.stage in
-    rw is (chain_bits (left_of s.left.carrier s.left.room s.left.stage) (FillBy s.size room) (next_of s.left.stage) n are)
-
-pub fill_run : {S : Type 0} (s : TelegramState S) (left : ℕ) → s.phase ≡ Fill left → AreBits (Left s) (next_var s) left
-fill_run s left is = rw is (λ some. (FILL, refl, refl, λ r (first, rest, e, (b, long, k), pad). (b, rest, long, e ∙ ap (λ (z : Reading). z ++ rest) k)))

@@ -1,30 +1,24 @@
 -- What a sink holds that took variables, one after another.
-use Rattle.std.proofs.Common.{◌≡◌, ℕ, suc, ◌+◌, ◌<◌, ◌≤◌, List, [], ◌∷◌, ◌++◌, length, take, drop, get_or, Some, Result, Ok, Err, refl, ap, sym, ◌∙◌, arith}
-use Rattle.std.specs.Prelude.{OnOk}
+use Rattle.std.proofs.Common.{◌≡◌, ℕ, zero, suc, ◌+◌, ◌<◌, ◌≤◌, false, List, [], ◌∷◌, ◌++◌, length, take, drop, get_or, Some, refl, ap, ◌∙◌, arith}
+use Rattle.std.specs.Prelude.{replicate}
 use Rattle.std.proofs.Math.Seq.{drop-cons}
-use Rattle.std.proofs.lemmas.List.{length-take-le, take_more}
+use Rattle.std.proofs.lemmas.List.{length-append, length-take-le, take_more, take-replicate}
 use Rattle.etcs_vars.specs.declared.var.Var.TheVariants.{PAD}
-use Rattle.etcs_vars.specs.Reading.{Reading}
+use Rattle.etcs_vars.specs.Reading.{Reading, kept, spelled}
+use Rattle.etcs_vars.specs.laws.Spellings.{spelled-append}
 use Rattle.etcs_tables.specs.Headers.{header_row}
 use Rattle.etcs_reader.specs.Fields.{first_of}
+use Rattle.etcs_packets.specs.PacketValues.{form}
+use Rattle.etcs_sequence.specs.Held.{packets_so_far}
 use Rattle.etcs_sequence.specs.Labels.{labelled}
-use Rattle.etcs_sequence.proofs.LabelLaws.{labelled_more}
+use Rattle.etcs_sequence.proofs.LabelLaws.{labelled_more, labelled_widths, length-widths}
+use Rattle.etcs_telegram.specs.declared.phase.Phase.{Phase}
+use Rattle.etcs_telegram.specs.declared.phase.Phase.TheVariants.{Packets}
+use Rattle.etcs_telegram.specs.declared.store.TelegramStore.{TelegramStore}
+use Rattle.etcs_telegram.specs.Lefts.{TelegramState}
 use Rattle.etcs_telegram.specs.Phases.{header_var}
-
--- ---- What it holds that took four runs.
-
-module _ {S T E : Type 0} (with : S → Reading → S) (both : (s : S) (a b : Reading) → with s (a ++ b) ≡ with (with s a) b) where
-  pub four_sent : (r : Result T E) (old one two three new : S) (a b c d : Reading) → one ≡ with old a → two ≡ with one b → three ≡ with two c → OnOk r (new ≡ with three d) → OnOk r (new ≡ with old (a ++ b ++ c ++ d))
-  four_sent (Ok x) old one two three new a b c d first second third last =
-      let two_is : two ≡ with old (a ++ b) = second ∙ ap (λ (s : S). with s b) first ∙ sym (both old a b) in
-      let three_is : three ≡ with old (a ++ b ++ c) = third ∙ ap (λ (s : S). with s c) two_is ∙ sym (both old (a ++ b) c) in
-      last ∙ ap (λ (s : S). with s d) three_is ∙ sym (both old (a ++ b ++ c) d)
-  four_sent (Err x) old one two three new a b c d first second third last = tt
-
--- ---- Two runs, which are all of q.
-
-pub two_sent : {S : Type 0} (with : S → Reading → S) → ((s : S) (a b : Reading) → with s (a ++ b) ≡ with (with s a) b) → (old one new : S) (a b q : Reading) → one ≡ with old a → new ≡ with one b → q ≡ a ++ b → new ≡ with old q
-two_sent {S} with both old one new a b q first second is = second ∙ ap (λ (t : S). with t b) first ∙ sym (both old a b) ∙ ap (with old) (sym is)
+use Rattle.etcs_telegram.specs.Readers.{far_at, so_far}
+use Rattle.etcs_telegram.proofs.RestSteps.{packets_parts}
 
 -- ---- One more of the header's variables.
 
@@ -35,3 +29,23 @@ header_more ns at short lt =
     let row : drop at header_row ≡ get_or header_row at PAD ∷ drop (suc at) header_row = drop-cons header_row at PAD inside in
     let next : first_of (drop (length (take at ns)) header_row) ≡ Some (header_var at) = rw long (rw row refl) in
     ap (labelled header_row) (take_more ns at 0 lt) ∙ labelled_more header_row (take at ns) (header_var at) (get_or ns at 0) next
+
+-- ---- The zeros that end a telegram.
+
+zeros_kept : (n : ℕ) → replicate n (PAD, 0) ≡ kept PAD (replicate n false)
+zeros_kept zero = refl
+zeros_kept (suc n) = ap (λ (r : Reading). (PAD, 0) ∷ r) (zeros_kept n)
+
+pub zeros_taken : (n : ℕ) → n ≤ 6 → take n (replicate 6 (PAD, 0)) ≡ kept PAD (replicate n false)
+zeros_taken n le = take-replicate n 6 (PAD, 0) le ∙ zeros_kept n
+
+-- ---- What was read: the header, and packets.
+
+pub far_long : (s : TelegramState TelegramStore) → s.phase ≡ Packets → length (spelled (so_far s)) ≡ 50 + length (spelled (packets_so_far form s.left.carrier s.left.stage s.store.list.packets.items s.store.list.numbers.items s.store.list.bits))
+far_long s e =
+    let l = s.store.list in
+    let packets = packets_so_far form s.left.carrier s.left.stage l.packets.items l.numbers.items l.bits in
+    let header = labelled header_row s.header in
+    let far : so_far s ≡ header ++ packets = ap (λ (x : Phase). far_at x s) e in
+    let all = ap (λ (t : Reading). length (spelled t)) far ∙ ap length (spelled-append header packets) ∙ length-append (spelled header) (spelled packets) in
+    omega (arith, all, length-widths header ∙ labelled_widths header_row s.header (packets_parts s e).0)

@@ -10,10 +10,12 @@ ghost use Rattle.etcs_sequence.specs.Fronts.{FrontAt};
 ghost use Rattle.etcs_telegram.specs.Fronts.{FieldsIn};
 
 use crate::header::{Header, header_by};
-use crate::inner::HEADER_BITS;
 use arrayvec::ArrayVec;
 use etcs_sequence::inner::number_at;
 use etcs_vars::Var;
+
+/// How many bits the header's variables take.
+pub(crate) const HEADER_BITS: usize = 50;
 
 /// The number of a variable in a word, with this many bits after it. `None` where the variable doesn't admit it.
 #[inline(always)]

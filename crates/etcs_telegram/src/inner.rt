@@ -10,9 +10,6 @@ pub use crate::rest::TelegramRest;
 pub use crate::store::TelegramStore;
 use crate::telegram::Telegram;
 
-/// How many bits the header's variables take.
-pub const HEADER_BITS: usize = 50;
-
 /// The numbers of the header's variables in the order of sending. Each variable admits its number.
 pub fn header_numbers(header: &Header) -> [u64; 10]
     ensures numbers { result ≡ map (λ p. p.1) (header_reading header.now) }

@@ -16,8 +16,9 @@ use etcs_bodies::ListOf;
 use etcs_packets::Packet;
 use etcs_sequence::inner::Room;
 use etcs_sequence::{Held, ItemReader, ItemRest, PacketList};
+use etcs_vars::inner::VarSink;
 use etcs_vars::{Fed, ReadFault};
-use std::alloc::Global;
+use std::alloc::{AllocError, Global};
 use std::marker::Model;
 
 impl ItemRest for TelegramRest<TelegramStore> {
@@ -82,6 +83,10 @@ impl ItemRest for TelegramRest<TelegramStore> {
     #[inline]
     fn store(&self) -> &PacketList<Packet> {
         &self.packets.store.list
+    }
+
+    fn send<S: VarSink>(&self, taken: usize, out: &mut S) -> Result<(), AllocError> {
+        self.send_read(taken, out)
     }
 
     #[inline(always)]

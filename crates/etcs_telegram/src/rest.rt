@@ -317,15 +317,6 @@ impl<S: PacketStore> Rest for TelegramRest<S> {
         }
     }
 
-    #[inline]
-    fn run(&self) -> usize {
-        match self.phase {
-            Phase::Packets => self.packets.run(),
-            Phase::Fill(left) => left,
-            _ => 0,
-        }
-    }
-
     ghost regular = { rest_regular };
 
     ghost begins_with = { rest_begins };

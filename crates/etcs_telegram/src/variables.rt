@@ -1,25 +1,25 @@
 //! The variables of headers and of telegrams with their numbers, sent in order (SUBSET-026, 7 and 8).
 
-ghost use Rattle.std.specs.Prelude.{◌≡◌, ◌≤◌, ◌++◌, false, IfOk, IsTrue, OnErr, OnOk, length, map, replicate};
-ghost use Rattle.etcs_vars.specs.declared.var.Var.TheVariants.{FILL, PAD};
-ghost use Rattle.etcs_vars.specs.Reading.{Reading, kept};
+ghost use Rattle.std.specs.Prelude.{◌≡◌, ◌≤◌, IfOk, OnErr, OnOk, length, map};
+ghost use Rattle.etcs_vars.specs.Reading.{spelled};
 ghost use Rattle.etcs_tables.specs.Headers.{header_row};
+ghost use Rattle.etcs_reader.specs.Rests.{Goes};
 ghost use Rattle.etcs_packets.specs.PacketValues.{packet_value};
-ghost use Rattle.etcs_packets.specs.PacketReadings.{packets_reading};
 ghost use Rattle.etcs_sequence.specs.Labels.{labelled};
-ghost use Rattle.etcs_telegram.specs.Lefts.{HoldsIn};
-ghost use Rattle.etcs_telegram.specs.Readers.{store_holds};
-ghost use Rattle.etcs_telegram.specs.Telegrams.{closed_reading, header_reading, pad_bits};
+ghost use Rattle.etcs_telegram.specs.Lefts.{HoldsIn, Left};
+ghost use Rattle.etcs_telegram.specs.Phases.{beyond_header};
+ghost use Rattle.etcs_telegram.specs.Readers.{so_far, store_holds};
+ghost use Rattle.etcs_telegram.specs.Telegrams.{closed_reading};
 
 use crate::header::Header;
-use crate::inner::HEADER_BITS;
+use crate::header_bits::HEADER_BITS;
 use crate::phase::{Phase, header_var};
 use crate::rest::TelegramRest;
-use crate::size::Size;
 use crate::store::TelegramStore;
 use crate::telegram::Telegram;
+use etcs_bits::BitSlice;
+use etcs_packets::Packet;
 use etcs_packets::inner::send_all;
-use etcs_sequence::Stage;
 use etcs_tables::CLOSING;
 use etcs_vars::inner::{VarSink, Variables, send_bits};
 use etcs_vars::{Var, pairs_of};
@@ -78,36 +78,32 @@ impl Variables for Telegram {
 
     fn send<S: VarSink>(&self, out: &mut S) -> Result<(), AllocError> {
         self.header().send(out)?;
-        send_closed(self, out)?;
-        send_bits(Var::FILL, &self.fill(), out)?;
-        send_pad(self.size(), out)
+        send_closed(self.packets(), &self.fill(), self.size().pad_bits(), out)
     }
 }
 
-/// Sends the packets of a telegram, and packet 255.
-fn send_closed<S: VarSink>(telegram: &Telegram, out: &mut S) -> Result<(), AllocError>
-    ensures ok { OnOk result (out.new ≡ S.with out.old (closed_reading (map packet_value telegram.now.packets))) }
+/// Sends packets with packet 255, the bits of FILL, and this many zeros of PAD.
+fn send_closed<S: VarSink>(
+    packets: &[Packet],
+    fill: &BitSlice<'_>,
+    zeros: usize,
+    out: &mut S,
+) -> Result<(), AllocError>
+    requires { zeros ≤ 6 }
+    ensures ok { OnOk result (out.new ≡ S.with out.old (beyond_header (closed_reading (map packet_value packets.now)) fill.now zeros)) }
     ensures err { OnErr result (S.failed out.old out.new) }
 {
-    send_all(telegram.packets(), out)?;
-    out.send(&[(Var::NID_PACKET, u64::from(CLOSING))])
-}
-
-/// Sends the zeros that end a telegram.
-fn send_pad<S: VarSink>(size: Size, out: &mut S) -> Result<(), AllocError>
-    ensures ok { OnOk result (out.new ≡ S.with out.old (kept PAD (replicate (pad_bits size) false))) }
-    ensures err { OnErr result (S.failed out.old out.new) }
-{
-    match size {
-        Size::Short => out.send(&[(Var::PAD, 0); 6]),
-        Size::Long => out.send(&[(Var::PAD, 0); 2]),
-    }
+    send_all(packets, out)?;
+    out.send(&[(Var::NID_PACKET, u64::from(CLOSING))])?;
+    send_bits(Var::FILL, fill, out)?;
+    out.send(&[(Var::PAD, 0); 6][..zeros])
 }
 
 /// Sends the header's first variables, which have these numbers.
 fn send_header<S: VarSink>(numbers: &[u64], out: &mut S) -> Result<(), AllocError>
     requires { length numbers.now ≤ 10 }
-    ensures { OnOk result (out.new ≡ S.with out.old (labelled header_row numbers.now)) }
+    ensures ok { OnOk result (out.new ≡ S.with out.old (labelled header_row numbers.now)) }
+    ensures err { OnErr result (S.failed out.old out.new) }
 {
     for at in 0..numbers.len() {
         out.send(&[(header_var(at), numbers[at])])?;
@@ -116,48 +112,27 @@ fn send_header<S: VarSink>(numbers: &[u64], out: &mut S) -> Result<(), AllocErro
 }
 
 impl TelegramRest<TelegramStore> {
-    /// Whether NID_PACKET comes next.
-    fn is_at_number(&self) -> bool
-        ensures { IsTrue result → (q : Reading) → HoldsIn store_holds self.now q → q ≡ labelled header_row self.now.header ++ packets_reading (map packet_value self.now.store.list.packets.items) }
-    {
-        match (self.phase, &self.packets.left.stage) {
-            (Phase::Packets, Stage::Number) => true,
-            _ => false,
-        }
-    }
-
-    /// Whether 255 was read, and nothing after it.
-    fn is_closed(&self) -> bool
-        ensures { IsTrue result → (q : Reading) → HoldsIn store_holds self.now q → q ≡ labelled header_row self.now.header ++ closed_reading (map packet_value self.now.store.list.packets.items) }
-    {
-        match self.phase {
-            Phase::Fill(_) => self.packets.store.list.bits.is_empty(),
-            Phase::Pad(left) => {
-                left == self.size.pad_bits() && self.packets.store.list.bits.is_empty()
-            }
-            _ => false,
-        }
-    }
-
-    /// Sends the variables that were read, and returns true, if NID_PACKET comes next, or if packet 255 was read and nothing
-    /// after it. Otherwise it sends none and returns false.
+    /// Sends the variables that were read, which take this many bits.
     ///
     /// # Errors
     ///
-    /// That of the sink. Some of them may then be sent.
-    pub fn send<S: VarSink>(&self, out: &mut S) -> Result<bool, AllocError>
-        ensures sent { IfOk result (λ b. IsTrue b → (q : Reading) → HoldsIn store_holds self.now q → out.new ≡ S.with out.old q) }
-        ensures none { IfOk result (λ b. b ≡ false → out.new ≡ out.old) }
+    /// That of the sink.
+    pub(crate) fn send_read<S: VarSink>(&self, bits: usize, out: &mut S) -> Result<(), AllocError>
+        requires goes { Goes (Left self.now) }
+        requires bits { length (spelled (so_far self.now)) ≡ bits }
+        requires held { HoldsIn store_holds self.now (so_far self.now) }
+        ensures ok { OnOk result (out.new ≡ S.with out.old (so_far self.now)) }
+        ensures err { OnErr result (S.failed out.old out.new) }
     {
-        let closed = self.is_closed();
-        if !closed && !self.is_at_number() {
-            return Ok(false);
-        }
+        let list = &self.packets.store.list;
         send_header(self.header.as_slice(), out)?;
-        send_all(self.packets.store.list.packets.as_slice(), out)?;
-        if closed {
-            out.send(&[(Var::NID_PACKET, u64::from(CLOSING))])?;
-        }
-        Ok(true)
+        let zeros = match self.phase {
+            Phase::Header(_) => return Ok(()),
+            Phase::Packets => return self.packets.left.send(bits - HEADER_BITS, list, out),
+            Phase::Fill(_) => 0,
+            Phase::Pad(left) => self.size.pad_bits() - left,
+            Phase::Whole => self.size.pad_bits(),
+        };
+        send_closed(list.packets.as_slice(), &list.bits.as_slice(), zeros, out)
     }
 }

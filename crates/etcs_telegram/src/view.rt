@@ -9,7 +9,7 @@ ghost use Rattle.etcs_telegram.specs.Texts.{view_fault_text};
 ghost use Rattle.etcs_telegram.specs.Views.{Sees};
 
 use crate::header::{Header, header_by};
-use crate::inner::HEADER_BITS;
+use crate::header_bits::HEADER_BITS;
 use crate::rest::TelegramRest;
 use crate::size::Size;
 use etcs_bits::BitSlice;

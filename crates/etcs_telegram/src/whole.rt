@@ -8,8 +8,7 @@ ghost use Rattle.etcs_sequence.specs.AtOnce.{RunFirst};
 ghost use Rattle.etcs_telegram.specs.Telegrams.{IsTelegram, ReadsAs, telegram_value, container_bytes, packet_room};
 ghost use Rattle.etcs_telegram.specs.Readers.{store_holds, IsTelegramPart};
 
-use crate::header_bits::header_at_front;
-use crate::inner::HEADER_BITS;
+use crate::header_bits::{HEADER_BITS, header_at_front};
 use crate::rest::TelegramRest;
 use crate::size::Size;
 use crate::store::TelegramStore;

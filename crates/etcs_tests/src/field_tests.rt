@@ -1,11 +1,9 @@
-//! Variables one after another, from pieces, and those that are sent to a sink.
+//! Variables one after another, from pieces.
 
 use crate::pieces::{check_bytes, check_end, check_refused, fed, feed};
-use crate::sink_tests::Few;
 use etcs_fakes::Checks;
-use etcs_reader::{Feeder, Fields, Rest, Stop, Stored};
+use etcs_reader::{Feeder, Fields, Rest};
 use etcs_vars::Var;
-use std::alloc::Global;
 
 /// The variables before a telegram's packets, of 50 bits.
 const HEADER: [Var; 10] = [
@@ -30,14 +28,6 @@ const GROUP: [Var; 3] = [Var::Q_NEWCOUNTRY, Var::NID_C, Var::NID_BG];
 /// A reader of these variables.
 fn reader_of(vars: &'static [Var]) -> Feeder<Fields> {
     Feeder::new(Fields { vars })
-}
-
-/// A reader of these variables that stores this many.
-fn storing(alloc: Global, vars: &'static [Var], room: usize) -> Feeder<Stored<Fields, Few>> {
-    Feeder::new(Stored {
-        rest: Fields { vars },
-        store: Few::new(alloc, room),
-    })
 }
 
 #[test]
@@ -95,38 +85,16 @@ fn refused_bits(rt: HostRuntime) {
 
 /// 1, 1000 and 5 in 25 bits, and fifteen bits after them.
 #[test]
-fn stored_variables(rt: HostRuntime) {
+fn two_pieces(rt: HostRuntime) {
     let mut checks = Checks::new();
-    let mut feeder = storing(rt.alloc(), &GROUP, 3);
+    let mut feeder = reader_of(&GROUP);
     checks.check(
         fed(&mut feeder, &[0xFD, 0x00, 0x02]) == Ok(24),
         "three bytes",
     );
-    let two = [(Var::Q_NEWCOUNTRY, 1), (Var::NID_C, 1000)];
-    checks.check(feeder.rest().store.has(&two), "two variables");
+    checks.check(feeder.var() == Some(Var::NID_BG), "the third variable");
     checks.check(feeder.unfinished() == (2, 13), "a part of the third");
     checks.check(fed(&mut feeder, &[0xFF, 0xFF]) == Ok(1), "its last bit");
-    let Stored { rest, store } = feeder.into_rest();
-    checks.check(rest.var().is_none(), "a fourth variable");
-    let three = [(Var::Q_NEWCOUNTRY, 1), (Var::NID_C, 1000), (Var::NID_BG, 5)];
-    checks.check(store.has(&three), "three variables");
-    assert_eq!(rt; checks.wrong(), None);
-}
-
-/// The second variable isn't stored.
-#[test]
-fn refused_memory(rt: HostRuntime) {
-    let mut checks = Checks::new();
-    let mut feeder = storing(rt.alloc(), &GROUP, 1);
-    checks.check(
-        fed(&mut feeder, &[0xFD, 0x00]) == Err(Stop::Memory),
-        "no refusal",
-    );
-    checks.check(feeder.count() == 1, "another bit");
-    checks.check(feeder.stop() == Some(Stop::Memory), "another stop");
-    checks.check(
-        fed(&mut feeder, &[0xFF]) == Err(Stop::Memory),
-        "no refusal again",
-    );
+    checks.check(feeder.into_rest().var().is_none(), "a fourth variable");
     assert_eq!(rt; checks.wrong(), None);
 }

@@ -10,13 +10,13 @@ use std::test::Fail;
 
 /// What was sent, in order, of which it takes only this many more.
 #[derive(Drop)]
-pub(crate) struct Few {
+struct Few {
     pairs: Vec<(Var, u64)>,
     room: usize,
 }
 
 impl Few {
-    pub(crate) fn new(alloc: Global, room: usize) -> Few {
+    fn new(alloc: Global, room: usize) -> Few {
         Few {
             pairs: Vec::new(alloc),
             room,
@@ -24,7 +24,7 @@ impl Few {
     }
 
     /// Whether just these were taken.
-    pub(crate) fn has(&self, pairs: &[(Var, u64)]) -> bool {
+    fn has(&self, pairs: &[(Var, u64)]) -> bool {
         self.pairs.as_slice() == pairs
     }
 }

@@ -2,7 +2,8 @@ use Rattle.std.proofs.Common.{◌+◌, [], ◌∷◌, get_or, take}
 use Rattle.etcs_tables.specs.Headers.{header_row}
 use Rattle.etcs_sequence.specs.Labels.{labelled}
 use Rattle.etcs_telegram.specs.Phases.{header_var}
-use Rattle.etcs_telegram.proofs.Sending.{header_more, two_sent}
+use Rattle.etcs_sequence.proofs.Sent.{two_sent}
+use Rattle.etcs_telegram.proofs.Sending.{header_more}
 use Rattle.etcs_telegram.proofs.variables.send_header.Goals as goal
 
 pub loop-at-preserved : goal.loop-at-preserved

@@ -1,4 +1,4 @@
-use Rattle.std.proofs.Common.{arith, take, ◌∙◌}
+use Rattle.std.proofs.Common.{arith, take}
 use Rattle.std.proofs.lemmas.List.{length-take-le}
 use Rattle.etcs_bits.specs.Bits.{bits}
 use Rattle.etcs_vars.specs.Reading.{readings_of}

@@ -1,4 +1,4 @@
-use Rattle.std.proofs.Common.{◌≡◌, ◌++◌, ◌-◌, ◌<◌, ◌≤◌, refl, sym, ap, subst, ◌∙◌, arith}
+use Rattle.std.proofs.Common.{◌≡◌, ◌++◌, ◌-◌, refl, sym, ap, subst, ◌∙◌, arith}
 use Rattle.std.specs.Prelude.{IsTrue}
 use Rattle.std.proofs.Math.Logic.{∥∥₁_map, ∥∥₁_prop}
 use mathlib.Core.HLevel.{Discrete, hedberg}
@@ -17,7 +17,6 @@ use Rattle.etcs_sequence.specs.AtOnce.{WholeAt}
 use Rattle.etcs_sequence.proofs.LeapLemmas.{held_at_number, leapt_held, packet_viable}
 use Rattle.etcs_sequence.specs.declared.packets.PacketsRest.{PacketsRest, held-type}
 use Rattle.etcs_sequence.proofs.packets.PacketsRest.leap_packet.Goals as goal
-use Rattle.etcs_sequence.specs.laws.Framed.{frame_between}
 
 -- two ways are the same in one way
 two_ways : Discrete Way

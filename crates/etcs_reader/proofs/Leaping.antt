@@ -1,5 +1,5 @@
 -- What was taken at once, and what is taken after it.
-use Rattle.std.proofs.Common.{◌≡◌, ℕ, ◌+◌, ◌-◌, Bool, List, [], ◌++◌, None, sym, ap, subst, ◌∙◌, append_assoc, arith}
+use Rattle.std.proofs.Common.{◌≡◌, ℕ, ◌+◌, Bool, List, [], ◌++◌, None, sym, ap, subst, ◌∙◌, append_assoc, arith}
 use Rattle.std.specs.Prelude.{Option}
 use Rattle.etcs_bits.specs.Bits.{part}
 use Rattle.etcs_bits.proofs.Lists.{part-add}

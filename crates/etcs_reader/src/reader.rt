@@ -76,7 +76,7 @@ impl<R: Rest> Reader<R> {
     }
 
     /// How many of the next `count` bits come before the first one with which no number continues, and the
-    /// number of all bits up to there.
+    /// number of all bits up to there. It is found by bisection.
     #[cold]
     #[inline(never)]
     fn refused(&self, var: Var, bits: u64, count: usize) -> (usize, u64)
@@ -91,17 +91,20 @@ impl<R: Rest> Reader<R> {
     {
         let mut number = self.number;
         let mut more = 0;
-        while more < count {
-            let first = bits >> (count - (more + 1));
-            let longer = joined(self.number, self.taken, first, more + 1);
-            let rest = var.width() - (self.taken + (more + 1));
-            if !self.rest.begins(var, rest, longer) {
-                return (more, number);
+        let mut end = count;
+        while end - more > 1 {
+            let middle = more + (end - more) / 2;
+            let first = bits >> (count - middle);
+            let longer = joined(self.number, self.taken, first, middle);
+            let rest = var.width() - (self.taken + middle);
+            if self.rest.begins(var, rest, longer) {
+                number = longer;
+                more = middle;
+            } else {
+                end = middle;
             }
-            number = longer;
-            more += 1;
         }
-        unreachable!()
+        (more, number)
     }
 
     /// Takes what a piece has of the next variable, from the bit `at` on, and says how many bits it was.

@@ -1,16 +1,18 @@
-use Rattle.std.proofs.Common.{◌≡◌, ◌-◌, ◌≤◌, ◌+◌, ◌*◌, ◌/◌, ◌^◌}
+use Rattle.std.proofs.Common.{◌≡◌, ◌-◌, ◌≤◌, ◌<◌, ◌+◌, ◌*◌, ◌/◌, ◌^◌}
 use Rattle.etcs_vars.specs.Vars.{width}
 use Rattle.etcs_reader.specs.Rests.{Starts}
 use Rattle.etcs_reader.proofs.reader.Reader.refused.Given as goal
 
--- some number continues that begins with the first of the bits
-abbrev pub invariant-loop-more : goal.invariant-loop-more
-invariant-loop-more g l =
+-- some number continues that begins with the first of the bits, and none with more of them
+abbrev pub invariant-loop-end : goal.invariant-loop-end
+invariant-loop-end g l =
     record {
-      within : l.more ≤ l.count;
+      some : l.more < l.end;
+      within : l.end ≤ l.count;
       value : l.number ≡ l.self.number * 2 ^ l.more + l.bits / 2 ^ (l.count - l.more);
       starts : Starts (g.R.Rest.left l.self.rest) l.var (width l.var - (l.self.taken + l.more)) (l.self.number * 2 ^ l.more + l.bits / 2 ^ (l.count - l.more));
+      none : Starts (g.R.Rest.left l.self.rest) l.var (width l.var - (l.self.taken + l.end)) (l.self.number * 2 ^ l.end + l.bits / 2 ^ (l.count - l.end)) → ⊥;
     }
 
-abbrev pub decreases-loop-more : goal.decreases-loop-more
-decreases-loop-more g l = l.count - l.more
+abbrev pub decreases-loop-end : goal.decreases-loop-end
+decreases-loop-end g l = l.end - l.more

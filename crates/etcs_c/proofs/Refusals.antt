@@ -1,13 +1,13 @@
 -- A refused bit, and the account of the bits before it.
-use Rattle.std.proofs.Common.{◌≡◌, ℕ, ◌+◌, ◌<◌, ◌⊎◌, Bool, List, [], ◌∷◌, ◌++◌, Result, Ok, Err, inl, inr, length, take, Some, refl, sym, ap, subst, ◌∙◌, arith}
+use Rattle.std.proofs.Common.{◌≡◌, ℕ, ◌+◌, ◌≤◌, ◌<◌, ◌⊎◌, Bool, List, [], ◌∷◌, ◌++◌, Result, Ok, Err, inl, inr, length, take, drop, Some, refl, sym, ap, subst, ◌∙◌, arith}
 use Rattle.std.specs.Prelude.{IfOk, MatchResult}
 use Rattle.std.proofs.lemmas.Bool.{cases_lt}
-use Rattle.std.proofs.lemmas.List.{append-nil, length-append, length-take, length-take-le, take-take}
+use Rattle.std.proofs.lemmas.List.{append-nil, length-append, length-take, length-take-le, take-append-drop, take-take, take_all}
 use Rattle.etcs_vars.specs.declared.var.Var.{Var}
 use Rattle.etcs_vars.specs.Vars.{width}
 use Rattle.etcs_vars.specs.Walking.{Refuses}
-use Rattle.etcs_vars.specs.Reading.{Reading, spelled, readings_of, IsOutcome, refused, InLanguage, Owner, Viable}
-use Rattle.etcs_vars.proofs.Outcomes.{viable_front}
+use Rattle.etcs_vars.specs.Reading.{Reading, spelled, readings_of, IsOutcome, refused, more, InLanguage, Owner, Viable}
+use Rattle.etcs_vars.proofs.Outcomes.{viable_front, more_wanted, none_refused, refuses_longer}
 use Rattle.etcs_bits.specs.Bits.{num}
 use Rattle.etcs_bits.proofs.Numbers.{length-num}
 use Rattle.etcs_text.specs.declared.entry.Kind.{Kind}
@@ -15,6 +15,7 @@ use Rattle.etcs_text.specs.Entries.{EntryReads}
 use Rattle.etcs_text.proofs.ItemKinds.{kind_regular}
 use Rattle.etcs_reasons.specs.Accounts.{Shows, Accounts}
 use Rattle.etcs_reasons.specs.declared.account.End.{End}
+use Rattle.etcs_reasons.specs.declared.account.Part.{Part}
 use Rattle.etcs_reasons.specs.declared.account.End.TheVariants as end
 use Rattle.etcs_reasons.proofs.Accounting.{whole_unrefused, open_unrefused}
 use Rattle.etcs_c.specs.declared.answer.EtcsAnswer.{EtcsAnswer}
@@ -22,8 +23,8 @@ use Rattle.etcs_c.specs.declared.fields.EtcsField.{EtcsField}
 use Rattle.etcs_c.specs.declared.found.Found.{Found}
 use Rattle.etcs_c.specs.declared.found.Found.TheVariants as found_as
 use Rattle.etcs_c.specs.Writes.{Starves, WritesAs}
-use Rattle.etcs_c.specs.Answers.{Says}
-use Rattle.etcs_c.specs.Explained.{AreBefore, SaysBefore, SaysWhy, Words}
+use Rattle.etcs_c.specs.Answers.{Finds, Says}
+use Rattle.etcs_c.specs.Explained.{AreBefore, SaysUnwritten, Words}
 use Rattle.etcs_c.specs.Fields.{fields_of}
 use Rattle.etcs_c.proofs.Whole.{item_bytes}
 
@@ -107,14 +108,21 @@ before_said items kind b i x o old new s a (Err y) h starves = inr starves
 
 -- ---- What is said where no bit is refused.
 
-pub unwritten : (found : Found) → ((i : ℕ) (x : Var) → found ≡ found_as.Refused i x → ⊥) → (s : ℕ) (a a' : EtcsAnswer) → Says found s a → a'.taken ≡ a.taken → a'.written ≡ 0 → (old : List ℕ) → SaysWhy found old old s a'
-unwritten (found_as.Whole e k) not s a a' says same none old = ((says.0, same ∙ says.1), none, refl)
-unwritten found_as.More not s a a' says same none old = (says, none, refl)
-unwritten (found_as.Refused i x) not s a a' says same none old = absurd (not i x refl)
-unwritten found_as.Memory not s a a' says same none old = (says, none, refl)
+pub says_unrefused : (kind : Kind) (b : List Bool) (found : Found) → Finds kind b found → ((i : ℕ) (x : Var) → Refuses (Items kind) (take 8184 b) i x → ⊥) → (s : ℕ) (a a' : EtcsAnswer) → Says found s a → a'.taken ≡ a.taken → a'.written ≡ 0 → SaysUnwritten found s a'
+says_unrefused kind b (found_as.Whole e k) finds not s a a' says same none = ((says.0, same ∙ says.1), none)
+says_unrefused kind b found_as.More finds not s a a' says same none = (says, none)
+says_unrefused kind b (found_as.Refused i x) finds not s a a' says same none = absurd (not i x (first_refused kind b i x finds))
+says_unrefused kind b found_as.Memory finds not s a a' says same none = (says, none)
 
-pub unwritten_fields : (kind : Kind) (b : List Bool) (found : Found) → ((i : ℕ) (x : Var) → found ≡ found_as.Refused i x → ⊥) → (s : ℕ) (a a' : EtcsAnswer) → Says found s a → a'.taken ≡ a.taken → a'.written ≡ 0 → (old : List EtcsField) → SaysBefore kind b found old old s a'
-unwritten_fields kind b (found_as.Whole e k) not s a a' says same none old = ((says.0, same ∙ says.1), none, refl)
-unwritten_fields kind b found_as.More not s a a' says same none old = (says, none, refl)
-unwritten_fields kind b (found_as.Refused i x) not s a a' says same none old = absurd (not i x refl)
-unwritten_fields kind b found_as.Memory not s a a' says same none old = (says, none, refl)
+-- ---- What all bits are, by the account of the first ones.
+
+pub all_refused : (kind : Kind) (b : List Bool) (p : Reading) (i : ℕ) (part : Part) → Accounts (Items kind) p (end.Refused i part) (take 8184 b) → IsOutcome (EntryReads kind) b (refused i part.var)
+all_refused kind b p i part (shows, refuses, short) =
+    let all : take 8184 b ++ drop 8184 b ≡ b = take-append-drop 8184 b in
+    let r = subst (λ (t : List Bool). Refuses (Items kind) t i part.var) all (refuses_longer (Items kind) (take 8184 b) (drop 8184 b) i part.var refuses) in
+    ((none_refused (Items kind) (kind_regular kind) b i part.var r, r.within, r.blocked), r.owned)
+
+pub all_open : (kind : Kind) (b : List Bool) (p : Reading) (part : Part) → Accounts (Items kind) p (end.Open part) (take 8184 b) → length b ≤ 8184 → IsOutcome (EntryReads kind) b more
+all_open kind b p part (shows, owner, short) le =
+    let all : take 8184 b ≡ b = take_all 8184 b le in
+    more_wanted (Items kind) (kind_regular kind) b (subst (λ (t : List Bool). Owner (Items kind) t part.var) all owner)

@@ -2,13 +2,16 @@
 use Rattle.std.specs.Prelude.{◌≡◌, ◌<◌, ℕ, ◌⊎◌, Bool, List, length, take}
 use Rattle.etcs_vars.specs.Vars.{width}
 use Rattle.etcs_vars.specs.declared.var.Var.{Var}
-use Rattle.etcs_vars.specs.Reading.{Reading, readings_of}
+use Rattle.etcs_vars.specs.Reading.{Reading, readings_of, IsOutcome, refused}
 use Rattle.etcs_text.specs.declared.entry.Kind.{Kind}
 use Rattle.etcs_text.specs.Entries.{EntryReads, EntryValue}
 use Rattle.etcs_json.specs.JsonLines.{OfLine, SaysItem, SaysRefused}
 use Rattle.etcs_json.specs.Loose.{IsLoose}
 use Rattle.etcs_json.specs.TreeReading.{IsTreeOf}
-use Rattle.etcs_reasons.specs.Accounts.{Shows}
+use Rattle.etcs_reasons.specs.Accounts.{Shows, Accounts}
+use Rattle.etcs_reasons.specs.declared.account.Account.{Account}
+use Rattle.etcs_reasons.specs.declared.account.End.TheVariants as End
+use Rattle.etcs_reasons.specs.declared.account.Part.{Part}
 use Rattle.etcs_c.specs.declared.answer.EtcsAnswer.{EtcsAnswer}
 use Rattle.etcs_c.specs.declared.fields.EtcsField.{EtcsField}
 use Rattle.etcs_c.specs.declared.found.Found.{Found}
@@ -20,6 +23,15 @@ use Rattle.etcs_c.specs.Fields.{fields_of}
 -- some words, not none, are written, and the status is this one
 abbrev pub Words : ℕ → List ℕ → List ℕ → ℕ → EtcsAnswer → Type 0
 Words status old new s a = ((text : List ℕ) × (0 < length text) × WritesAs status text old new s a) ⊎ Starves old new s
+
+-- of what no bit is refused of, as a check, and nothing is written
+abbrev pub SaysUnwritten : Found → ℕ → EtcsAnswer → Type 0
+SaysUnwritten (Refused i x) s a = ⊥
+SaysUnwritten found s a = Says found s a × (a.written ≡ 0)
+
+-- an account of these bits has a refused bit, which is in the answer with the variable that holds it
+abbrev pub IsRefused : Kind → List Bool → Account → EtcsAnswer → Type 0
+IsRefused kind b account a = (i : ℕ) × (part : Part) × (account.end ≡ End.Refused i part) × (a.bit ≡ i) × (a.var ≡ name_field part.var) × IsOutcome (EntryReads kind) b (refused i part.var) × Accounts (readings_of (EntryReads kind)) account.fields.items account.end (take 8184 b)
 
 -- of a refused bit which it is, its variable and words; else as a check, and nothing is written
 abbrev pub SaysWhy : Found → List ℕ → List ℕ → ℕ → EtcsAnswer → Type 0

@@ -1,86 +1,68 @@
 //! Why bytes or a line of JSON are no item.
 
-ghost use Rattle.std.specs.Prelude.{◌≡◌, ◌*◌, ◌<◌, ℕ, IfOk, length, take};
+ghost use Rattle.std.specs.Prelude.{◌≡◌, ◌*◌, ◌<◌, ℕ, IfOk, MatchResult, length};
 ghost use Rattle.etcs_bits.specs.Bits.{bits};
-ghost use Rattle.etcs_vars.specs.declared.var.Var.{Var};
-ghost use Rattle.etcs_vars.specs.Reading.{Reading, IsOutcome, readings_of, refused};
-ghost use Rattle.etcs_text.specs.Entries.{EntryReads};
-ghost use Rattle.etcs_reasons.specs.Accounts.{Accounts};
 ghost use Rattle.etcs_reasons.specs.declared.account.End.{End};
+ghost use Rattle.etcs_reasons.specs.declared.account.Part.{Part};
+ghost use Rattle.etcs_c.specs.declared.found.Found.{Found};
 ghost use Rattle.etcs_c.specs.Answers.{Finds};
-ghost use Rattle.etcs_c.specs.Explained.{SaysBefore, SaysLineWhy, SaysWhy};
-ghost use Rattle.etcs_c.specs.Fields.{fields_of};
+ghost use Rattle.etcs_c.specs.Explained.{IsRefused, SaysBefore, SaysLineWhy, SaysUnwritten, SaysWhy};
 
-use crate::answer::{BAD_JSON, EtcsAnswer, NO_MEMORY, REFUSED, WHOLE, deliver, refuse};
+use crate::answer::{BAD_JSON, EtcsAnswer, MORE, NO_MEMORY, REFUSED, WHOLE, deliver, refuse};
 use crate::fields::{EtcsField, fields_in};
-use crate::found::{Found, find, say};
+use crate::found::{find, say};
 use etcs_explain::json_reason;
 use etcs_json::{JsonFault, from_line};
-use etcs_reasons::{Account, why};
+use etcs_reasons::inner::MOST_BYTES;
+use etcs_reasons::{Account, End, reason_of};
 use etcs_text::Kind;
 use std::alloc::{AllocError, Global};
 
-/// Why a bit of the bytes is refused.
-fn sentence_of(alloc: Global, kind: Kind, bytes: &[u8]) -> Result<Vec<u8>, AllocError>
-    requires { (i : ℕ) × (x : Var) × IsOutcome (EntryReads kind) (bits bytes.now) (refused i x) }
+/// The account of bytes of which a bit is refused; that bit and its variable are in the answer. Or the status for what the
+/// bytes begin with, as of a check.
+fn refused_of(
+    alloc: Global,
+    kind: Kind,
+    bytes: &[u8],
+    answer: &mut EtcsAnswer,
+) -> Result<Account, u32>
+    ensures { MatchResult result (λ a. IsRefused kind (bits bytes.now) a answer.new) (λ s. (found : Found) × Finds kind (bits bytes.now) found × SaysUnwritten found s answer.new) }
+{
+    answer.written = 0;
+    match Account::unless_whole(alloc, kind, bytes) {
+        Ok(Ok(taken)) => {
+            answer.taken = taken;
+            Err(WHOLE)
+        }
+        Ok(Err(account)) => match account.end {
+            End::Refused(bit, part) => {
+                refuse(bit, part.var, answer);
+                Ok(account)
+            }
+            End::Open(_) if bytes.len() <= MOST_BYTES => Err(MORE),
+            _ => {
+                let status = say(&find(alloc, kind, bytes), answer);
+                answer.written = 0;
+                Err(status)
+            }
+        },
+        Err(AllocError) => Err(NO_MEMORY),
+    }
+}
+
+/// Why a bit of the bytes is refused, by their account.
+fn sentence_of(
+    alloc: Global,
+    kind: Kind,
+    bytes: &[u8],
+    account: &Account,
+) -> Result<Vec<u8>, AllocError>
+    requires { (i : ℕ) × (part : Part) × (account.now.end ≡ End.Refused i part) }
     ensures { IfOk result (λ words. 0 < length words.items) }
 {
-    let said = why(alloc, kind, bytes)?;
-    match said {
+    match reason_of(alloc, kind, bytes, account)? {
         Some(reason) => Ok(reason.sentence.into_bytes()),
         None => unreachable!(),
-    }
-}
-
-/// The fields of the variables that are whole where an item ends or a bit is refused.
-fn fields_before(alloc: Global, kind: Kind, bytes: &[u8]) -> Result<Vec<EtcsField>, AllocError>
-    ensures { IfOk result (λ fields. (p : Reading) × (end : End) × Accounts (readings_of (EntryReads kind)) p end (take 8184 (bits bytes.now)) × (fields.items ≡ fields_of p)) }
-{
-    let account = Account::read(alloc, kind, bytes)?;
-    fields_in(alloc, account.fields.as_slice())
-}
-
-/// Returns what was found, and writes why a bit is refused.
-fn say_why(
-    alloc: Global,
-    kind: Kind,
-    bytes: &[u8],
-    found: &Found,
-    out: &mut [u8],
-    answer: &mut EtcsAnswer,
-) -> u32
-    requires { Finds kind (bits bytes.now) found.now }
-    ensures { SaysWhy found.now out.old out.new result answer.new }
-{
-    let status = say(found, answer);
-    match found {
-        Found::Refused { .. } => deliver(REFUSED, sentence_of(alloc, kind, bytes), out, answer),
-        _ => {
-            answer.written = 0;
-            status
-        }
-    }
-}
-
-/// Returns what was found, and writes the fields before a refused bit.
-fn say_before(
-    alloc: Global,
-    kind: Kind,
-    bytes: &[u8],
-    found: &Found,
-    out: &mut [EtcsField],
-    answer: &mut EtcsAnswer,
-) -> u32
-    requires { Finds kind (bits bytes.now) found.now }
-    ensures { SaysBefore kind (bits bytes.now) found.now out.old out.new result answer.new }
-{
-    let status = say(found, answer);
-    match found {
-        Found::Refused { .. } => deliver(REFUSED, fields_before(alloc, kind, bytes), out, answer),
-        _ => {
-            answer.written = 0;
-            status
-        }
     }
 }
 
@@ -94,7 +76,13 @@ pub(crate) fn write_why(
 ) -> u32
     ensures { (found : Found) × Finds kind (bits bytes.now) found × SaysWhy found out.old out.new result answer.new }
 {
-    say_why(alloc, kind, bytes, &find(alloc, kind, bytes), out, answer)
+    match refused_of(alloc, kind, bytes, answer) {
+        Ok(account) => {
+            let sentence = sentence_of(alloc, kind, bytes, &account);
+            deliver(REFUSED, sentence, out, answer)
+        }
+        Err(status) => status,
+    }
 }
 
 /// Returns what the bytes begin with, and writes the fields before a refused bit.
@@ -107,7 +95,13 @@ pub(crate) fn write_before(
 ) -> u32
     ensures { (found : Found) × Finds kind (bits bytes.now) found × SaysBefore kind (bits bytes.now) found out.old out.new result answer.new }
 {
-    say_before(alloc, kind, bytes, &find(alloc, kind, bytes), out, answer)
+    match refused_of(alloc, kind, bytes, answer) {
+        Ok(account) => {
+            let fields = fields_in(alloc, account.fields.as_slice());
+            deliver(REFUSED, fields, out, answer)
+        }
+        Err(status) => status,
+    }
 }
 
 /// Why a line that was answered with this fault is the JSON of no item.

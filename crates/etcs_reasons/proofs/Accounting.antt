@@ -1,8 +1,8 @@
 -- The clauses about the bits so far, variable by variable.
-use Rattle.std.proofs.Common.{◌≡◌, ℕ, ◌+◌, ◌≤◌, ◌<◌, min, Bool, List, [], ◌++◌, length, take, sym, ap, subst, ◌∙◌, arith, inl, inr}
-use Rattle.std.specs.Prelude.{None, Option, Result, Ok, Err, IfOk}
+use Rattle.std.proofs.Common.{◌≡◌, ℕ, ◌+◌, ◌≤◌, ◌<◌, min, Bool, List, [], ◌++◌, length, take, refl, sym, ap, subst, ◌∙◌, arith, inl, inr}
+use Rattle.std.specs.Prelude.{◌*◌, None, Some, Option, Result, Ok, Err, IfOk, IfSome, IsNone, MatchResult, string_bytes}
 use Rattle.std.proofs.lemmas.Bool.{cases_lt}
-use Rattle.std.proofs.lemmas.List.{append-nil, length-append, length-take-le, take_all}
+use Rattle.std.proofs.lemmas.List.{append-nil, length-append, length-take, length-take-le, take-take, take_all}
 use Rattle.etcs_bits.specs.Bits.{bits, num}
 use Rattle.etcs_bits.proofs.Numbers.{length-num}
 use Rattle.etcs_bits.proofs.Owned.{bits-take}
@@ -10,7 +10,7 @@ use Rattle.etcs_bits.proofs.Positions.{length-bits}
 use Rattle.etcs_vars.specs.declared.var.Var.{Var}
 use Rattle.etcs_vars.specs.Vars.{width}
 use Rattle.etcs_vars.specs.Walking.{Residual, Refuses}
-use Rattle.etcs_vars.specs.Reading.{Reading, spelled, Owner}
+use Rattle.etcs_vars.specs.Reading.{Reading, spelled, readings_of, Owner, IsOutcome, done}
 use Rattle.etcs_vars.proofs.Languages.{Same}
 use Rattle.etcs_vars.proofs.Outcomes.{viable_front, none_refused}
 use Rattle.etcs_vars.proofs.Walk.{Regular}
@@ -21,10 +21,14 @@ use Rattle.etcs_reader.specs.Feeders.{FeederValue, Feeds, all_of}
 use Rattle.etcs_reader.specs.Readers.{Passed}
 use Rattle.etcs_reader.proofs.Leaping.{all_by}
 use Rattle.etcs_reader.proofs.Passing.{passed_owner}
+use Rattle.etcs_text.specs.declared.entry.Entry.{Entry}
+use Rattle.etcs_text.specs.declared.entry.Kind.{Kind}
+use Rattle.etcs_text.specs.Entries.{EntryReads, entry_value}
 use Rattle.etcs_reasons.specs.Accounts.{Shows, Accounts}
 use Rattle.etcs_reasons.specs.Traces.{Taken}
 use Rattle.etcs_reasons.specs.declared.account.Account.{Account}
 use Rattle.etcs_reasons.specs.declared.account.Part.{Part}
+use Rattle.etcs_reasons.specs.declared.refusal.Reason.{Reason}
 use Rattle.etcs_reasons.specs.declared.account.End.{End}
 use Rattle.etcs_reasons.specs.declared.account.End.TheVariants as end
 
@@ -45,6 +49,22 @@ whole_unrefused L regular p b a i x r = none_refused L regular b i x r a.1 a.2 (
 
 pub open_unrefused : (L : Reading → Type 0) (p : Reading) (part : Part) (b : List Bool) → Accounts L p (end.Open part) b → (i : ℕ) (x : Var) → Refuses L b i x → ⊥
 open_unrefused L p part b a i x r = r.blocked (viable_front L (i + 1) b a.1.viable)
+
+pub unrefused : (L : Reading → Type 0) → Regular L → (p : Reading) (e : End) (b : List Bool) → Accounts L p e b → ((bit : ℕ) (part : Part) → e ≡ end.Refused bit part → ⊥) → (i : ℕ) (x : Var) → Refuses L b i x → ⊥
+unrefused L regular p end.Whole b a not i x r = whole_unrefused L regular p b a i x r
+unrefused L regular p (end.Open part) b a not i x r = open_unrefused L p part b a i x r
+unrefused L regular p (end.Refused bit part) b a not i x r = absurd (not bit part refl)
+
+-- ---- Where one is, and its reason is known.
+
+pub reason_refuses : {E : Type 0} (L : Reading → Type 0) (p : Reading) (e : End) (b : List Bool) → Accounts L p e b → (result : Result (Option Reason) E) → IfOk result (λ o. IfSome o (λ r. (part : Part) × (e ≡ end.Refused r.bit part) × (part.var ≡ r.var) × (0 < length (string_bytes r.sentence)))) → IfOk result (λ o. IfSome o (λ r. Refuses L b r.bit r.var × (0 < length (string_bytes r.sentence))))
+reason_refuses L p e b a (Ok (Some r)) (part, is, var, some) = (rw var at (rw is at a).1, some)
+reason_refuses L p e b a (Ok None) h = tt
+reason_refuses L p e b a (Err x) h = tt
+
+pub none_refuses : {E : Type 0} (L : Reading → Type 0) → Regular L → (p : Reading) (e : End) (b : List Bool) → Accounts L p e b → (result : Result (Option Reason) E) → IfOk result (λ o. IsNone o → (bit : ℕ) (part : Part) → e ≡ end.Refused bit part → ⊥) → IfOk result (λ o. IsNone o → (i : ℕ) (x : Var) → Refuses L b i x → ⊥)
+none_refuses L regular p e b a (Ok o) h = λ none. unrefused L regular p e b a (h none)
+none_refuses L regular p e b a (Err x) h = tt
 
 -- ---- Where a reader is: s is left, after whole variables from start on.
 
@@ -137,3 +157,13 @@ first_bits bytes k e =
 pub of_kind : {E : Type 0} (P Q : Reading → Type 0) → Same P Q → (xs b : List Bool) → xs ≡ b → (result : Result Account E) → IfOk result (λ a. Accounts P a.fields.items a.end xs) → IfOk result (λ a. Accounts Q a.fields.items a.end b)
 of_kind P Q same xs b e (Ok a) h = subst (λ (u : List Bool). Accounts Q a.fields.items a.end u) e (accounts_along P Q same a.fields.items a.end xs h)
 of_kind P Q same xs b e (Err x) h = tt
+
+-- an item of the first bytes, or an account
+pub first_or_account : {V W E : Type 0} (Reads : W → Reading → Type 0) (value : V → W) (entry : V → Entry) (kind : Kind) → ((v : V) (r : Reading) → Reads (value v) r → EntryReads kind (entry_value (entry v)) r) → Same (readings_of Reads) (readings_of (EntryReads kind)) → (xs b : List Bool) → xs ≡ take 8184 b → (result : Result (Result ℕ Account) E) → IfOk result (λ o. MatchResult o (λ n. (v : V) × IsOutcome Reads xs (done (value v) (8 * n))) (λ a. Accounts (readings_of Reads) a.fields.items a.end xs)) → IfOk result (λ o. MatchResult o (λ n. (e : Entry) × IsOutcome (EntryReads kind) b (done (entry_value e) (8 * n))) (λ a. Accounts (readings_of (EntryReads kind)) a.fields.items a.end (take 8184 b)))
+first_or_account Reads value entry kind reads same xs b e (Ok (Ok n)) (v, o) =
+    let long : length xs ≡ length (take 8184 b) = ap length e in
+    let within : 8 * n ≤ length xs = o.0 in
+    let front : take (8 * n) xs ≡ take (8 * n) b = ap (λ (u : List Bool). take (8 * n) u) e ∙ take-take (8 * n) 8184 b (omega (arith, within, long, length-take 8184 b)) in
+    (entry v, (omega (arith, within, long, length-take 8184 b), o.1, reads v o.1 o.2, o.3 ∙ front))
+first_or_account Reads value entry kind reads same xs b e (Ok (Err a)) h = subst (λ (u : List Bool). Accounts (readings_of (EntryReads kind)) a.fields.items a.end u) e (accounts_along (readings_of Reads) (readings_of (EntryReads kind)) same a.fields.items a.end xs h)
+first_or_account Reads value entry kind reads same xs b e (Err x) h = tt

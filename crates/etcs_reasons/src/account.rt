@@ -1,11 +1,14 @@
 //! The variables of an item, one after another, up to its end or the first refused bit.
 
-ghost use Rattle.std.specs.Prelude.{◌≡◌, ◌<◌, ◌≤◌, ◌/◌, ◌^◌, ◌++◌, Bool, List, length, take, IfOk};
+ghost use Rattle.std.specs.Prelude.{◌≡◌, ◌<◌, ◌≤◌, ◌*◌, ◌/◌, ◌^◌, ◌++◌, [], Bool, List, length, take, IfOk, IfSome, MatchResult};
 ghost use Rattle.etcs_bits.specs.Bits.{bits};
-ghost use Rattle.etcs_vars.specs.Reading.{Reading, readings_of, spelled};
+ghost use Rattle.etcs_vars.specs.Reading.{Reading, readings_of, spelled, IsOutcome, done};
+ghost use Rattle.etcs_vars.proofs.Languages.{Same};
 ghost use Rattle.etcs_reader.specs.Feeders.{Feeds, all_of};
 ghost use Rattle.etcs_reader.specs.Rests.{Goes};
-ghost use Rattle.etcs_text.specs.Entries.{EntryReads};
+ghost use Rattle.etcs_sequence.specs.Readables.{IsPart};
+ghost use Rattle.etcs_text.specs.declared.entry.Entry.{Entry};
+ghost use Rattle.etcs_text.specs.Entries.{EntryReads, entry_value};
 ghost use Rattle.etcs_reasons.specs.Accounts.{Accounts};
 ghost use Rattle.etcs_reasons.specs.Traces.{Taken};
 
@@ -14,6 +17,7 @@ use etcs_messages::{Head, Own};
 use etcs_radio::{Body, RadioHead};
 use etcs_reader::{Feeder, Rest, Stop};
 use etcs_sequence::ItemRest;
+use etcs_sequence::inner::Room;
 use etcs_telegram::Size;
 use etcs_telegram::inner::{TelegramRest, TelegramStore};
 use etcs_text::Kind;
@@ -145,18 +149,46 @@ fn end_of<R: Rest>(feeder: &Feeder<R>, fed: Result<usize, Stop>) -> Result<End, 
     }
 }
 
-/// The account of the item of this size that the bytes begin with.
+/// Feeds the bytes to a reader of an item of this size, from its first bit on, or after what one pass found of it. Returns the
+/// reader and its result.
+fn fed_of<R: ItemRest>(
+    alloc: Global,
+    size: R::Size,
+    bytes: &[u8],
+    part: Option<(R, usize)>,
+) -> (Feeder<R>, Result<usize, Stop>)
+    requires goes { Goes (readings_of (R.Reads size)) }
+    requires short { length bytes.now ≤ 1023 }
+    requires part { IfSome part (λ t. IsPart R.left R.follows (R.holds size) (R.Reads size) (R.most size) (bits bytes.now) t.0 t.1) }
+    ensures { (start : R) × Same (R.left start) (readings_of (R.Reads size)) × R.holds size start [] × Feeds R R.left R.next R.follows R.fails (all_of start) (bits bytes.now) result.1 result.0 }
+{
+    match part {
+        Some((rest, at)) => Feeder::after(rest, at, bytes),
+        None => {
+            let mut feeder = Feeder::new(R::begin(alloc, size));
+            let fed = feeder.feed(bytes);
+            (feeder, fed)
+        }
+    }
+}
+
+/// The account of the item of this size that the bytes begin with, after what one pass found of it, if there was one.
 ///
 /// # Errors
 ///
 /// If memory is refused.
-fn account_of<R: Traced>(alloc: Global, size: R::Size, bytes: &[u8]) -> Result<Account, AllocError>
+fn account_of<R: Traced>(
+    alloc: Global,
+    size: R::Size,
+    bytes: &[u8],
+    part: Option<(R, usize)>,
+) -> Result<Account, AllocError>
     requires goes { Goes (readings_of (R.Reads size)) }
     requires short { length bytes.now ≤ 1023 }
+    requires part { IfSome part (λ t. IsPart R.left R.follows (R.holds size) (R.Reads size) (R.most size) (bits bytes.now) t.0 t.1) }
     ensures { IfOk result (λ a. Accounts (readings_of (R.Reads size)) a.fields.items a.end (bits bytes.now)) }
 {
-    let mut feeder = Feeder::new(R::begin(alloc, size));
-    let fed = feeder.feed(bytes);
+    let (feeder, fed) = fed_of(alloc, size, bytes, part);
     let end = end_of(&feeder, fed)?;
     let (_, count) = feeder.unfinished();
     let bits = feeder.count() - count;
@@ -166,6 +198,29 @@ fn account_of<R: Traced>(alloc: Global, size: R::Size, bytes: &[u8]) -> Result<A
     feeder.rest().send(bits, &mut trace)?;
     let fields = trace.into_fields();
     Ok(Account { fields, end })
+}
+
+/// How many bytes the item of this size has that the bytes begin with; or the account, where one pass finds none.
+///
+/// # Errors
+///
+/// If memory is refused.
+fn bytes_or_account<R: Traced>(
+    alloc: Global,
+    size: R::Size,
+    bytes: &[u8],
+) -> Result<Result<usize, Account>, AllocError>
+    requires goes { Goes (readings_of (R.Reads size)) }
+    requires short { length bytes.now ≤ 1023 }
+    ensures { IfOk result (λ o. MatchResult o (λ n. (v : R.Item) × IsOutcome (R.Reads size) (bits bytes.now) (done (R.value v) (8 * n))) (λ a. Accounts (readings_of (R.Reads size)) a.fields.items a.end (bits bytes.now))) }
+{
+    let mut room = Room::new(alloc);
+    let mut part = None;
+    if let Some((_item, taken)) = R::whole(&mut room, size, bytes, &mut part) {
+        return Ok(Ok(taken));
+    }
+    let account = account_of(alloc, size, bytes, part)?;
+    Ok(Err(account))
 }
 
 impl Account {
@@ -181,10 +236,39 @@ impl Account {
     {
         let bytes = &bytes[..bytes.len().min(MOST_BYTES)];
         match kind {
-            Kind::Long => account_of::<TelegramRest<TelegramStore>>(alloc, Size::Long, bytes),
-            Kind::Short => account_of::<TelegramRest<TelegramStore>>(alloc, Size::Short, bytes),
-            Kind::Radio => account_of::<MessageRest<RadioHead, Body>>(alloc, (), bytes),
-            Kind::Train => account_of::<MessageRest<TrainHead, TrainBody>>(alloc, (), bytes),
+            Kind::Long => account_of::<TelegramRest<TelegramStore>>(alloc, Size::Long, bytes, None),
+            Kind::Short => account_of::<TelegramRest<TelegramStore>>(
+                alloc,
+                Size::Short,
+                bytes,
+                None,
+            ),
+            Kind::Radio => account_of::<MessageRest<RadioHead, Body>>(alloc, (), bytes, None),
+            Kind::Train => account_of::<MessageRest<TrainHead, TrainBody>>(alloc, (), bytes, None),
+        }
+    }
+
+    /// How many bytes the item of a kind has that the bytes begin with; or the account of the first 1,023 bytes at most, where
+    /// no item was found in one pass. It may be that of a whole item, as where memory was refused to the pass.
+    ///
+    /// # Errors
+    ///
+    /// If memory is refused.
+    pub fn unless_whole(
+        alloc: Global,
+        kind: Kind,
+        bytes: &[u8],
+    ) -> Result<Result<usize, Account>, AllocError>
+        ensures { IfOk result (λ o. MatchResult o (λ n. (e : Entry) × IsOutcome (EntryReads kind) (bits bytes.now) (done (entry_value e) (8 * n))) (λ a. Accounts (readings_of (EntryReads kind)) a.fields.items a.end (take 8184 (bits bytes.now)))) }
+    {
+        let bytes = &bytes[..bytes.len().min(MOST_BYTES)];
+        match kind {
+            Kind::Long => bytes_or_account::<TelegramRest<TelegramStore>>(alloc, Size::Long, bytes),
+            Kind::Short => {
+                bytes_or_account::<TelegramRest<TelegramStore>>(alloc, Size::Short, bytes)
+            }
+            Kind::Radio => bytes_or_account::<MessageRest<RadioHead, Body>>(alloc, (), bytes),
+            Kind::Train => bytes_or_account::<MessageRest<TrainHead, TrainBody>>(alloc, (), bytes),
         }
     }
 

@@ -19,5 +19,5 @@ mod table;
 mod text;
 
 pub use account::{Account, End, Part};
-pub use refusal::{Reason, why};
+pub use refusal::{Reason, reason_of, why};
 pub use sheet::Layout;

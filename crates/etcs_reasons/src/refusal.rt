@@ -142,6 +142,34 @@ pub fn write_cause(
     Ok(advice(out.alloc(), kind, bytes)?.or(usual))
 }
 
+/// Why a bit of the bytes is refused, by their account: the bit, the variable that holds it, and the reason in a sentence,
+/// which isn't empty. `None` if the account has no refused bit.
+///
+/// # Errors
+///
+/// Where memory is refused.
+pub fn reason_of(
+    alloc: Global,
+    kind: Kind,
+    bytes: &[u8],
+    account: &Account,
+) -> Result<Option<Reason>, AllocError>
+    ensures some { IfOk result (λ o. IfSome o (λ r. (part : Part) × (account.now.end ≡ End.Refused r.bit part) × (part.var ≡ r.var) × (0 < length (string_bytes r.sentence)))) }
+    ensures none { IfOk result (λ o. IsNone o → (bit : ℕ) (part : Part) → account.now.end ≡ End.Refused bit part → ⊥) }
+{
+    let End::Refused(bit, part) = account.end else {
+        return Ok(None);
+    };
+    let mut sentence = Text::new(alloc);
+    let often = write_cause(kind, bytes, account, &mut sentence)?;
+    Ok(Some(Reason {
+        bit,
+        var: part.var,
+        sentence: sentence.into_string()?,
+        often,
+    }))
+}
+
 /// Why the bytes, of which at most 1,023 are looked at, begin no item of the kind: the bit that the kind's reader refuses,
 /// the variable that holds it, and the reason in a sentence, which isn't empty. `None` if no bit is refused, so that they
 /// begin with an item or end inside one.
@@ -154,17 +182,5 @@ pub fn why(alloc: Global, kind: Kind, bytes: &[u8]) -> Result<Option<Reason>, Al
     ensures none { IfOk result (λ o. IsNone o → (i : ℕ) (x : Var) → Refuses (readings_of (EntryReads kind)) (take 8184 (bits bytes.now)) i x → ⊥) }
 {
     let account = Account::read(alloc, kind, bytes)?;
-    let (bit, part) = match account.end {
-        End::Whole => return Ok(None),
-        End::Open(_) => return Ok(None),
-        End::Refused(bit, part) => (bit, part),
-    };
-    let mut sentence = Text::new(alloc);
-    let often = write_cause(kind, bytes, &account, &mut sentence)?;
-    Ok(Some(Reason {
-        bit,
-        var: part.var,
-        sentence: sentence.into_string()?,
-        often,
-    }))
+    reason_of(alloc, kind, bytes, &account)
 }

@@ -3,7 +3,7 @@ use Rattle.etcs_bits.specs.Bits.{bits}
 use Rattle.etcs_bits.proofs.Numbers.{length-num}
 use Rattle.etcs_vars.specs.Reading.{Reading, readings_of}
 use Rattle.etcs_reasons.specs.Accounts.{Accounts}
-use Rattle.etcs_reasons.proofs.Accounting.{far_accounts, far_held, far_long, from_all}
+use Rattle.etcs_reasons.proofs.Accounting.{far_accounts, far_held, far_long}
 use Rattle.etcs_reasons.proofs.account.account_of.Goals as goal
 
 pub overflow_sub-bits : goal.overflow_sub-bits
@@ -12,10 +12,9 @@ overflow_sub-bits g c =
     let I = g.R.ItemRest in
     let size = c.args.size in
     let xs = bits c.args.bytes.now in
-    let e = c.new-feeder.ensures in
-    let start = c.begin.result in
-    let v = c.feed-fed.new.self in
-    let taken = c.in_ok-end.ensures start xs (from_all R.left R.next R.follows R.fails xs c.feed-fed.result v c.new-feeder.result start e.rest e.part e.count e.stop (c.feed-fed.ensures.going e.stop)) in
+    let (start, same, held, feeds) = c.fed_of-feeder.ensures in
+    let v = c.fed_of-feeder.result.0 in
+    let taken = c.in_ok-end.ensures start xs feeds in
     let long = taken.long in
     let u = c.unfinished-count in
     omega (arith, long, ap length u.ensures.bits, length-num u.result.1 u.result.0, c.count.ensures)
@@ -26,11 +25,10 @@ send-requires-clause-holds g c =
     let I = g.R.ItemRest in
     let size = c.args.size in
     let xs = bits c.args.bytes.now in
-    let e = c.new-feeder.ensures in
-    let start = c.begin.result in
-    let v = c.feed-fed.new.self in
-    let taken = c.in_ok-end.ensures start xs (from_all R.left R.next R.follows R.fails xs c.feed-fed.result v c.new-feeder.result start e.rest e.part e.count e.stop (c.feed-fed.ensures.going e.stop)) in
-    rw c.rest.ensures (size, far_held R.left R.follows (I.holds size) I.far (g.met.R.Traced.held size) (g.met.R.Traced.far_is size) start c.begin.ensures.holds xs c.in_ok-end.end v taken)
+    let (start, same, held, feeds) = c.fed_of-feeder.ensures in
+    let v = c.fed_of-feeder.result.0 in
+    let taken = c.in_ok-end.ensures start xs feeds in
+    rw c.rest.ensures (size, far_held R.left R.follows (I.holds size) I.far (g.met.R.Traced.held size) (g.met.R.Traced.far_is size) start held xs c.in_ok-end.end v taken)
 
 pub send-requires-clause-taken : goal.send-requires-clause-taken
 send-requires-clause-taken g c =
@@ -38,11 +36,10 @@ send-requires-clause-taken g c =
     let I = g.R.ItemRest in
     let size = c.args.size in
     let xs = bits c.args.bytes.now in
-    let e = c.new-feeder.ensures in
-    let start = c.begin.result in
-    let v = c.feed-fed.new.self in
-    let taken = c.in_ok-end.ensures start xs (from_all R.left R.next R.follows R.fails xs c.feed-fed.result v c.new-feeder.result start e.rest e.part e.count e.stop (c.feed-fed.ensures.going e.stop)) in
-    let long = far_long R.left R.follows (I.holds size) I.far (g.met.R.Traced.held size) (g.met.R.Traced.far_is size) start c.begin.ensures.holds xs c.in_ok-end.end v taken in
+    let (start, same, held, feeds) = c.fed_of-feeder.ensures in
+    let v = c.fed_of-feeder.result.0 in
+    let taken = c.in_ok-end.ensures start xs feeds in
+    let long = far_long R.left R.follows (I.holds size) I.far (g.met.R.Traced.held size) (g.met.R.Traced.far_is size) start held xs c.in_ok-end.end v taken in
     let u = c.unfinished-count in
     rw c.rest.ensures (omega (arith, long, ap length u.ensures.bits, length-num u.result.1 u.result.0, c.count.ensures))
 
@@ -52,12 +49,11 @@ returns g c =
     let I = g.R.ItemRest in
     let size = c.args.size in
     let xs = bits c.args.bytes.now in
-    let e = c.new-feeder.ensures in
-    let start = c.begin.result in
-    let v = c.feed-fed.new.self in
-    let taken = c.in_ok-end.ensures start xs (from_all R.left R.next R.follows R.fails xs c.feed-fed.result v c.new-feeder.result start e.rest e.part e.count e.stop (c.feed-fed.ensures.going e.stop)) in
+    let (start, same, held, feeds) = c.fed_of-feeder.ensures in
+    let v = c.fed_of-feeder.result.0 in
+    let taken = c.in_ok-end.ensures start xs feeds in
     let L = readings_of (I.Reads size) in
-    let accounts = far_accounts R.left R.follows (I.holds size) I.far (g.met.R.Traced.held size) (g.met.R.Traced.far_is size) start c.begin.ensures.holds xs c.in_ok-end.end v taken L c.begin.ensures.left in
+    let accounts = far_accounts R.left R.follows (I.holds size) I.far (g.met.R.Traced.held size) (g.met.R.Traced.far_is size) start held xs c.in_ok-end.end v taken L same in
     let sent = rw c.rest.ensures at c.in_ok-send.ensures.ok in
     let fields : c.into_fields-fields.result.items ≡ I.far v.rest = c.into_fields-fields.ensures ∙ sent ∙ ap (λ (r : Reading). r ++ I.far v.rest) c.in_ok-fields.ensures.items in
     subst (λ (r : Reading). Accounts L r c.in_ok-end.end xs) (sym fields) accounts

@@ -15,16 +15,16 @@ use Rattle.etcs_reasons.proofs.Accounting.{first_bits, of_kind}
 use Rattle.etcs_reasons.proofs.account.Account.read.Goals as goal
 
 pub account_of-requires : goal.account_of-requires
-account_of-requires c = record { goes = some_telegram size.Long; short = omega (arith, length-take-le c.min.result c.args.bytes.now (omega (arith, c.min.ensures)), c.min.ensures) }
+account_of-requires c = record { goes = some_telegram size.Long; short = omega (arith, length-take-le c.min.result c.args.bytes.now (omega (arith, c.min.ensures)), c.min.ensures); part = tt }
 
 pub account_of-requires-in-Short : goal.account_of-requires-in-Short
-account_of-requires-in-Short c = record { goes = some_telegram size.Short; short = omega (arith, length-take-le c.min.result c.args.bytes.now (omega (arith, c.min.ensures)), c.min.ensures) }
+account_of-requires-in-Short c = record { goes = some_telegram size.Short; short = omega (arith, length-take-le c.min.result c.args.bytes.now (omega (arith, c.min.ensures)), c.min.ensures); part = tt }
 
 pub account_of-requires-in-Radio : goal.account_of-requires-in-Radio
-account_of-requires-in-Radio c = record { goes = some_message ToTrain; short = omega (arith, length-take-le c.min.result c.args.bytes.now (omega (arith, c.min.ensures)), c.min.ensures) }
+account_of-requires-in-Radio c = record { goes = some_message ToTrain; short = omega (arith, length-take-le c.min.result c.args.bytes.now (omega (arith, c.min.ensures)), c.min.ensures); part = tt }
 
 pub account_of-requires-in-Train : goal.account_of-requires-in-Train
-account_of-requires-in-Train c = record { goes = some_message ToTrack; short = omega (arith, length-take-le c.min.result c.args.bytes.now (omega (arith, c.min.ensures)), c.min.ensures) }
+account_of-requires-in-Train c = record { goes = some_message ToTrack; short = omega (arith, length-take-le c.min.result c.args.bytes.now (omega (arith, c.min.ensures)), c.min.ensures); part = tt }
 
 pub returns-in-Long : goal.returns-in-Long
 returns-in-Long c =

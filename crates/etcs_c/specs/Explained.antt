@@ -8,7 +8,8 @@ use Rattle.etcs_text.specs.Entries.{EntryReads, EntryValue}
 use Rattle.etcs_json.specs.JsonLines.{OfLine, SaysItem, SaysRefused}
 use Rattle.etcs_json.specs.Loose.{IsLoose}
 use Rattle.etcs_json.specs.TreeReading.{IsTreeOf}
-use Rattle.etcs_reasons.specs.Accounts.{Shows, Accounts}
+use Rattle.etcs_reasons.specs.Accounts.{Shows, AccountsFor}
+use Rattle.etcs_reasons.specs.declared.account.Wanted.{Wanted}
 use Rattle.etcs_reasons.specs.declared.account.Account.{Account}
 use Rattle.etcs_reasons.specs.declared.account.End.TheVariants as End
 use Rattle.etcs_reasons.specs.declared.account.Part.{Part}
@@ -30,8 +31,8 @@ SaysUnwritten (Refused i x) s a = ⊥
 SaysUnwritten found s a = Says found s a × (a.written ≡ 0)
 
 -- an account of these bits has a refused bit, which is in the answer with the variable that holds it
-abbrev pub IsRefused : Kind → List Bool → Account → EtcsAnswer → Type 0
-IsRefused kind b account a = (i : ℕ) × (part : Part) × (account.end ≡ End.Refused i part) × (a.bit ≡ i) × (a.var ≡ name_field part.var) × IsOutcome (EntryReads kind) b (refused i part.var) × Accounts (readings_of (EntryReads kind)) account.fields.items account.end (take 8184 b)
+abbrev pub IsRefused : Kind → List Bool → Wanted → Account → EtcsAnswer → Type 0
+IsRefused kind b wanted account a = (i : ℕ) × (part : Part) × (account.end ≡ End.Refused i part) × (a.bit ≡ i) × (a.var ≡ name_field part.var) × IsOutcome (EntryReads kind) b (refused i part.var) × AccountsFor wanted (readings_of (EntryReads kind)) account.fields.items account.end (take 8184 b)
 
 -- of a refused bit which it is, its variable and words; else as a check, and nothing is written
 abbrev pub SaysWhy : Found → List ℕ → List ℕ → ℕ → EtcsAnswer → Type 0

@@ -14,7 +14,7 @@ use crate::found::{find, say};
 use etcs_explain::json_reason;
 use etcs_json::{JsonFault, from_line};
 use etcs_reasons::inner::MOST_BYTES;
-use etcs_reasons::{Account, End, reason_of};
+use etcs_reasons::{Account, End, Wanted, reason_of};
 use etcs_text::Kind;
 use std::alloc::{AllocError, Global};
 
@@ -24,12 +24,13 @@ fn refused_of(
     alloc: Global,
     kind: Kind,
     bytes: &[u8],
+    wanted: Wanted,
     answer: &mut EtcsAnswer,
 ) -> Result<Account, u32>
-    ensures { MatchResult result (λ a. IsRefused kind (bits bytes.now) a answer.new) (λ s. (found : Found) × Finds kind (bits bytes.now) found × SaysUnwritten found s answer.new) }
+    ensures { MatchResult result (λ a. IsRefused kind (bits bytes.now) wanted a answer.new) (λ s. (found : Found) × Finds kind (bits bytes.now) found × SaysUnwritten found s answer.new) }
 {
     answer.written = 0;
-    match Account::unless_whole(alloc, kind, bytes) {
+    match Account::unless_whole(alloc, kind, bytes, wanted) {
         Ok(Ok(taken)) => {
             answer.taken = taken;
             Err(WHOLE)
@@ -76,7 +77,7 @@ pub(crate) fn write_why(
 ) -> u32
     ensures { (found : Found) × Finds kind (bits bytes.now) found × SaysWhy found out.old out.new result answer.new }
 {
-    match refused_of(alloc, kind, bytes, answer) {
+    match refused_of(alloc, kind, bytes, Wanted::Reason, answer) {
         Ok(account) => {
             let sentence = sentence_of(alloc, kind, bytes, &account);
             deliver(REFUSED, sentence, out, answer)
@@ -95,7 +96,7 @@ pub(crate) fn write_before(
 ) -> u32
     ensures { (found : Found) × Finds kind (bits bytes.now) found × SaysBefore kind (bits bytes.now) found out.old out.new result answer.new }
 {
-    match refused_of(alloc, kind, bytes, answer) {
+    match refused_of(alloc, kind, bytes, Wanted::Fields, answer) {
         Ok(account) => {
             let fields = fields_in(alloc, account.fields.as_slice());
             deliver(REFUSED, fields, out, answer)

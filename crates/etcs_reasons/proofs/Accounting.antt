@@ -24,11 +24,13 @@ use Rattle.etcs_reader.proofs.Passing.{passed_owner}
 use Rattle.etcs_text.specs.declared.entry.Entry.{Entry}
 use Rattle.etcs_text.specs.declared.entry.Kind.{Kind}
 use Rattle.etcs_text.specs.Entries.{EntryReads, entry_value}
-use Rattle.etcs_reasons.specs.Accounts.{Shows, Accounts}
+use Rattle.etcs_reasons.specs.Accounts.{Shows, Accounts, AccountsFor}
 use Rattle.etcs_reasons.specs.Traces.{Taken}
 use Rattle.etcs_reasons.specs.declared.account.Account.{Account}
 use Rattle.etcs_reasons.specs.declared.account.Part.{Part}
 use Rattle.etcs_reasons.specs.declared.refusal.Reason.{Reason}
+use Rattle.etcs_reasons.specs.declared.account.Wanted.{Wanted}
+use Rattle.etcs_reasons.specs.declared.account.Wanted.TheVariants as wanted_as
 use Rattle.etcs_reasons.specs.declared.account.End.{End}
 use Rattle.etcs_reasons.specs.declared.account.End.TheVariants as end
 
@@ -154,16 +156,21 @@ first_bits bytes k e =
 
 -- ---- Of the items of a kind.
 
-pub of_kind : {E : Type 0} (P Q : Reading → Type 0) → Same P Q → (xs b : List Bool) → xs ≡ b → (result : Result Account E) → IfOk result (λ a. Accounts P a.fields.items a.end xs) → IfOk result (λ a. Accounts Q a.fields.items a.end b)
-of_kind P Q same xs b e (Ok a) h = subst (λ (u : List Bool). Accounts Q a.fields.items a.end u) e (accounts_along P Q same a.fields.items a.end xs h)
-of_kind P Q same xs b e (Err x) h = tt
+pub of_kind : {E : Type 0} (wanted : Wanted) (P Q : Reading → Type 0) → Same P Q → (xs b : List Bool) → xs ≡ b → (result : Result Account E) → IfOk result (λ a. AccountsFor wanted P a.fields.items a.end xs) → IfOk result (λ a. AccountsFor wanted Q a.fields.items a.end b)
+of_kind wanted P Q same xs b e (Ok a) h = (h.0, subst (λ (u : List Bool). Accounts Q h.0 a.end u) e (accounts_along P Q same h.0 a.end xs h.1), h.2)
+of_kind wanted P Q same xs b e (Err x) h = tt
+
+-- of which all variables are wanted
+pub fields_wanted : {E : Type 0} (L : Reading → Type 0) (b : List Bool) (result : Result Account E) → IfOk result (λ a. AccountsFor wanted_as.Fields L a.fields.items a.end b) → IfOk result (λ a. Accounts L a.fields.items a.end b)
+fields_wanted L b (Ok a) h = subst (λ (r : Reading). Accounts L r a.end b) (sym (h.2 refl)) h.1
+fields_wanted L b (Err x) h = tt
 
 -- an item of the first bytes, or an account
-pub first_or_account : {V W E : Type 0} (Reads : W → Reading → Type 0) (value : V → W) (entry : V → Entry) (kind : Kind) → ((v : V) (r : Reading) → Reads (value v) r → EntryReads kind (entry_value (entry v)) r) → Same (readings_of Reads) (readings_of (EntryReads kind)) → (xs b : List Bool) → xs ≡ take 8184 b → (result : Result (Result ℕ Account) E) → IfOk result (λ o. MatchResult o (λ n. (v : V) × IsOutcome Reads xs (done (value v) (8 * n))) (λ a. Accounts (readings_of Reads) a.fields.items a.end xs)) → IfOk result (λ o. MatchResult o (λ n. (e : Entry) × IsOutcome (EntryReads kind) b (done (entry_value e) (8 * n))) (λ a. Accounts (readings_of (EntryReads kind)) a.fields.items a.end (take 8184 b)))
-first_or_account Reads value entry kind reads same xs b e (Ok (Ok n)) (v, o) =
+pub first_or_account : {V W E : Type 0} (wanted : Wanted) (Reads : W → Reading → Type 0) (value : V → W) (entry : V → Entry) (kind : Kind) → ((v : V) (r : Reading) → Reads (value v) r → EntryReads kind (entry_value (entry v)) r) → Same (readings_of Reads) (readings_of (EntryReads kind)) → (xs b : List Bool) → xs ≡ take 8184 b → (result : Result (Result ℕ Account) E) → IfOk result (λ o. MatchResult o (λ n. (v : V) × IsOutcome Reads xs (done (value v) (8 * n))) (λ a. AccountsFor wanted (readings_of Reads) a.fields.items a.end xs)) → IfOk result (λ o. MatchResult o (λ n. (e : Entry) × IsOutcome (EntryReads kind) b (done (entry_value e) (8 * n))) (λ a. AccountsFor wanted (readings_of (EntryReads kind)) a.fields.items a.end (take 8184 b)))
+first_or_account wanted Reads value entry kind reads same xs b e (Ok (Ok n)) (v, o) =
     let long : length xs ≡ length (take 8184 b) = ap length e in
     let within : 8 * n ≤ length xs = o.0 in
     let front : take (8 * n) xs ≡ take (8 * n) b = ap (λ (u : List Bool). take (8 * n) u) e ∙ take-take (8 * n) 8184 b (omega (arith, within, long, length-take 8184 b)) in
     (entry v, (omega (arith, within, long, length-take 8184 b), o.1, reads v o.1 o.2, o.3 ∙ front))
-first_or_account Reads value entry kind reads same xs b e (Ok (Err a)) h = subst (λ (u : List Bool). Accounts (readings_of (EntryReads kind)) a.fields.items a.end u) e (accounts_along (readings_of Reads) (readings_of (EntryReads kind)) same a.fields.items a.end xs h)
-first_or_account Reads value entry kind reads same xs b e (Err x) h = tt
+first_or_account wanted Reads value entry kind reads same xs b e (Ok (Err a)) h = (h.0, subst (λ (u : List Bool). Accounts (readings_of (EntryReads kind)) h.0 a.end u) e (accounts_along (readings_of Reads) (readings_of (EntryReads kind)) same h.0 a.end xs h.1), h.2)
+first_or_account wanted Reads value entry kind reads same xs b e (Err x) h = tt

@@ -1,9 +1,17 @@
 -- The lengths of a packet that are nearest to a number.
-use Rattle.std.proofs.Common.{◌≡◌, ℕ, ◌+◌, ◌-◌, ◌≤◌, ◌<◌, min, Bool, true, false, [], refl, subst, arith, inl, inr}
-use Rattle.std.specs.Prelude.{◌↔◌, not, Some}
+use Rattle.std.proofs.Common.{◌≡◌, ℕ, zero, suc, ◌+◌, ◌-◌, ◌*◌, ◌/◌, ◌^◌, ◌≤◌, ◌<◌, min, Bool, true, false, [], None, refl, subst, arith, inl, inr}
+use Rattle.std.specs.Prelude.{◌↔◌, ◌⊎◌, not, Some, IsTrue, MatchBool}
+use Rattle.std.proofs.Math.Nat.{mul-suc}
 use Rattle.std.proofs.lemmas.Bool.{cases_lt}
-use Rattle.etcs_tables.specs.Layouts.{Layout, Lengths, whole, one, guarded, counted}
-use Rattle.etcs_rows.specs.Lengths.{FitsWithin}
+use Rattle.std.proofs.lemmas.Nat.{mul-le}
+use Rattle.etcs_vars.specs.declared.var.Var.{Var}
+use Rattle.etcs_vars.specs.Vars.{width, admits}
+use Rattle.etcs_tables.specs.declared.item.Guard.{Guard}
+use Rattle.etcs_tables.specs.Layouts.{Layout, Lengths, whole, one, guarded, counted, passes, looks}
+use Rattle.etcs_rows.specs.Sums.{Plus, SumOf}
+use Rattle.etcs_rows.specs.Lengths.{FitsWithin, LengthsBy}
+use Rattle.etcs_rows.proofs.LengthLemmas.{lengths_are}
+use Rattle.etcs_rows.proofs.SumLemmas.{most_admits}
 use Rattle.etcs_reasons.specs.PacketLengths.{HasLength, AnyIn, IsLast, IsFirst}
 
 -- ---- Answers turned round.
@@ -22,11 +30,20 @@ not_true false h = refl
 abbrev pub Left : Layout → ℕ → ℕ → Type 0
 Left row low high = (k : ℕ) × Lengths row [] k × (low ≤ k) × (k ≤ high)
 
-pub any_left : (row : Layout) (before low end e l : ℕ) → e ≡ min end 8192 → before < e → l ≡ low - before → Left row l (e - before - 1) ↔ AnyIn row before low end
-any_left row before low end e l least some rest = (
-  (λ (k, h, lo, hi). (before + k, (k, h, refl, omega (arith, hi, least, some)), omega (arith, lo, rest), omega (arith, hi, least, some))),
-  (λ (m, (k, h, is, most), lo, hi). (k, h, omega (arith, is, lo, rest), omega (arith, is, most, hi, least, some))),
+pub any_left : (row : Layout) (before most low end e l : ℕ) → ((m : ℕ) → HasLength row before m → m ≤ most) → most ≤ 8191 → e ≡ min end (most + 1) → before < e → l ≡ low - before → Left row l (e - before - 1) ↔ AnyIn row before low end
+any_left row before most low end e l bounded small least some rest = (
+  (λ (k, h, lo, hi). (before + k, (k, h, refl, omega (arith, hi, least, some, small)), omega (arith, lo, rest), omega (arith, hi, least, some))),
+  (λ (m, h, lo, hi). (let at = bounded m h in let is = h.2 in (h.0, h.1, omega (arith, is, lo, rest), omega (arith, is, at, hi, least, some)))),
 )
+
+-- the end is before all of them
+pub none_left : (row : Layout) (before most low end e : ℕ) → ((m : ℕ) → HasLength row before m → m ≤ most) → e ≡ min end (most + 1) → (e ≤ before) ⊎ ((before < e) × (e ≤ low)) → AnyIn row before low end → ⊥
+none_left row before most low end e bounded least none (m, h, lo, hi) =
+    let at = bounded m h in let is = h.2 in
+    elim none [
+      | inl front ↦ omega (arith, is, at, hi, least, front)
+      | inr past ↦ (let under = past.1 in omega (arith, at, lo, hi, least, under))
+    ]
 
 pub one_any : (row : Layout) (before m : ℕ) → HasLength row before m → AnyIn row before m (m + 1)
 one_any row before m h = (m, h, omega arith, omega arith)
@@ -41,6 +58,66 @@ none_above row before n m none h =
       | inl less ↦ absurd (none (m, h, omega (arith, less), omega (arith, h.3)))
       | inr other ↦ other
     ]
+
+-- ---- None is above this.
+
+-- after a number of at most before
+abbrev pub Bounds : Layout → ℕ → ℕ → Type 0
+Bounds row before most = (n m : ℕ) → n ≤ before → LengthsBy row n m → m ≤ 8191 → m ≤ most
+
+pub bounds_whole : (row : Layout) (before : ℕ) → row ≡ whole → Bounds row before 0
+unfolding LengthsBy
+bounds_whole row before is n m le l small = let t : m ≡ 0 = rw is at l in omega (arith, t)
+
+pub bounds_one : (row rest : Layout) (v : Var) (before wide beyond most : ℕ) → row ≡ one v rest → wide ≡ width v → Bounds rest (18446744073709551615 / 2 ^ (64 - wide)) beyond → most ≡ min (beyond + wide) (2 ^ 64 - 1) → Bounds row before most
+unfolding LengthsBy
+bounds_one row rest v before wide beyond most is same below sum n m le l small =
+    let x : (k : ℕ) × (j : ℕ) × IsTrue (admits v k) × LengthsBy rest k j × (width v + j ≡ m) = rw is at l in
+    let (k, j, a, r, e) = x in
+    let high : k ≤ 18446744073709551615 / 2 ^ (64 - wide) = rw same (most_admits v k a) in
+    let at = below k j high r (omega (arith, e, small)) in
+    omega (arith, at, e, same, sum, small)
+
+either_of : (b : Bool) (A B : Type 0) → MatchBool b A B → A ⊎ B
+either_of true A B x = inl x
+either_of false A B x = inr x
+
+pub bounds_guarded : (row group rest : Layout) (g : Guard) (before inside beyond most : ℕ) → row ≡ guarded g group rest → Bounds group before inside → Bounds rest before beyond → most ≡ min (inside + beyond) (2 ^ 64 - 1) → Bounds row before most
+unfolding LengthsBy
+bounds_guarded row group rest g before inside beyond most is within below sum n m le l small =
+    let x : MatchBool (passes g.test n) (Plus (LengthsBy group n) (LengthsBy rest n) m) (LengthsBy rest n m) = rw is at l in
+    elim (either_of (passes g.test n) (Plus (LengthsBy group n) (LengthsBy rest n) m) (LengthsBy rest n m) x) [
+      | inl there ↦
+          let (i, j, a, b, e) = there in
+          let at = within n i le a (omega (arith, e, small)) in
+          let after = below n j le b (omega (arith, e, small)) in
+          omega (arith, at, after, e, sum, small)
+      | inr gone ↦ (let after = below n m le gone small in omega (arith, after, sum, small))
+    ]
+
+sum_most : (n most m : ℕ) (A : ℕ → Type 0) → ((k : ℕ) → A k → k ≤ 8191 → k ≤ most) → SumOf n A m → m ≤ 8191 → m ≤ most * n
+sum_most zero most m A each e small = omega (arith, e)
+sum_most (suc n) most m A each (i, j, a, s, e) small =
+    let at = each i a (omega (arith, e, small)) in
+    let others = sum_most n most j A each s (omega (arith, e, small)) in
+    omega (arith, at, others, e, mul-suc most n)
+
+pub bounds_counted : (row group rest : Layout) (before inside all beyond most : ℕ) → row ≡ counted group rest → Bounds group before inside → Bounds rest before beyond → all ≡ min (inside * before) (2 ^ 64 - 1) → most ≡ min (all + beyond) (2 ^ 64 - 1) → Bounds row before most
+unfolding LengthsBy
+bounds_counted row group rest before inside all beyond most is within below product sum n m le l small =
+    let x : Plus (SumOf n (LengthsBy group n)) (LengthsBy rest n) m = rw is at l in
+    let (i, j, a, b, e) = x in
+    let at = sum_most n inside i (LengthsBy group n) (λ k y z. within n k le y z) a (omega (arith, e, small)) in
+    let times = mul-le inside n inside before (omega arith) le in
+    let after = below n j le b (omega (arith, e, small)) in
+    omega (arith, at, times, after, e, product, sum, small)
+
+-- those of a whole row
+pub row_bounded : (row : Layout) (before bits all most m : ℕ) → IsTrue (looks None row) → Bounds row 0 bits → all ≡ min (before + bits) (2 ^ 64 - 1) → most ≡ min all 8191 → HasLength row before m → m ≤ most
+row_bounded row before bits all most m sound bounds sum least (k, l, e, small) =
+    let by = (lengths_are row sound k).0 l in
+    let at = bounds 0 k (omega arith) by.0 by.1 in
+    omega (arith, at, e, small, sum, least)
 
 -- ---- Halves.
 

@@ -9,11 +9,12 @@ ghost use Rattle.etcs_reader.specs.Rests.{Goes};
 ghost use Rattle.etcs_sequence.specs.Readables.{IsPart};
 ghost use Rattle.etcs_text.specs.declared.entry.Entry.{Entry};
 ghost use Rattle.etcs_text.specs.Entries.{EntryReads, entry_value};
-ghost use Rattle.etcs_reasons.specs.Accounts.{Accounts};
-ghost use Rattle.etcs_reasons.specs.Traces.{Taken};
+ghost use Rattle.etcs_reasons.specs.Accounts.{Accounts, AccountsFor};
+ghost use Rattle.etcs_reasons.specs.Traces.{IsRead, Taken};
 
 use etcs_messages::inner::MessageRest;
 use etcs_messages::{Head, Own};
+use etcs_packets::inner::room_after;
 use etcs_radio::{Body, RadioHead};
 use etcs_reader::{Feeder, Rest, Stop};
 use etcs_sequence::ItemRest;
@@ -27,8 +28,24 @@ use etcs_vars::inner::VarSink;
 use std::alloc::{AllocError, Global};
 use std::marker::Model;
 
+/// What is left of telegrams, and of messages to the train and to the track.
+type Telegrams = TelegramRest<TelegramStore>;
+
+type ToTrain = MessageRest<RadioHead, Body>;
+
+type ToTrack = MessageRest<TrainHead, TrainBody>;
+
 /// The most bytes that an item has.
 pub const MOST_BYTES: usize = 1023;
+
+/// What an account is wanted for.
+#[derive(Clone, Copy, Debug, PartialEq, Eq)]
+pub enum Wanted {
+    /// Its variables.
+    Fields,
+    /// A reason, which needs none of them.
+    Reason,
+}
 
 /// The first bits of a variable that isn't whole.
 #[derive(Clone, Copy, Debug, PartialEq, Eq)]
@@ -55,10 +72,12 @@ pub enum End {
 /// The whole variables of an item with their numbers, in the order of sending, and where they end.
 #[derive(Drop)]
 pub struct Account {
-    /// The variables and their numbers.
+    /// The variables and their numbers; none where they aren't wanted.
     pub fields: Vec<(Var, u64)>,
     /// What comes after them.
     pub end: End,
+    /// How many bits the variables have that aren't of whole packets.
+    pub(crate) outside: usize,
 }
 
 /// Keeps the variables that it is sent.
@@ -149,6 +168,28 @@ fn end_of<R: Rest>(feeder: &Feeder<R>, fed: Result<usize, Stop>) -> Result<End, 
     }
 }
 
+/// The variables that were read, which take this many bits.
+///
+/// # Errors
+///
+/// If memory is refused.
+fn fields_of<R: ItemRest>(
+    alloc: Global,
+    rest: &R,
+    bits: usize,
+) -> Result<Vec<(Var, u64)>, AllocError>
+    requires goes { Goes (R.left rest.now) }
+    requires holds { (size : R.Size) × R.holds size rest.now (R.far rest.now) }
+    requires taken { length (spelled (R.far rest.now)) ≡ bits }
+    ensures { IfOk result (λ fields. fields.items ≡ R.far rest.now) }
+{
+    // Most items have about as many variables as bytes.
+    let fields = Vec::with_capacity(alloc, bits / 8)?;
+    let mut trace = Trace { fields };
+    rest.send(bits, &mut trace)?;
+    Ok(trace.into_fields())
+}
+
 /// Feeds the bytes to a reader of an item of this size, from its first bit on, or after what one pass found of it. Returns the
 /// reader and its result.
 fn fed_of<R: ItemRest>(
@@ -172,6 +213,30 @@ fn fed_of<R: ItemRest>(
     }
 }
 
+/// A reader of the item of this size that the bytes begin with, which has taken what it can of them; where they end; and how
+/// many bits its variables take.
+///
+/// # Errors
+///
+/// If memory is refused.
+fn read_of<R: Traced>(
+    alloc: Global,
+    size: R::Size,
+    bytes: &[u8],
+    part: Option<(R, usize)>,
+) -> Result<(Feeder<R>, End, usize), AllocError>
+    requires goes { Goes (readings_of (R.Reads size)) }
+    requires short { length bytes.now ≤ 1023 }
+    requires part { IfSome part (λ t. IsPart R.left R.follows (R.holds size) (R.Reads size) (R.most size) (bits bytes.now) t.0 t.1) }
+    ensures { IfOk result (λ t. IsRead R R.Size R.left R.holds R.far (readings_of (R.Reads size)) (bits bytes.now) t.0 t.1 t.2) }
+{
+    let (feeder, fed) = fed_of(alloc, size, bytes, part);
+    let end = end_of(&feeder, fed)?;
+    let (_, count) = feeder.unfinished();
+    let bits = feeder.count() - count;
+    Ok((feeder, end, bits))
+}
+
 /// The account of the item of this size that the bytes begin with, after what one pass found of it, if there was one.
 ///
 /// # Errors
@@ -182,22 +247,25 @@ fn account_of<R: Traced>(
     size: R::Size,
     bytes: &[u8],
     part: Option<(R, usize)>,
+    wanted: Wanted,
 ) -> Result<Account, AllocError>
     requires goes { Goes (readings_of (R.Reads size)) }
     requires short { length bytes.now ≤ 1023 }
     requires part { IfSome part (λ t. IsPart R.left R.follows (R.holds size) (R.Reads size) (R.most size) (bits bytes.now) t.0 t.1) }
-    ensures { IfOk result (λ a. Accounts (readings_of (R.Reads size)) a.fields.items a.end (bits bytes.now)) }
+    ensures { IfOk result (λ a. AccountsFor wanted (readings_of (R.Reads size)) a.fields.items a.end (bits bytes.now)) }
 {
-    let (feeder, fed) = fed_of(alloc, size, bytes, part);
-    let end = end_of(&feeder, fed)?;
-    let (_, count) = feeder.unfinished();
-    let bits = feeder.count() - count;
-    // Most items have about as many variables as bytes.
-    let fields = Vec::with_capacity(alloc, bits / 8)?;
-    let mut trace = Trace { fields };
-    feeder.rest().send(bits, &mut trace)?;
-    let fields = trace.into_fields();
-    Ok(Account { fields, end })
+    let (feeder, end, bits) = read_of(alloc, size, bytes, part)?;
+    let rest = feeder.rest();
+    let fields = match wanted {
+        Wanted::Fields => fields_of(alloc, rest, bits)?,
+        Wanted::Reason => Vec::new(alloc),
+    };
+    let outside = room_after(bits, rest.store().packets.as_slice()).unwrap_or(0);
+    Ok(Account {
+        fields,
+        end,
+        outside,
+    })
 }
 
 /// How many bytes the item of this size has that the bytes begin with; or the account, where one pass finds none.
@@ -209,17 +277,18 @@ fn bytes_or_account<R: Traced>(
     alloc: Global,
     size: R::Size,
     bytes: &[u8],
+    wanted: Wanted,
 ) -> Result<Result<usize, Account>, AllocError>
     requires goes { Goes (readings_of (R.Reads size)) }
     requires short { length bytes.now ≤ 1023 }
-    ensures { IfOk result (λ o. MatchResult o (λ n. (v : R.Item) × IsOutcome (R.Reads size) (bits bytes.now) (done (R.value v) (8 * n))) (λ a. Accounts (readings_of (R.Reads size)) a.fields.items a.end (bits bytes.now))) }
+    ensures { IfOk result (λ o. MatchResult o (λ n. (v : R.Item) × IsOutcome (R.Reads size) (bits bytes.now) (done (R.value v) (8 * n))) (λ a. AccountsFor wanted (readings_of (R.Reads size)) a.fields.items a.end (bits bytes.now))) }
 {
     let mut room = Room::new(alloc);
     let mut part = None;
     if let Some((_item, taken)) = R::whole(&mut room, size, bytes, &mut part) {
         return Ok(Ok(taken));
     }
-    let account = account_of(alloc, size, bytes, part)?;
+    let account = account_of(alloc, size, bytes, part, wanted)?;
     Ok(Err(account))
 }
 
@@ -234,17 +303,28 @@ impl Account {
     pub fn read(alloc: Global, kind: Kind, bytes: &[u8]) -> Result<Account, AllocError>
         ensures { IfOk result (λ a. Accounts (readings_of (EntryReads kind)) a.fields.items a.end (take 8184 (bits bytes.now))) }
     {
+        Account::read_for(alloc, kind, bytes, Wanted::Fields)
+    }
+
+    /// The same with the variables that are wanted.
+    ///
+    /// # Errors
+    ///
+    /// If memory is refused.
+    pub(crate) fn read_for(
+        alloc: Global,
+        kind: Kind,
+        bytes: &[u8],
+        wanted: Wanted,
+    ) -> Result<Account, AllocError>
+        ensures { IfOk result (λ a. AccountsFor wanted (readings_of (EntryReads kind)) a.fields.items a.end (take 8184 (bits bytes.now))) }
+    {
         let bytes = &bytes[..bytes.len().min(MOST_BYTES)];
         match kind {
-            Kind::Long => account_of::<TelegramRest<TelegramStore>>(alloc, Size::Long, bytes, None),
-            Kind::Short => account_of::<TelegramRest<TelegramStore>>(
-                alloc,
-                Size::Short,
-                bytes,
-                None,
-            ),
-            Kind::Radio => account_of::<MessageRest<RadioHead, Body>>(alloc, (), bytes, None),
-            Kind::Train => account_of::<MessageRest<TrainHead, TrainBody>>(alloc, (), bytes, None),
+            Kind::Long => account_of::<Telegrams>(alloc, Size::Long, bytes, None, wanted),
+            Kind::Short => account_of::<Telegrams>(alloc, Size::Short, bytes, None, wanted),
+            Kind::Radio => account_of::<ToTrain>(alloc, (), bytes, None, wanted),
+            Kind::Train => account_of::<ToTrack>(alloc, (), bytes, None, wanted),
         }
     }
 
@@ -258,17 +338,16 @@ impl Account {
         alloc: Global,
         kind: Kind,
         bytes: &[u8],
+        wanted: Wanted,
     ) -> Result<Result<usize, Account>, AllocError>
-        ensures { IfOk result (λ o. MatchResult o (λ n. (e : Entry) × IsOutcome (EntryReads kind) (bits bytes.now) (done (entry_value e) (8 * n))) (λ a. Accounts (readings_of (EntryReads kind)) a.fields.items a.end (take 8184 (bits bytes.now)))) }
+        ensures { IfOk result (λ o. MatchResult o (λ n. (e : Entry) × IsOutcome (EntryReads kind) (bits bytes.now) (done (entry_value e) (8 * n))) (λ a. AccountsFor wanted (readings_of (EntryReads kind)) a.fields.items a.end (take 8184 (bits bytes.now)))) }
     {
         let bytes = &bytes[..bytes.len().min(MOST_BYTES)];
         match kind {
-            Kind::Long => bytes_or_account::<TelegramRest<TelegramStore>>(alloc, Size::Long, bytes),
-            Kind::Short => {
-                bytes_or_account::<TelegramRest<TelegramStore>>(alloc, Size::Short, bytes)
-            }
-            Kind::Radio => bytes_or_account::<MessageRest<RadioHead, Body>>(alloc, (), bytes),
-            Kind::Train => bytes_or_account::<MessageRest<TrainHead, TrainBody>>(alloc, (), bytes),
+            Kind::Long => bytes_or_account::<Telegrams>(alloc, Size::Long, bytes, wanted),
+            Kind::Short => bytes_or_account::<Telegrams>(alloc, Size::Short, bytes, wanted),
+            Kind::Radio => bytes_or_account::<ToTrain>(alloc, (), bytes, wanted),
+            Kind::Train => bytes_or_account::<ToTrack>(alloc, (), bytes, wanted),
         }
     }
 

@@ -1,9 +1,12 @@
 //! What the variables of an item before a refused one say about it.
 
-use crate::kinds::{user_bits, way_of};
+use crate::kinds::{user_bits, wanted_bytes, way_of};
 use crate::numbers::low_byte;
+use etcs_bits::peek;
 use etcs_rows::Place;
-use etcs_tables::row_of;
+use etcs_tables::{
+    Row, RowItem, frame_bits, head_bits, head_row, header_row, message_bits, row_of,
+};
 use etcs_text::Kind;
 use etcs_vars::Var;
 
@@ -25,10 +28,38 @@ pub(crate) struct Front {
     pub(crate) place: Option<Place>,
 }
 
+/// How many bits NID_MESSAGE and L_MESSAGE have.
+const FIRST_BITS: usize = 18;
+
+/// How many bits the variables of a row without groups have.
+fn row_bits(row: Row) -> usize {
+    let mut bits = 0usize;
+    for item in row.items {
+        if let RowItem::One(var) = item {
+            bits = bits.saturating_add(var.width());
+        }
+    }
+    bits
+}
+
+/// How many bits come before the packets of an item of a kind that begins with these bytes. `None` for a message without
+/// typed packets.
+fn bits_before_packets(kind: Kind, bytes: &[u8]) -> Option<usize> {
+    match kind {
+        Kind::Long | Kind::Short => Some(row_bits(header_row())),
+        Kind::Radio | Kind::Train => {
+            let way = way_of(kind);
+            let own = message_bits(way, bytes.first().copied()?)?;
+            let head = row_bits(head_row(way)).saturating_add(FIRST_BITS);
+            Some(head.saturating_add(own))
+        }
+    }
+}
+
 impl Front {
-    /// What is known where this variable comes after these, which have this many bits. Of the last packet nothing is known if
-    /// the next one begins, or PAD.
-    pub(crate) fn new(kind: Kind, fields: &[(Var, u64)], bit: usize, var: Var) -> Front {
+    /// What is known where this variable comes next in the bytes, after variables that have this many bits, of which so many
+    /// as `outside` aren't of whole packets. Of the last packet nothing is known if the next one begins, or PAD.
+    pub(crate) fn new(kind: Kind, bytes: &[u8], bit: usize, outside: usize, var: Var) -> Front {
         let mut front = Front {
             kind,
             bit,
@@ -39,53 +70,54 @@ impl Front {
             length: 0,
             place: None,
         };
-        for (var, number) in fields.iter().take(2) {
-            match *var {
-                Var::NID_MESSAGE => front.message = low_byte(*number),
-                Var::L_MESSAGE => front.end = (*number & 1023) as usize * 8,
-                _ => {}
-            }
+        if let Kind::Radio | Kind::Train = kind {
+            front.pass_first(bytes);
         }
         if let Var::NID_PACKET | Var::PAD = var {
             return front;
         }
-        let last = fields
-            .iter()
-            .rev()
-            .take_while(|field| field.0 != Var::NID_PACKET)
-            .count();
-        let (before, packet) = fields.split_at(fields.len().saturating_sub(last));
-        if let Some((Var::NID_PACKET, number)) = before.last() {
-            front.pass_packet(low_byte(*number), packet);
+        if let Some(before) = bits_before_packets(kind, bytes) {
+            if outside > before {
+                front.start = bit.saturating_sub(outside - before);
+                front.pass_packet(bytes);
+            }
         }
         front
     }
 
-    /// What is known after the last NID_PACKET, which has this number, and the variables after it.
-    fn pass_packet(&mut self, packet: u8, fields: &[(Var, u64)]) {
-        self.packet = packet;
-        let mut bits = Var::NID_PACKET.width();
-        let mut length = None;
-        for (at, (var, number)) in fields.iter().enumerate() {
-            bits = bits.saturating_add(var.width());
-            if *var == Var::L_PACKET {
-                self.length = (*number & 8191) as usize;
-                length = Some(at);
-            }
+    /// What is known after the first two variables of a message, where they are before the one that comes next.
+    fn pass_first(&mut self, bytes: &[u8]) {
+        if let (Some(number), true) = (bytes.first(), self.bit > 0) {
+            self.message = *number;
         }
-        self.start = self.bit.saturating_sub(bits);
-        if let Some(at) = length {
-            self.place = self.place_after(fields, at.saturating_add(1));
+        if let (Some(count), true) = (wanted_bytes(self.kind, bytes), self.bit >= FIRST_BITS) {
+            self.end = count.saturating_mul(8);
         }
     }
 
-    /// What is left of the last packet's row after the numbers of the fields from this one on, where it is typed.
-    fn place_after(&self, fields: &[(Var, u64)], from: usize) -> Option<Place> {
+    /// What is known of the packet that has begun.
+    fn pass_packet(&mut self, bytes: &[u8]) {
+        let way = way_of(self.kind);
+        let number = peek(bytes, self.start, Var::NID_PACKET.width());
+        self.packet = low_byte(number.unwrap_or(0));
+        let row = self.start.saturating_add(frame_bits(way));
+        if row > self.bit {
+            return;
+        }
+        let at = self.start.saturating_add(head_bits(way));
+        let length = peek(bytes, at, Var::L_PACKET.width());
+        self.length = length.unwrap_or(0) as usize;
+        self.place = self.place_after(bytes, row);
+    }
+
+    /// What is left of the packet's row, which begins at this bit, where it is typed.
+    fn place_after(&self, bytes: &[u8], row: usize) -> Option<Place> {
         let mut place = Place::start(row_of(way_of(self.kind), self.packet)?);
-        for (_, number) in fields.iter().skip(from) {
-            if place.var().is_some() {
-                place.pass(*number);
-            }
+        let mut at = row;
+        while at < self.bit {
+            let width = place.var()?.width();
+            place.pass(peek(bytes, at, width)?);
+            at = at.checked_add(width)?;
         }
         Some(place)
     }

@@ -1,11 +1,12 @@
 //! The lengths that a packet may have, those nearest to a given one, and the numbers of a variable that fit.
 
 ghost use Rattle.std.specs.Prelude.{◌≡◌, ◌↔◌, ℕ, ◌<◌, ◌≤◌, IsTrue, Some};
-ghost use Rattle.etcs_rows.specs.Lengths.{FitsWithin};
+ghost use Rattle.etcs_tables.specs.Layouts.{layout};
+ghost use Rattle.etcs_rows.specs.Lengths.{FitsWithin, LengthsBy};
 ghost use Rattle.etcs_reasons.specs.PacketLengths.{AnyIn, HasLength, IsFirst, IsLast};
 
 use etcs_rows::{Place, fits, reaches_between};
-use etcs_tables::MOST_LENGTH;
+use etcs_tables::{MOST_LENGTH, Row, RowItem};
 
 /// How many lengths are looked at first, next to a given one.
 const FIRST_STEP: usize = 32;
@@ -20,6 +21,34 @@ pub(crate) struct Lengths {
     place: Place,
     /// How many bits it has before that place.
     before: usize,
+    /// None is above this.
+    most: usize,
+    ghost bounded: { (m : ℕ) → HasLength place before m → m ≤ most },
+    ghost small: { most ≤ 8191 },
+}
+
+/// A number of bits that no reading of these items exceeds, after a number of at most `before`: each guarded group is
+/// taken, and each variable that counts has its greatest number.
+fn most_bits(items: &'static [RowItem], before: u64) -> u64
+    ensures { (n m : ℕ) → n ≤ before → LengthsBy (layout items.now) n m → m ≤ 8191 → m ≤ result }
+{
+    match items.split_first() {
+        None => 0,
+        Some((RowItem::One(var), rest)) => {
+            let width = var.width();
+            let most = u64::MAX >> (64 - width);
+            most_bits(rest, most).saturating_add(width as u64)
+        }
+        Some((RowItem::When(_, count), rest)) => {
+            let (group, rest) = rest.split_at(rest.len().min(*count));
+            most_bits(group, before).saturating_add(most_bits(rest, before))
+        }
+        Some((RowItem::Many(count), rest)) => {
+            let (group, rest) = rest.split_at(rest.len().min(*count));
+            let groups = most_bits(group, before).saturating_mul(before);
+            groups.saturating_add(most_bits(rest, before))
+        }
+    }
 }
 
 impl Lengths {
@@ -28,15 +57,32 @@ impl Lengths {
         ensures place { result.place ≡ place }
         ensures before { result.before ≡ before }
     {
-        Lengths { place, before }
+        Lengths {
+            place,
+            before,
+            most: MOST_LENGTH,
+        }
+    }
+
+    /// Those of a packet with this row, and this many bits before it.
+    pub(crate) fn of_row(row: Row, before: usize) -> Lengths
+        ensures place { result.place ≡ layout row.items.now }
+        ensures before { result.before ≡ before }
+    {
+        let most = before.saturating_add(most_bits(row.items, 0) as usize);
+        Lengths {
+            place: Place::start(row),
+            before,
+            most: most.min(MOST_LENGTH),
+        }
     }
 
     /// Whether there is one from `low` to below `end`.
     pub(crate) fn any(&self, low: usize, end: usize) -> bool
         ensures { IsTrue result ↔ AnyIn self.now.place self.now.before low end }
     {
-        let end = end.min(MOST_LENGTH + 1);
-        if end <= self.before {
+        let end = end.min(self.most + 1);
+        if end <= self.before || end <= low {
             return false;
         }
         let low = low.saturating_sub(self.before);
@@ -93,7 +139,7 @@ impl Lengths {
     pub(crate) fn last_below(&self, number: usize) -> Option<usize>
         ensures { IsLast (λ m. HasLength self.now.place self.now.before m × (m < number)) result }
     {
-        let mut end = number.min(MOST_LENGTH + 1);
+        let mut end = number.min(self.most + 1);
         let mut step = FIRST_STEP;
         while end > 0 {
             let low = end.saturating_sub(step);
@@ -112,7 +158,7 @@ impl Lengths {
     {
         let mut low = number;
         let mut step = FIRST_STEP;
-        while low <= MOST_LENGTH {
+        while low <= self.most {
             let end = low.saturating_add(step);
             if self.any(low, end) {
                 return Some(self.first_in(low, end));

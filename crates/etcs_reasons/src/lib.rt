@@ -18,6 +18,6 @@ mod sheet;
 mod table;
 mod text;
 
-pub use account::{Account, End, Part};
+pub use account::{Account, End, Part, Wanted};
 pub use refusal::{Reason, reason_of, why};
 pub use sheet::Layout;

@@ -141,7 +141,7 @@ fn write_least(way: Way, nid: u8, out: &mut Text) -> usize {
         write!(out, "at least {frame} bits");
         return frame;
     };
-    let lengths = Lengths::new(Place::start(row), frame);
+    let lengths = Lengths::of_row(row, frame);
     let least = lengths.first_from(frame);
     write_at_least(&lengths, least, out);
     least.unwrap_or(frame)
@@ -202,7 +202,7 @@ fn write_no_length(front: &Front, number: Option<u64>, out: &mut Text)
     let way = way_of(front.kind);
     let frame = frame_bits(way);
     if let Some(row) = row_of(way, packet) {
-        let lengths = Lengths::new(Place::start(row), frame);
+        let lengths = Lengths::of_row(row, frame);
         if !lengths.holds(length) {
             write!(out, "packet {packet} has ");
             write_nearest(&lengths, length, out);

@@ -11,7 +11,7 @@ ghost use Rattle.etcs_reasons.specs.declared.account.End.{End};
 ghost use Rattle.etcs_reasons.specs.declared.account.Part.{Part};
 ghost use Rattle.etcs_reasons.specs.Sentences.{IsWritten};
 
-use crate::account::{Account, End};
+use crate::account::{Account, End, Wanted};
 use crate::front::Front;
 use crate::kinds::{wanted_bytes, way_of, way_of_message};
 use crate::numbers::is_or_are;
@@ -114,7 +114,7 @@ fn write_end(kind: Kind, bytes: &[u8], account: &Account, out: &mut Text) -> Opt
         }
         End::Refused(bit, part) => {
             let before = bit.saturating_sub(part.count);
-            let front = Front::new(kind, account.fields.as_slice(), before, part.var);
+            let front = Front::new(kind, bytes, before, account.outside, part.var);
             write_reason(&front, bytes, part, out);
             often(kind, bytes, part.var)
         }
@@ -181,6 +181,6 @@ pub fn why(alloc: Global, kind: Kind, bytes: &[u8]) -> Result<Option<Reason>, Al
     ensures some { IfOk result (λ o. IfSome o (λ r. Refuses (readings_of (EntryReads kind)) (take 8184 (bits bytes.now)) r.bit r.var × (0 < length (string_bytes r.sentence)))) }
     ensures none { IfOk result (λ o. IsNone o → (i : ℕ) (x : Var) → Refuses (readings_of (EntryReads kind)) (take 8184 (bits bytes.now)) i x → ⊥) }
 {
-    let account = Account::read(alloc, kind, bytes)?;
+    let account = Account::read_for(alloc, kind, bytes, Wanted::Reason)?;
     reason_of(alloc, kind, bytes, &account)
 }

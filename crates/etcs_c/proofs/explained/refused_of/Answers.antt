@@ -22,7 +22,7 @@ returns-in-Refused c =
     let r = c.in-Refused in
     let is : w.account.end ≡ end.Refused r.bit r.part = rw w.field-0-is at r.is in
     let accounts = rw (w.is, w.field-0-is) at c.unless_whole.ensures in
-    let refused = all_refused c.args.kind (bits c.args.bytes.now) w.account.fields.items r.bit r.part (rw is at accounts) in
+    let refused = all_refused c.args.kind (bits c.args.bytes.now) accounts.0 r.bit r.part (rw is at accounts.1) in
     rw w.field-0-is (r.bit, r.part, is, c.refuse.ensures.bit, c.refuse.ensures.var, refused, accounts)
 
 pub returns-in-Open : goal.returns-in-Open
@@ -32,7 +32,7 @@ returns-in-Open c =
     let is : w.account.end ≡ end.Open part = rw w.field-0-is at c.in-Open.is in
     let accounts = rw (w.is, w.field-0-is) at c.unless_whole.ensures in
     let short = c.if-bytes-le-MOST_BYTES.true in
-    let more = all_open c.args.kind (bits c.args.bytes.now) w.account.fields.items part (rw is at accounts) (omega (arith, short, length-bits c.args.bytes.now)) in
+    let more = all_open c.args.kind (bits c.args.bytes.now) accounts.0 part (rw is at accounts.1) (omega (arith, short, length-bits c.args.bytes.now)) in
     (found_as.More, more, (refl, refl))
 
 pub returns-in_default : goal.returns-in_default
@@ -41,7 +41,7 @@ returns-in_default c =
     let kind = c.args.kind in
     let b = bits c.args.bytes.now in
     let accounts = rw (w.is, w.field-0-is) at c.unless_whole.ensures in
-    let none = unrefused (readings_of (EntryReads kind)) (kind_regular kind) w.account.fields.items w.account.end (take 8184 b) accounts (λ bit part h. elim c.in_default.branch [
+    let none = unrefused (readings_of (EntryReads kind)) (kind_regular kind) accounts.0 w.account.end (take 8184 b) accounts.1 (λ bit part h. elim c.in_default.branch [
       | in_default-via-in-Open+else-bytes-le-MOST_BYTES v ↦
           let is : w.account.end ≡ end.Open v.in-Open.field-0 = rw w.field-0-is at v.in-Open.is in
           let e : end.Open v.in-Open.field-0 ≡ end.Refused bit part = sym is ∙ h in

@@ -30,19 +30,19 @@ bytes_or_account-requires-in-Train-clause-goes c = some_message ToTrack
 pub returns-in-Long : goal.returns-in-Long
 returns-in-Long c =
     let b = first_bits c.args.bytes.now c.min.result c.min.ensures in
-    rw c.in-Long.is (first_or_account (ReadsAs size.Long) telegram_value entry.Telegram Long (λ t r h. (ap kind_of h.0, h.1)) (same_telegrams size.Long) (bits (take c.min.result c.args.bytes.now)) (bits c.args.bytes.now) b c.bytes_or_account.result c.bytes_or_account.ensures)
+    rw c.in-Long.is (first_or_account c.args.wanted (ReadsAs size.Long) telegram_value entry.Telegram Long (λ t r h. (ap kind_of h.0, h.1)) (same_telegrams size.Long) (bits (take c.min.result c.args.bytes.now)) (bits c.args.bytes.now) b c.bytes_or_account.result c.bytes_or_account.ensures)
 
 pub returns-in-Short : goal.returns-in-Short
 returns-in-Short c =
     let b = first_bits c.args.bytes.now c.min.result c.min.ensures in
-    rw c.in-Short.is (first_or_account (ReadsAs size.Short) telegram_value entry.Telegram Short (λ t r h. (ap kind_of h.0, h.1)) (same_telegrams size.Short) (bits (take c.min.result c.args.bytes.now)) (bits c.args.bytes.now) b c.bytes_or_account-in-Short.result c.bytes_or_account-in-Short.ensures)
+    rw c.in-Short.is (first_or_account c.args.wanted (ReadsAs size.Short) telegram_value entry.Telegram Short (λ t r h. (ap kind_of h.0, h.1)) (same_telegrams size.Short) (bits (take c.min.result c.args.bytes.now)) (bits c.args.bytes.now) b c.bytes_or_account-in-Short.result c.bytes_or_account-in-Short.ensures)
 
 pub returns-in-Radio : goal.returns-in-Radio
 returns-in-Radio c =
     let b = first_bits c.args.bytes.now c.min.result c.min.ensures in
-    rw c.in-Radio.is (first_or_account (MessageReads ToTrain) radio.message_value entry.Message Radio (λ m r h. (refl, h)) (same_messages ToTrain) (bits (take c.min.result c.args.bytes.now)) (bits c.args.bytes.now) b c.bytes_or_account-in-Radio.result c.bytes_or_account-in-Radio.ensures)
+    rw c.in-Radio.is (first_or_account c.args.wanted (MessageReads ToTrain) radio.message_value entry.Message Radio (λ m r h. (refl, h)) (same_messages ToTrain) (bits (take c.min.result c.args.bytes.now)) (bits c.args.bytes.now) b c.bytes_or_account-in-Radio.result c.bytes_or_account-in-Radio.ensures)
 
 pub returns-in-Train : goal.returns-in-Train
 returns-in-Train c =
     let b = first_bits c.args.bytes.now c.min.result c.min.ensures in
-    rw c.in-Train.is (first_or_account (MessageReads ToTrack) train.message_value entry.Train Train (λ m r h. (refl, h)) (same_messages ToTrack) (bits (take c.min.result c.args.bytes.now)) (bits c.args.bytes.now) b c.bytes_or_account-in-Train.result c.bytes_or_account-in-Train.ensures)
+    rw c.in-Train.is (first_or_account c.args.wanted (MessageReads ToTrack) train.message_value entry.Train Train (λ m r h. (refl, h)) (same_messages ToTrack) (bits (take c.min.result c.args.bytes.now)) (bits c.args.bytes.now) b c.bytes_or_account-in-Train.result c.bytes_or_account-in-Train.ensures)

@@ -21,4 +21,4 @@ loop-low-preserved c =
     }
 
 pub returns : goal.returns
-returns c k h = omega (arith, c.loop-low.invariant.all k h.0 h.1, c.loop-low-test.false, h.0.3)
+returns c k h = omega (arith, c.loop-low.invariant.all k h.0 h.1, c.loop-low-test.false, c.args.self.now.bounded k h.0)

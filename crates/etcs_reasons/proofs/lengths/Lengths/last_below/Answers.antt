@@ -8,6 +8,13 @@ returns-then-any c =
     let l = c.loop-end in
     last_of s.place s.before c.args.number c.saturating_sub-low.result l.end c.last_in.result l.invariant.below l.invariant.all c.last_in.ensures
 
+pub loop-end-init : goal.loop-end-init
+loop-end-init c = record {
+  step = omega arith;
+  below = omega (arith, c.min-end.ensures);
+  all = λ k h lt. omega (arith, c.min-end.ensures, c.args.self.now.bounded k h, lt);
+}
+
 pub loop-end-preserved : goal.loop-end-preserved
 loop-end-preserved c =
     let s = c.args.self.now in

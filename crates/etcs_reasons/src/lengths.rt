@@ -9,10 +9,10 @@ use etcs_rows::{Place, fits, reaches_between};
 use etcs_tables::{MOST_LENGTH, Row, RowItem};
 
 /// How many lengths are looked at first, next to a given one.
-const FIRST_STEP: usize = 32;
+const FIRST_STEP: usize = 8;
 
 /// How many times as many are looked at in each further step.
-const NEXT_STEP: usize = 8;
+const NEXT_STEP: usize = 4;
 
 /// The lengths in bits that a packet may have.
 #[derive(Drop)]
@@ -146,6 +146,9 @@ impl Lengths {
             if self.any(low, end) {
                 return Some(self.last_in(low, end));
             }
+            if step == FIRST_STEP && !self.any(0, low) {
+                return None;
+            }
             end = low;
             step = step.saturating_mul(NEXT_STEP);
         }
@@ -163,6 +166,9 @@ impl Lengths {
             if self.any(low, end) {
                 return Some(self.first_in(low, end));
             }
+            if step == FIRST_STEP && !self.any(end, MOST_LENGTH + 1) {
+                return None;
+            }
             low = end;
             step = step.saturating_mul(NEXT_STEP);
         }
@@ -171,7 +177,7 @@ impl Lengths {
 }
 
 /// The least number of the next variable from `from` to below `end` with which what is left of a row has this many bits.
-pub(crate) fn first_fit(place: &Place, bits: usize, from: u64, end: u64) -> Option<u64>
+fn first_fit(place: &Place, bits: usize, from: u64, end: u64) -> Option<u64>
     ensures { IsFirst (λ n. FitsWithin place.now n n bits × (from ≤ n) × (n < end)) result }
 {
     if from >= end || !fits(place, from, end - 1, bits) {
@@ -187,4 +193,20 @@ pub(crate) fn first_fit(place: &Place, bits: usize, from: u64, end: u64) -> Opti
         }
     }
     Some(low)
+}
+
+/// The same, where numbers before may follow one another: then the first one is tried by itself.
+pub(crate) fn next_fit(
+    place: &Place,
+    bits: usize,
+    from: u64,
+    end: u64,
+    follows: bool,
+) -> Option<u64>
+    ensures { IsFirst (λ n. FitsWithin place.now n n bits × (from ≤ n) × (n < end)) result }
+{
+    if follows && from < end && fits(place, from, from, bits) {
+        return Some(from);
+    }
+    first_fit(place, bits, from, end)
 }

@@ -5,7 +5,7 @@ ghost use Rattle.etcs_reasons.specs.Sentences.{IsWritten};
 use crate::account::Part;
 use crate::front::Front;
 use crate::kinds::way_of;
-use crate::lengths::{Lengths, first_fit};
+use crate::lengths::{Lengths, next_fit};
 use crate::meanings::write_meaning;
 use crate::numbers::{low_byte, write_bits};
 use crate::text::Text;
@@ -296,11 +296,13 @@ fn write_fitting(front: &Front, place: &Place, var: Var, out: &mut Text)
     let left = front.length.saturating_sub(bits_before(front));
     let end = 1u64 << var.width().min(8);
     let mut from = 0;
+    let mut follows = false;
     for count in 0..5 {
-        let Some(number) = first_fit(place, left, from, end) else {
+        let Some(number) = next_fit(place, left, from, end, follows) else {
             return;
         };
         write_fit(var, number, count, out);
+        follows = number == from;
         from = number.saturating_add(1);
     }
 }

@@ -29,3 +29,13 @@ loop-end-preserved c =
 
 pub returns : goal.returns
 returns c k h = omega (arith, c.loop-end.invariant.all k h.0 h.1, c.loop-end-test.false)
+
+pub returns-then-not-any : goal.returns-then-not-any
+returns-then-not-any c k (h, below) =
+    let s = c.args.self.now in
+    let l = c.loop-end in
+    let further = c.any-then-step-eq-FIRST_STEP in
+    let at = below_low s.place s.before c.args.number c.saturating_sub-low.result l.end l.invariant.all (λ a. let no = c.if-any.false in let yes = c.any.ensures.1 a in absurd cc) k h below in
+    let none = c.if-not-any.true in
+    let some = further.ensures.1 (k, h, omega arith, at) in
+    absurd cc

@@ -57,8 +57,8 @@ fn bits_before_packets(kind: Kind, bytes: &[u8]) -> Option<usize> {
 }
 
 impl Front {
-    /// What is known where this variable comes next in the bytes, after variables that have this many bits, of which so many
-    /// as `outside` aren't of whole packets. Of the last packet nothing is known if the next one begins, or PAD.
+    /// What is known where this variable comes next in the bytes, after variables that have this many bits, `outside` of
+    /// which aren't of whole packets. Of the last packet nothing is known if the next one begins, or PAD.
     pub(crate) fn new(kind: Kind, bytes: &[u8], bit: usize, outside: usize, var: Var) -> Front {
         let mut front = Front {
             kind,

@@ -5,7 +5,7 @@ ghost use Rattle.etcs_tables.specs.Layouts.{layout};
 ghost use Rattle.etcs_rows.specs.Lengths.{FitsWithin, LengthsBy};
 ghost use Rattle.etcs_reasons.specs.PacketLengths.{AnyIn, HasLength, IsFirst, IsLast};
 
-use etcs_rows::{Place, fits, reaches_between};
+use etcs_rows::{Fits, Place, Reach};
 use etcs_tables::{MOST_LENGTH, Row, RowItem};
 
 /// How many lengths are looked at first, next to a given one.
@@ -18,7 +18,7 @@ const NEXT_STEP: usize = 4;
 #[derive(Drop)]
 pub(crate) struct Lengths {
     /// A place in its row: what follows it may have any of the lengths that are left there.
-    place: Place,
+    place: Reach,
     /// How many bits it has before that place.
     before: usize,
     /// None is above this.
@@ -58,7 +58,7 @@ impl Lengths {
         ensures before { result.before ≡ before }
     {
         Lengths {
-            place,
+            place: Reach::new(place),
             before,
             most: MOST_LENGTH,
         }
@@ -71,7 +71,7 @@ impl Lengths {
     {
         let most = before.saturating_add(most_bits(row.items, 0) as usize);
         Lengths {
-            place: Place::start(row),
+            place: Reach::new(Place::start(row)),
             before,
             most: most.min(MOST_LENGTH),
         }
@@ -86,7 +86,7 @@ impl Lengths {
             return false;
         }
         let low = low.saturating_sub(self.before);
-        reaches_between(&self.place, low, end - self.before - 1)
+        self.place.any(low, end - self.before - 1)
     }
 
     /// Whether this is one.
@@ -177,16 +177,16 @@ impl Lengths {
 }
 
 /// The least number of the next variable from `from` to below `end` with which what is left of a row has this many bits.
-fn first_fit(place: &Place, bits: usize, from: u64, end: u64) -> Option<u64>
-    ensures { IsFirst (λ n. FitsWithin place.now n n bits × (from ≤ n) × (n < end)) result }
+fn first_fit(fits: &Fits<'_>, bits: usize, from: u64, end: u64) -> Option<u64>
+    ensures { IsFirst (λ n. FitsWithin fits.now n n bits × (from ≤ n) × (n < end)) result }
 {
-    if from >= end || !fits(place, from, end - 1, bits) {
+    if from >= end || !fits.any(from, end - 1, bits) {
         return None;
     }
     let (mut low, mut end) = (from, end);
     while end - low > 1 {
         let middle = low + (end - low) / 2;
-        if fits(place, low, middle - 1, bits) {
+        if fits.any(low, middle - 1, bits) {
             end = middle;
         } else {
             low = middle;
@@ -197,16 +197,16 @@ fn first_fit(place: &Place, bits: usize, from: u64, end: u64) -> Option<u64>
 
 /// The same, where numbers before may follow one another: then the first one is tried by itself.
 pub(crate) fn next_fit(
-    place: &Place,
+    fits: &Fits<'_>,
     bits: usize,
     from: u64,
     end: u64,
     follows: bool,
 ) -> Option<u64>
-    ensures { IsFirst (λ n. FitsWithin place.now n n bits × (from ≤ n) × (n < end)) result }
+    ensures { IsFirst (λ n. FitsWithin fits.now n n bits × (from ≤ n) × (n < end)) result }
 {
-    if follows && from < end && fits(place, from, from, bits) {
+    if follows && from < end && fits.any(from, from, bits) {
         return Some(from);
     }
-    first_fit(place, bits, from, end)
+    first_fit(fits, bits, from, end)
 }

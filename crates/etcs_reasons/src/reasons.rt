@@ -10,8 +10,8 @@ use crate::meanings::write_meaning;
 use crate::numbers::{low_byte, write_bits};
 use crate::text::Text;
 use etcs_bits::peek;
-use etcs_rows::Place;
 use etcs_rows::inner::message_lengths;
+use etcs_rows::{Fits, Place};
 use etcs_tables::{MOST_LENGTH, Way, frame_bits, is_framed, row_of};
 use etcs_text::Kind;
 use etcs_vars::Var;
@@ -294,11 +294,12 @@ fn write_fitting(front: &Front, place: &Place, var: Var, out: &mut Text)
     ensures { IsWritten out.new }
 {
     let left = front.length.saturating_sub(bits_before(front));
+    let fits = Fits::new(place);
     let end = 1u64 << var.width().min(8);
     let mut from = 0;
     let mut follows = false;
     for count in 0..5 {
-        let Some(number) = next_fit(place, left, from, end, follows) else {
+        let Some(number) = next_fit(&fits, left, from, end, follows) else {
             return;
         };
         write_fit(var, number, count, out);

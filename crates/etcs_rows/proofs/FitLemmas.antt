@@ -1,6 +1,6 @@
 -- What is left of a row, as a sum whose parts are added one after another.
-use Rattle.std.proofs.Common.{◌≡◌, ℕ, ◌+◌, ◌-◌, ◌*◌, ◌<◌, ◌≤◌, min, List, [], ◌∷◌, ◌++◌, length, reverse, Bool, false, Option, Some, None, refl, sym, ◌∙◌, subst, arith, inl, inr}
-use Rattle.std.specs.Prelude.{◌↔◌, IsTrue, IfSome}
+use Rattle.std.proofs.Common.{◌≡◌, ℕ, ◌+◌, ◌-◌, ◌*◌, ◌<◌, ◌≤◌, min, List, [], ◌∷◌, ◌++◌, length, reverse, Bool, Option, Some, None, refl, sym, ◌∙◌, subst, arith, inl, inr}
+use Rattle.std.specs.Prelude.{◌↔◌, ◌⊎◌, IsTrue, IfSome}
 use Rattle.std.proofs.lemmas.Bool.{cases_lt}
 use Rattle.etcs_vars.specs.declared.var.Var.{Var}
 use Rattle.etcs_vars.specs.Vars.{width, admits}
@@ -57,16 +57,16 @@ answer_same None P Q same h = tt
 answer_same (Some b) P Q same h = (λ x. same.0 (h.0 x), λ y. h.1 (same.1 y))
 
 -- a part by another name, in front of what follows groups
-pub chosen : (r : Option Bool) (S A G : ℕ → Type 0) (items : List RowItem) (row : Layout) (ps : List Pending) (m : ℕ) → SameSet A G → layout items ≡ beyond row → IfSome r (λ b. IsTrue b ↔ Plus S (Plus A (Onward items ps)) m)
-    → IfSome r (λ b. IsTrue b ↔ Plus S (Plus G (Plus (LengthsBy (beyond row) 0) (Tails (reverse ps)))) m)
-chosen r S A G items row ps m same is h =
+pub chosen : (S A G : ℕ → Type 0) (items : List RowItem) (row : Layout) (ps : List Pending) → SameSet A G → layout items ≡ beyond row
+    → SameSet (Plus S (Plus A (Onward items ps))) (Plus S (Plus G (Plus (LengthsBy (beyond row) 0) (Tails (reverse ps)))))
+chosen S A G items row ps same is =
     let X = Onward items ps in
-    let there = answer_same r (Plus S (Plus A X) m) (Plus S (Plus G X) m) (Plus-same S (Plus A X) S (Plus G X) (set_self S) (Plus-same A X G X same (set_self X)) m) h in
-    subst (λ (x : Layout). IfSome r (λ b. IsTrue b ↔ Plus S (Plus G (Plus (LengthsBy x 0) (Tails (reverse ps)))) m)) is there
+    subst (λ (x : Layout). SameSet (Plus S (Plus A X)) (Plus S (Plus G (Plus (LengthsBy x 0) (Tails (reverse ps)))))) is
+    (Plus-same S (Plus A X) S (Plus G X) (set_self S) (Plus-same A X G X same (set_self X)))
 
--- numbers that all pass what is asked for
-pub past_bits : (t : Total) (B : ℕ → Type 0) (m : ℕ) → m < t.steps.first → IsTrue false ↔ Plus (InTotal t) B m
-past_bits t B m h = (λ x. absurd cc, λ (j, k, a, b, e). absurd (let l = total_first t j a in omega (arith, l, e)))
+-- no number of a total is below its first one
+pub past_first : (t : Total) (B : ℕ → Type 0) (m : ℕ) → Plus (InTotal t) B m → t.steps.first ≤ m
+past_first t B m (j, k, a, b, e) = let l = total_first t j a in omega (arith, l, e)
 
 -- ---- One variable after the other.
 
@@ -131,64 +131,129 @@ leave_empty p outer ps e none =
 
 -- ---- Numbers one after another.
 
--- no admitted number from low and below next makes the sum
-pub record NoneTo (v : Var) (F : ℕ → ℕ → Type 0) (S X : ℕ → Type 0) (low next m : ℕ) : Type 0 where
-  pub fail : (n : ℕ) → low ≤ n → n < next → IsTrue (admits v n) → Plus S (Plus (F n) X) m → ⊥
+-- a part that is in another
+pub part_along : (S X A B : ℕ → Type 0) → ((m : ℕ) → A m → B m) → (m : ℕ) → Plus S (Plus A X) m → Plus S (Plus B X) m
+part_along S X A B f m (i, y, s, (j, k, a, x, e), t) = (i, y, s, (j, k, f j a, x, e), t)
 
-pub none_more : (v : Var) (F : ℕ → ℕ → Type 0) (S X : ℕ → Type 0) (low n m : ℕ) → NoneTo v F S X low n m → (IsTrue (admits v n) → Plus S (Plus (F n) X) m → ⊥) → NoneTo v F S X low (n + 1) m
-none_more v F S X low n m h not = record {
-  fail = λ k l u ok x.
-      elim (cases_lt k n) [
-        | inl under ↦ h.fail k l under ok x
-        | inr over ↦ (let same : k ≡ n = omega (arith, u, over) in not (subst (λ i. IsTrue (admits v i)) same ok) (subst (λ i. Plus S (Plus (F i) X) m) same x))
-      ];
-}
+pub part_same : (S X A B : ℕ → Type 0) → SameSet A B → SameSet (Plus S (Plus A X)) (Plus S (Plus B X))
+part_same S X A B same m = (part_along S X A B (λ k. (same k).0) m, part_along S X B A (λ k. (same k).1) m)
 
-pub none_all : (v : Var) (rest : Layout) (S X : ℕ → Type 0) (low high next m : ℕ) → NoneTo v (λ n. LengthsBy (front rest) n) S X low next m → ((n : ℕ) → low ≤ n → n ≤ high → IsTrue (admits v n) → n < next)
-    → IsTrue false ↔ Plus S (Plus (GroupsWithin v rest low high) X) m
-none_all v rest S X low high next m h g = (
-  λ x. absurd cc,
-  λ (i, y, s, (j, k, (n, l, u, ok, f), x, e), t). absurd (h.fail n l (g n l u ok) ok (i, y, s, (j, k, f, x, e), t)),
+-- a part that is one of two
+pub part_either : (S X A B : ℕ → Type 0) (m : ℕ) → (Plus S (Plus A X) m ⊎ Plus S (Plus B X) m) ↔ Plus S (Plus (λ k. A k ⊎ B k) X) m
+part_either S X A B m = (
+  λ h. elim h [
+    | inl x ↦ part_along S X A (λ k. A k ⊎ B k) (λ k a. inl a) m x
+    | inr x ↦ part_along S X B (λ k. A k ⊎ B k) (λ k a. inr a) m x
+  ],
+  λ (i, y, s, (j, k, h, x, e), t). elim h [
+    | inl a ↦ inl (i, y, s, (j, k, a, x, e), t)
+    | inr a ↦ inr (i, y, s, (j, k, a, x, e), t)
+  ],
 )
 
-pub each_not : (g : Progression) (F S X : ℕ → Type 0) (m : ℕ) → IsProgression g F → (Plus S (Plus (InProgression g) X) m → ⊥) → Plus S (Plus F X) m → ⊥
-each_not g F S X m hg not (i, y, s, (j, k, f, x, e), t) = not (i, y, s, (j, k, (hg j).1 f, x, e), t)
+pub part_more : (S X A B C : ℕ → Type 0) → ((m : ℕ) → (A m ⊎ B m) ↔ C m) → (m : ℕ) → (Plus S (Plus A X) m ⊎ Plus S (Plus B X) m) ↔ Plus S (Plus C X) m
+part_more S X A B C same m = (
+  λ y. part_along S X (λ k. A k ⊎ B k) C (λ k. (same k).0) m ((part_either S X A B m).0 y),
+  λ y. (part_either S X A B m).1 (part_along S X C (λ k. A k ⊎ B k) (λ k. (same k).1) m y),
+)
 
--- no number below the next index makes the sum
-pub record NoneAt (more : Progression) (S X : ℕ → Type 0) (next m : ℕ) : Type 0 where
-  pub fail : (k : ℕ) → k < next → Plus S (Plus (λ j. more.first + k * more.step ≡ j) X) m → ⊥
+-- the sets of the family F at the admitted numbers from low to below next
+pub record SetsTo (v : Var) (F : ℕ → ℕ → Type 0) (low next m : ℕ) : Type 0 where
+  pub number : ℕ
+  pub above : low ≤ number
+  pub below : number < next
+  pub admitted : IsTrue (admits v number)
+  pub is : F number m
 
--- one number of the steps, as the code adds it
-one_added : (more single : Progression) (A S X : ℕ → Type 0) (k x : ℕ) → more.first + k * more.step ≡ x → IsProgression single (λ j. j ≡ x) → SameSet A (Plus S (InProgression single)) → SameSet (Plus A X) (Plus S (Plus (λ j. more.first + k * more.step ≡ j) X))
-one_added more single A S X k x at is hs =
-    let N : ℕ → Type 0 = λ j. more.first + k * more.step ≡ j in
+pub sets_none : (v : Var) (F : ℕ → ℕ → Type 0) (low m : ℕ) → SetsTo v F low low m → ⊥
+sets_none v F low m h = absurd (omega (arith, h.above, h.below))
+
+sets_longer : (v : Var) (F : ℕ → ℕ → Type 0) (low n m : ℕ) → SetsTo v F low n m → SetsTo v F low (n + 1) m
+sets_longer v F low n m h = record { number = h.number; above = h.above; below = omega (arith, h.below); admitted = h.admitted; is = h.is }
+
+-- one more number
+pub sets_more : (v : Var) (F : ℕ → ℕ → Type 0) (G : ℕ → Type 0) (low n m : ℕ) → low ≤ n → IsTrue (admits v n) → SameSet G (F n) → (SetsTo v F low n m ⊎ G m) ↔ SetsTo v F low (n + 1) m
+sets_more v F G low n m l ok same = (
+  λ x. elim x [
+    | inl h ↦ sets_longer v F low n m h
+    | inr h ↦ record { number = n; above = l; below = omega arith; admitted = ok; is = (same m).0 h }
+  ],
+  λ h. elim (cases_lt h.number n) [
+    | inl under ↦ inl (record { number = h.number; above = h.above; below = under; admitted = h.admitted; is = h.is })
+    | inr over ↦ (let at : h.number ≡ n = omega (arith, h.below, over) in inr ((same m).1 (subst (λ i. F i m) at h.is)))
+  ],
+)
+
+-- a number that isn't admitted
+pub sets_skip : (v : Var) (F : ℕ → ℕ → Type 0) (low n m : ℕ) → (IsTrue (admits v n) → ⊥) → SetsTo v F low n m ↔ SetsTo v F low (n + 1) m
+sets_skip v F low n m not = (
+  sets_longer v F low n m,
+  λ h. elim (cases_lt h.number n) [
+    | inl under ↦ record { number = h.number; above = h.above; below = under; admitted = h.admitted; is = h.is }
+    | inr over ↦ absurd (let at : h.number ≡ n = omega (arith, h.below, over) in not (subst (λ i. IsTrue (admits v i)) at h.admitted))
+  ],
+)
+
+pub sets_in : (v : Var) (rest : Layout) (low high next m : ℕ) → ((n : ℕ) → low ≤ n → n < next → n ≤ high) → SetsTo v (λ n. LengthsBy (front rest) n) low next m → GroupsWithin v rest low high m
+sets_in v rest low high next m within h = (h.number, h.above, within h.number h.above h.below, h.admitted, h.is)
+
+-- all of them
+pub sets_all : (v : Var) (rest : Layout) (low high next m : ℕ) → ((n : ℕ) → low ≤ n → n < next → n ≤ high) → ((n : ℕ) → low ≤ n → n ≤ high → IsTrue (admits v n) → n < next) → SetsTo v (λ n. LengthsBy (front rest) n) low next m ↔ GroupsWithin v rest low high m
+sets_all v rest low high next m within all = (
+  sets_in v rest low high next m within,
+  λ (n, l, u, ok, f). record { number = n; above = l; below = all n l u ok; admitted = ok; is = f },
+)
+
+-- a number alone that isn't admitted
+pub groups_not : (v : Var) (rest : Layout) (S X : ℕ → Type 0) (low high : ℕ) → low ≡ high → (IsTrue (admits v low) → ⊥) → (m : ℕ) → Plus S (Plus (GroupsWithin v rest low high) X) m → ⊥
+groups_not v rest S X low high e not m (i, y, s, (j, k, (n, l, u, a, f), x, d), t) = let same : n ≡ low = omega (arith, l, u, e) in not (subst (λ i. IsTrue (admits v i)) same a)
+
+-- the numbers of the steps below the next index
+pub record StepsTo (more : Progression) (next m : ℕ) : Type 0 where
+  pub index : ℕ
+  pub below : index < next
+  pub is : more.first + index * more.step ≡ m
+
+pub steps_none : (more : Progression) (m : ℕ) → StepsTo more 0 m → ⊥
+steps_none more m h = absurd (omega (arith, h.below))
+
+-- one more of them, as the code adds it
+pub steps_more : (more single : Progression) (A S X : ℕ → Type 0) (k x m : ℕ) → more.first + k * more.step ≡ x → IsProgression single (λ j. j ≡ x) → SameSet A (Plus S (InProgression single))
+    → (Plus S (Plus (StepsTo more k) X) m ⊎ Plus A X m) ↔ Plus S (Plus (StepsTo more (k + 1)) X) m
+steps_more more single A S X k x m at is hs =
+    let N : ℕ → Type 0 = λ j. j ≡ x in
+    let one : SameSet (Plus A X) (Plus S (Plus N X)) =
     set_along (Plus A X) (Plus (Plus S N) X) (Plus S (Plus N X))
-    (Plus-same A X (Plus S N) X
-    (set_along A (Plus S (InProgression single)) (Plus S N) hs (Plus-same S (InProgression single) S N (set_self S) (λ j. (λ y. at ∙ sym ((is j).0 y), λ e. (is j).1 (sym e ∙ at))))) (set_self X))
-    (Plus-assoc S N X)
+    (Plus-same A X (Plus S N) X (set_along A (Plus S (InProgression single)) (Plus S N) hs (Plus-same S (InProgression single) S N (set_self S) is)) (set_self X))
+    (Plus-assoc S N X) in
+    let both : SameSet (λ j. StepsTo more k j ⊎ N j) (StepsTo more (k + 1)) = λ j. (
+      λ y. elim y [
+        | inl h ↦ record { index = h.index; below = omega (arith, h.below); is = h.is }
+        | inr e ↦ record { index = k; below = omega arith; is = at ∙ sym e }
+      ],
+      λ h. elim (cases_lt h.index k) [
+        | inl under ↦ inl (record { index = h.index; below = under; is = h.is })
+        | inr over ↦ inr (let same : h.index ≡ k = omega (arith, h.below, over) in sym h.is ∙ subst (λ i. more.first + i * more.step ≡ x) (sym same) at)
+      ],
+    ) in (
+      λ y. (part_same S X (λ j. StepsTo more k j ⊎ N j) (StepsTo more (k + 1)) both m).0
+          ((part_either S X (StepsTo more k) N m).0 (elim y [ inl h ↦ inl h | inr a ↦ inr ((one m).0 a) ])),
+      λ y. elim ((part_either S X (StepsTo more k) N m).1 ((part_same S X (λ j. StepsTo more k j ⊎ N j) (StepsTo more (k + 1)) both m).1 y)) [
+        | inl h ↦ inl h
+        | inr a ↦ inr ((one m).1 a)
+      ],
+    )
 
-pub at_found : (more single : Progression) (A S X : ℕ → Type 0) (k x m : ℕ) → k ≤ more.count → more.first + k * more.step ≡ x → IsProgression single (λ j. j ≡ x) → SameSet A (Plus S (InProgression single)) → Plus A X m → Plus S (Plus (InProgression more) X) m
+pub steps_in : (more : Progression) (next m : ℕ) → next ≤ more.count + 1 → StepsTo more next m → InProgression more m
 unfolding InProgression
-at_found more single A S X k x m l at is hs h =
-    let (i, y, a, (j, z, e, b, f), t) = (one_added more single A S X k x at is hs m).0 h in
-    (i, y, a, (j, z, (k, l, e), b, f), t)
+steps_in more next m l h = (h.index, omega (arith, h.below, l), h.is)
 
-pub at_more : (more single : Progression) (A S X : ℕ → Type 0) (k x m : ℕ) → NoneAt more S X k m → more.first + k * more.step ≡ x → IsProgression single (λ j. j ≡ x) → SameSet A (Plus S (InProgression single)) → (Plus A X m → ⊥) → NoneAt more S X (k + 1) m
-at_more more single A S X k x m h at is hs not = record {
-  fail = λ i u y.
-      elim (cases_lt i k) [
-        | inl under ↦ h.fail i under y
-        | inr over ↦
-            let same : i ≡ k = omega (arith, u, over) in
-            not ((one_added more single A S X k x at is hs m).1 (subst (λ n. Plus S (Plus (λ j. more.first + n * more.step ≡ j) X) m) same y))
-      ];
-}
-
-pub at_none : (more : Progression) (S X : ℕ → Type 0) (next m : ℕ) → NoneAt more S X next m → more.count < next → IsTrue false ↔ Plus S (Plus (InProgression more) X) m
+-- all of them
+pub steps_all : (more : Progression) (next : ℕ) → next ≡ more.count + 1 → SameSet (StepsTo more next) (InProgression more)
 unfolding InProgression
-at_none more S X next m h all = (
-  λ x. absurd cc,
-  λ (i, y, a, (j, z, (k, l, e), b, f), t). absurd (h.fail k (omega (arith, l, all)) (i, y, a, (j, z, e, b, f), t)),
+steps_all more next e m = (
+  λ h. (h.index, (let t : h.index ≤ more.count = omega (arith, h.below, e) in t), h.is),
+  λ (k, l, is). record { index = k; below = omega (arith, l, e); is = is },
 )
 
 -- ---- All that is left.

@@ -24,6 +24,7 @@ pub mod Shifts
 pub mod StepLemmas
 pub mod StepSums
 pub mod SumLemmas
+pub mod TakerLemmas
 pub mod TotalLemmas
 pub mod WalkSteps
 pub mod WholeWalks

@@ -1,13 +1,14 @@
 -- Sums of lengths whose parts are added one after another.
-use Rattle.std.proofs.Common.{◌≡◌, ℕ, ◌+◌, ◌≤◌, Option, Some, None, refl, sym, subst, arith}
+use Rattle.std.proofs.Common.{◌≡◌, ℕ, ◌+◌, ◌-◌, ◌≤◌, List, [], ◌∷◌, ◌++◌, Option, Some, None, refl, sym, subst, arith, inl, inr}
+use Rattle.std.specs.Prelude.{◌↔◌, ◌⊎◌}
 use Rattle.etcs_rows.specs.declared.progression.Progression.{Progression}
 use Rattle.etcs_rows.specs.declared.total.Times.{Times}
 use Rattle.etcs_rows.specs.declared.total.Total.{Total}
 use Rattle.etcs_rows.specs.Progressions.{InProgression, IsProgression, TimesWithin, AtMost}
 use Rattle.etcs_rows.specs.Sums.{Plus}
-use Rattle.etcs_rows.specs.Totals.{InTimes, InTotal, AreTotal}
+use Rattle.etcs_rows.specs.Totals.{InTimes, InTotal, InSums, AreTotal}
 use Rattle.etcs_rows.proofs.LengthLemmas.{SameSet, set_along, set_back, set_self, Plus-same}
-use Rattle.etcs_rows.proofs.RowSums.{zero-Plus}
+use Rattle.etcs_rows.proofs.RowSums.{zero-Plus, Plus-assoc}
 use Rattle.etcs_rows.proofs.StepLemmas.{in_first}
 
 pub total_first : (t : Total) (m : ℕ) → InTotal t m → t.steps.first ≤ m
@@ -79,3 +80,36 @@ total_with t u group first last none d e f =
     let all : SameSet (Plus S (Plus T K)) (InTotal u) = named u t.steps (Some (record { group = group; first = first; last = last })) t.slack d e f in
     set_along (InTotal u) (Plus S (Plus T K)) (Plus (InTotal t) T) (set_back (Plus S (Plus T K)) (InTotal u) all)
     (set_along (Plus S (Plus T K)) (Plus (Plus S K) T) (Plus (InTotal t) T) (between S K T) (Plus-same (Plus S K) T (InTotal t) T (total_free t none) (set_self T)))
+
+-- slack is added to slack
+slack_sum : (a b : ℕ) → SameSet (AtMost (a + b)) (Plus (AtMost a) (AtMost b))
+slack_sum a b m = (
+  λ l. (let small : m ≤ a + b = l in (m - b, m - (m - b), (let t : m - b ≤ a = omega (arith, small) in t), (let t : m - (m - b) ≤ b = omega arith in t), (let t : m - b + (m - (m - b)) ≡ m = omega arith in t))),
+  λ (j, k, x, y, e). (let p : j ≤ a = x in let q : k ≤ b = y in let t : m ≤ a + b = omega (arith, p, q, e) in t),
+)
+
+pub total_slack : (t u : Total) (more : ℕ) → u.steps ≡ t.steps → u.times ≡ t.times → u.slack ≡ t.slack + more → AreTotal u (Plus (InTotal t) (AtMost more))
+total_slack t u more d e f =
+    let S = InProgression t.steps in let T = InTimes t.times in let K = AtMost t.slack in let M = AtMost more in let A = AtMost (t.slack + more) in
+    let all : SameSet (Plus S (Plus T A)) (InTotal u) = named u t.steps t.times (t.slack + more) d e f in
+    let own : SameSet (Plus S (Plus T K)) (InTotal t) = total_parts t t.times refl in
+    set_along (InTotal u) (Plus S (Plus T A)) (Plus (InTotal t) M) (set_back (Plus S (Plus T A)) (InTotal u) all)
+    (set_along (Plus S (Plus T A)) (Plus S (Plus (Plus T K) M)) (Plus (InTotal t) M)
+    (Plus-same S (Plus T A) S (Plus (Plus T K) M) (set_self S)
+    (set_along (Plus T A) (Plus T (Plus K M)) (Plus (Plus T K) M) (Plus-same T A T (Plus K M) (set_self T) (slack_sum t.slack more)) (set_back (Plus (Plus T K) M) (Plus T (Plus K M)) (Plus-assoc T K M))))
+    (set_along (Plus S (Plus (Plus T K) M)) (Plus (Plus S (Plus T K)) M) (Plus (InTotal t) M) (set_back (Plus (Plus S (Plus T K)) M) (Plus S (Plus (Plus T K) M)) (Plus-assoc S (Plus T K) M))
+    (Plus-same (Plus S (Plus T K)) M (InTotal t) M own (set_self M))))
+
+-- ---- Several totals.
+
+pub sums_more : (ts us : List Total) (t : Total) (m : ℕ) → us ≡ ts ++ t ∷ [] → InSums us m ↔ (InSums ts m ⊎ InTotal t m)
+sums_more [] us t m e = rw e (
+  λ x. elim x [ inl a ↦ inr a | inr b ↦ inl b ],
+  λ x. elim x [ inl a ↦ inr a | inr b ↦ inl b ],
+)
+sums_more (s ∷ ts) us t m e =
+    let more = sums_more ts (ts ++ t ∷ []) t m refl in
+    rw e (
+      λ x. elim x [ inl a ↦ inl (inl a) | inr b ↦ elim (more.0 b) [ inl c ↦ inl (inr c) | inr d ↦ inr d ] ],
+      λ x. elim x [ inl a ↦ elim a [ inl c ↦ inl c | inr d ↦ inr (more.1 (inl d)) ] | inr b ↦ inr (more.1 (inr b)) ],
+    )

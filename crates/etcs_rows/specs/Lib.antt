@@ -8,6 +8,7 @@ pub mod Sets
 pub mod Progressions
 pub mod Runs
 pub mod Sums
+pub mod Takers
 pub mod Texts
 pub mod Totals
 pub mod Waiting

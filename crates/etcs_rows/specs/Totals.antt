@@ -1,7 +1,9 @@
 -- Sums of lengths whose parts are added one after another.
-use Rattle.std.specs.Prelude.{◌≡◌, ℕ, ◌↔◌, Option, Some, None}
+use Rattle.std.specs.Prelude.{◌≡◌, ℕ, ◌↔◌, ◌⊎◌, Option, Some, None, List, [], ◌∷◌}
 use Rattle.etcs_rows.specs.declared.total.Times.{Times}
 use Rattle.etcs_rows.specs.declared.total.Total.{Total}
+use Rattle.etcs_rows.specs.declared.total.Added.{Added}
+use Rattle.etcs_rows.specs.declared.total.Added.TheVariants as added
 use Rattle.etcs_rows.specs.Progressions.{InProgression, TimesWithin, AtMost}
 use Rattle.etcs_rows.specs.Sums.{Plus}
 
@@ -17,3 +19,14 @@ InTotal t m = Plus (InProgression t.steps) (Plus (InTimes t.times) (AtMost t.sla
 -- the numbers are those of A
 abbrev pub AreTotal : Total → (ℕ → Type 0) → Type 0
 AreTotal t A = (m : ℕ) → InTotal t m ↔ A m
+
+-- the numbers that are added to sums
+abbrev pub InAdded : Added → ℕ → Type 0
+InAdded (added.Steps s) m = InProgression s m
+InAdded (added.Times t) m = TimesWithin t.group t.first t.last m
+InAdded (added.Slack n) m = AtMost n m
+
+-- the numbers of one of the sums
+abbrev pub InSums : List Total → ℕ → Type 0
+InSums [] m = ⊥
+InSums (t ∷ ts) m = InTotal t m ⊎ InSums ts m

@@ -1,3 +1,4 @@
 pub mod OneReading
 pub mod RestLaws
+pub mod Takers
 pub mod Walks

@@ -6,11 +6,15 @@ ghost use Rattle.etcs_rows.specs.Lengths.{FitsWithin, is_free};
 ghost use Rattle.etcs_rows.specs.Sets.{In};
 ghost use Rattle.etcs_rows.specs.Places.{first_variable, after_any, after_number};
 
-use crate::fitting::{fits_at, fits_by_steps, meets_by_steps, tail_steps};
+use crate::fitting::{
+    Around, around_first, fits_at, fits_by_steps, kept_by_steps, meets_by_steps, tail_steps,
+};
 use crate::head::{Head, first_item, has_group};
 use crate::length_set::LengthSet;
 use crate::measure::{first_lengths, lengths_of};
 use crate::progression::{Progression, steps_again};
+use crate::takers::Kept;
+use crate::total::Added;
 use arrayvec::ArrayVec;
 use etcs_tables::{Guard, Row, RowItem};
 use etcs_vars::Var;
@@ -382,17 +386,101 @@ pub fn reaches(place: &Place, bits: usize) -> bool
     place.can_take(bits)
 }
 
-/// Whether what is left of the row has a spelling of this many bits that begins with a number from `low` to `high`, both
-/// included.
-pub fn fits(place: &Place, low: u64, high: u64, bits: usize) -> bool
-    ensures { IsTrue result ↔ FitsWithin place.now low high bits }
-{
-    place.fits(low, high, bits)
+/// A place of whose lengths more than one question is asked.
+#[derive(Drop)]
+pub struct Reach {
+    place: Place,
+    /// How many bits may be left, up to 8191, as far as that was worked out.
+    sums: Option<Kept>,
 }
 
-/// Whether what is left of the row has a spelling whose number of bits is from `low` to `high`, both included.
-pub fn reaches_between(place: &Place, low: usize, high: usize) -> bool
-    ensures { IsTrue result ↔ ((m : ℕ) × Lengths place.now [] m × (low ≤ m) × (m ≤ high)) }
-{
-    place.meets(low, high)
+impl Model for Reach {
+    ghost use Rattle.std.specs.Prelude.{◌≤◌, ◌↔◌, ℕ, IfSome, IsTrue, None};
+    ghost use Rattle.etcs_tables.specs.Layouts.{Layout, looks};
+    ghost use Rattle.etcs_tables.specs.laws.Flat.{layout_code};
+    ghost use Rattle.etcs_rows.specs.Lengths.{LengthsBy};
+    ghost use Rattle.etcs_rows.specs.Totals.{InSums};
+
+    ghost Value = { Layout };
+
+    ghost coded = { layout_code };
+
+    ghost view = { λ r. r.place };
+
+    ghost invariant = { λ r. IsTrue (looks None r.place) × IfSome r.sums (λ k. (m : ℕ) → m ≤ 8191 → InSums k.sums.items m ↔ LengthsBy r.place 0 m) };
+}
+
+impl Reach {
+    /// That of a place.
+    pub fn new(place: Place) -> Reach
+        ensures { result ≡ place }
+    {
+        let sums = kept_by_steps(&place.cursor);
+        Reach { place, sums }
+    }
+
+    /// Whether what is left of the row has a spelling whose number of bits is from `low` to `high`, both included.
+    pub fn any(&self, low: usize, high: usize) -> bool
+        ensures { IsTrue result ↔ ((m : ℕ) × Lengths self.now [] m × (low ≤ m) × (m ≤ high)) }
+    {
+        let most = high.min(8191);
+        if most < low {
+            return false;
+        }
+        if let Some(sums) = &self.sums {
+            if let Some(answer) = sums.any(Added::Slack(most - low), most) {
+                return answer;
+            }
+        }
+        self.place.meets(low, high)
+    }
+}
+
+/// A place, to ask which numbers of its next variable leave a number of bits.
+#[derive(Drop)]
+pub struct Fits<'a> {
+    place: &'a Place,
+    around: Option<Around>,
+}
+
+impl<'a> Model for Fits<'a> {
+    ghost use Rattle.std.specs.Prelude.{◌≤◌, ◌↔◌, ℕ, IfSome};
+    ghost use Rattle.etcs_tables.specs.Layouts.{Layout, layout};
+    ghost use Rattle.etcs_tables.specs.laws.Flat.{layout_code};
+    ghost use Rattle.etcs_rows.specs.Lengths.{GroupsWithin, FitsWithin};
+    ghost use Rattle.etcs_rows.specs.Totals.{InSums};
+    ghost use Rattle.etcs_rows.specs.Sums.{Plus};
+
+    ghost Value = { Layout };
+
+    ghost coded = { layout_code };
+
+    ghost view = { λ f. f.place.now };
+
+    ghost invariant = { λ f. IfSome f.around (λ a. (low high m : ℕ) → m ≤ 8191 → Plus (InSums a.sums.sums.items) (GroupsWithin a.var (layout a.rest.now) low high) m ↔ FitsWithin f.place.now low high m) };
+}
+
+impl<'a> Fits<'a> {
+    /// Those of a place.
+    pub fn new(place: &'a Place) -> Fits<'a>
+        ensures { result ≡ place.now }
+    {
+        let around = around_first(&place.cursor);
+        Fits { place, around }
+    }
+
+    /// Whether what is left of the row has a spelling of this many bits that begins with a number from `low` to `high`,
+    /// both included.
+    pub fn any(&self, low: u64, high: u64, bits: usize) -> bool
+        ensures { IsTrue result ↔ FitsWithin self.now low high bits }
+    {
+        if bits <= 8191 {
+            if let Some(around) = &self.around {
+                if let Some(answer) = around.any(low, high, bits) {
+                    return answer;
+                }
+            }
+        }
+        self.place.fits(low, high, bits)
+    }
 }

@@ -2,7 +2,7 @@
 
 ghost use Rattle.std.specs.Prelude.{◌↔◌, ℕ, IsTrue, IfSome};
 ghost use Rattle.etcs_rows.specs.Progressions.{InProgression, TimesWithin, AtMost};
-ghost use Rattle.etcs_rows.specs.Totals.{InTotal, AreTotal};
+ghost use Rattle.etcs_rows.specs.Totals.{InTotal, InAdded, AreTotal};
 ghost use Rattle.etcs_rows.specs.Sums.{Plus};
 
 use crate::progression::Progression;
@@ -22,6 +22,31 @@ pub struct Total {
     pub steps: Progression,
     pub times: Option<Times>,
     pub slack: usize,
+}
+
+impl Default for Total {
+    fn default() -> Total {
+        Total {
+            steps: Progression {
+                first: 0,
+                step: 0,
+                count: 0,
+            },
+            times: None,
+            slack: 0,
+        }
+    }
+}
+
+/// What is added to sums.
+#[derive(Clone, Copy)]
+pub enum Added {
+    /// Numbers in equal steps.
+    Steps(Progression),
+    /// A group.
+    Times(Times),
+    /// A number from 0 to this one.
+    Slack(usize),
 }
 
 impl Total {
@@ -51,13 +76,27 @@ impl Total {
         Total { steps, ..self }
     }
 
+    /// With a part added, if that can be said.
+    pub(crate) fn with(self, added: Added) -> Option<Total>
+        ensures { IfSome result (λ t. AreTotal t (Plus (InTotal self) (InAdded added))) }
+    {
+        match added {
+            Added::Steps(more) => self.plus(more),
+            Added::Times(times) => self.with_times(times),
+            Added::Slack(more) => {
+                let slack = self.slack.checked_add(more)?;
+                Some(Total { slack, ..self })
+            }
+        }
+    }
+
     /// With a group that occurs from first to last times, if it has none.
-    pub(crate) fn with(self, group: Progression, first: u64, last: u64) -> Option<Total>
-        ensures { IfSome result (λ t. AreTotal t (Plus (InTotal self) (TimesWithin group first last))) }
+    fn with_times(self, times: Times) -> Option<Total>
+        ensures { IfSome result (λ t. AreTotal t (Plus (InTotal self) (TimesWithin times.group times.first times.last))) }
     {
         match self.times {
             None => Some(Total {
-                times: Some(Times { group, first, last }),
+                times: Some(times),
                 ..self
             }),
             Some(_) => None,

@@ -1,4 +1,3 @@
-use Rattle.std.proofs.Common.{◌≡◌, refl}
 use Rattle.etcs_bits.specs.Bits.{bits}
 use Rattle.etcs_reasons.proofs.Accounting.{from_all}
 use Rattle.etcs_reasons.proofs.account.fed_of.Goals as goal

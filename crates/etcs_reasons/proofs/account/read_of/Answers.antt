@@ -1,4 +1,4 @@
-use Rattle.std.proofs.Common.{◌≡◌, length, ap, arith}
+use Rattle.std.proofs.Common.{length, ap, arith}
 use Rattle.etcs_bits.specs.Bits.{bits}
 use Rattle.etcs_bits.proofs.Numbers.{length-num}
 use Rattle.etcs_vars.specs.Reading.{readings_of}

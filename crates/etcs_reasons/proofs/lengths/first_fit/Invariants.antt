@@ -8,8 +8,8 @@ invariant-loop-end l =
       from : l.fn.from ≤ l.low;
       some : l.low < l.end;
       within : l.end ≤ l.fn.end;
-      fits : FitsWithin l.place l.low (l.end - 1) l.bits;
-      all : (n : ℕ) → FitsWithin l.place n n l.bits → l.fn.from ≤ n → l.low ≤ n;
+      some_fit : FitsWithin l.fits l.low (l.end - 1) l.bits;
+      all : (n : ℕ) → FitsWithin l.fits n n l.bits → l.fn.from ≤ n → l.low ≤ n;
     }
 
 abbrev pub decreases-loop-end : goal.decreases-loop-end

@@ -1,4 +1,4 @@
-use Rattle.std.proofs.Common.{ℕ, ◌+◌, ◌*◌, ◌≤◌, ◌<◌, List, length}
+use Rattle.std.proofs.Common.{ℕ, false, ◌+◌, ◌*◌, ◌≤◌, ◌<◌, List, length}
 use Rattle.std.specs.Prelude.{sum_by}
 use Rattle.etcs_tables.specs.declared.item.RowItem.{RowItem}
 use Rattle.etcs_rows.specs.declared.place.Pending.{Pending}
@@ -6,7 +6,8 @@ use Rattle.etcs_tables.specs.Layouts.{layout}
 use Rattle.etcs_rows.specs.Lengths.{LengthsBy, front}
 use Rattle.etcs_rows.specs.Totals.{InTotal}
 use Rattle.etcs_rows.specs.Waiting.{Onward}
-use Rattle.etcs_rows.proofs.FitLemmas.{NoneTo, NoneAt}
+use Rattle.etcs_rows.specs.Sums.{Plus}
+use Rattle.etcs_rows.proofs.FitLemmas.{SetsTo, StepsTo}
 use Rattle.etcs_rows.proofs.fitting.+fitting.Given as goal
 
 -- the items that are left
@@ -14,28 +15,30 @@ abbrev items_left : List RowItem → List Pending → ℕ
 items_left items waiting = length items + sum_by (λ p. length p.items.now + 1) waiting
 
 abbrev pub decreases-choose : goal.decreases-choose
-decreases-choose l = 6 * items_left l.rest.now l.waiting.now + 6
+decreases-choose g l = 6 * items_left l.rest.now l.waiting.now + 6
 
 abbrev pub decreases-choose_each : goal.decreases-choose_each
-decreases-choose_each l = 6 * items_left l.rest.now l.waiting.now + 5
+decreases-choose_each g l = 6 * items_left l.rest.now l.waiting.now + 5
 
 abbrev pub decreases-leave : goal.decreases-leave
-decreases-leave l = 6 * sum_by (λ p. length p.items.now + 1) l.waiting.now
+decreases-leave g l = 6 * sum_by (λ p. length p.items.now + 1) l.waiting.now
 
 abbrev pub decreases-onward : goal.decreases-onward
-decreases-onward l = 6 * items_left l.items.now l.waiting.now + 2
+decreases-onward g l = 6 * items_left l.items.now l.waiting.now + 2
 
 abbrev pub decreases-spread : goal.decreases-spread
-decreases-spread l = 6 * items_left l.items.now l.waiting.now + 4
+decreases-spread g l = 6 * items_left l.items.now l.waiting.now + 4
 
 abbrev pub decreases-spread_each : goal.decreases-spread_each
-decreases-spread_each l = 6 * items_left l.items.now l.waiting.now + 3
+decreases-spread_each g l = 6 * items_left l.items.now l.waiting.now + 3
 
 abbrev pub invariant-choose_each-loop-number : goal.invariant-choose_each-loop-number
-invariant-choose_each-loop-number l = record {
-  none : NoneTo l.var (λ n. LengthsBy (front (layout l.rest)) n) (InTotal l.sum) (Onward l.beyond l.waiting) l.low l.number l.bits;
+invariant-choose_each-loop-number g l = record {
+  took : g.T.Taker.Took l.fn.out l.out false (Plus (InTotal l.sum) (Plus (SetsTo l.var (λ n. LengthsBy (front (layout l.rest)) n) l.low l.number) (Onward l.beyond l.waiting)));
   within : (n : ℕ) → l.low ≤ n → n < l.number → n ≤ l.high;
 }
 
 abbrev pub invariant-spread_each-loop-index : goal.invariant-spread_each-loop-index
-invariant-spread_each-loop-index l = record { none : NoneAt l.more (InTotal l.sum) (Onward l.items l.waiting) l.index l.bits }
+invariant-spread_each-loop-index g l = record {
+  took : g.T.Taker.Took l.fn.out l.out false (Plus (InTotal l.sum) (Plus (StepsTo l.more l.index) (Onward l.items l.waiting)));
+}

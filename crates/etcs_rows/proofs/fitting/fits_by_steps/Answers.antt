@@ -1,5 +1,4 @@
 use Rattle.std.proofs.Common.{reverse, arith, ◌≡◌, ◌≤◌, ℕ, List, ◌∷◌, ap, ◌∙◌, subst}
-use Rattle.std.specs.Prelude.{IsTrue, ◌↔◌, IfSome}
 use Rattle.etcs_vars.specs.Vars.{width}
 use Rattle.etcs_tables.specs.declared.item.RowItem.{RowItem}
 use Rattle.etcs_tables.specs.declared.item.RowItem.TheVariants.{One}
@@ -12,7 +11,8 @@ use Rattle.etcs_rows.specs.Totals.{InTotal}
 use Rattle.etcs_rows.specs.Sums.{Plus}
 use Rattle.etcs_rows.specs.Waiting.{Agains, Tails}
 use Rattle.etcs_rows.proofs.LengthLemmas.{SameSet, set_along, set_self, Plus-same}
-use Rattle.etcs_rows.proofs.FitLemmas.{answer_same, fits_sum}
+use Rattle.etcs_rows.proofs.FitLemmas.{fits_sum}
+use Rattle.etcs_rows.proofs.TakerLemmas.{found}
 use Rattle.etcs_rows.proofs.TotalLemmas.{no_slack}
 use Rattle.etcs_rows.proofs.fitting.fits_by_steps.Goals as goal
 
@@ -33,6 +33,5 @@ returns-in_ok-sum-in-Some-One-default c =
     (set_along (InProgression sum) (Plus A (InProgression c.single.result)) (Plus A W) c.in_ok-sum-in-Some-One-default.ensures (Plus-same A (InProgression c.single.result) A W (set_self A) own))) in
     let small : bits ≤ 8191 = omega arith in
     let G = GroupsWithin v (layout rest) low high in let B = LengthsBy (beyond (layout rest)) 0 in
-    answer_same c.choose.result (Plus S (Plus G (Plus B (Tails (reverse cursor.pending.items)))) bits) (FitsWithin (left_of cursor) low high bits)
-    (fits_sum cursor v rest low high bits again S is ha hs small)
-    (subst (λ (ps : List Pending). IfSome c.choose.result (λ b. IsTrue b ↔ Plus S (Plus G (Plus B (Tails (reverse ps)))) bits)) slice c.choose.ensures)
+    found _ _ c.choose.result (Plus S (Plus G (Plus B (Tails (reverse c.as_slice-waiting.result.now))))) (FitsWithin (left_of cursor) low high bits)
+    (rw slice (fits_sum cursor v rest low high bits again S is ha hs small)) c.choose.ensures

@@ -11,4 +11,4 @@ pub returns : goal.returns
 returns c =
     let s = c.args.self.now in
     let left = any_left s.place s.before s.most c.args.low c.args.end c.min-end.result c.saturating_sub-low.result s.bounded s.small c.min-end.ensures (omega (arith, c.if-end-self.false)) c.saturating_sub-low.ensures in
-    ((λ t. left.0 (c.reaches_between.ensures.0 t)), λ a. c.reaches_between.ensures.1 (left.1 a))
+    ((λ t. left.0 (c.any.ensures.0 t)), λ a. c.any.ensures.1 (left.1 a))

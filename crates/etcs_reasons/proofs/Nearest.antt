@@ -1,167 +1,64 @@
 -- The lengths of a packet that are nearest to a number.
-use Rattle.std.proofs.Common.{◌≡◌, ℕ, zero, suc, ◌+◌, ◌-◌, ◌*◌, ◌/◌, ◌^◌, ◌≤◌, ◌<◌, min, Bool, true, false, [], None, refl, subst, arith, inl, inr}
-use Rattle.std.specs.Prelude.{◌↔◌, ◌⊎◌, not, Some, IsTrue, MatchBool}
-use Rattle.std.proofs.Math.Nat.{mul-suc}
-use Rattle.std.proofs.lemmas.Bool.{cases_lt}
-use Rattle.std.proofs.lemmas.Nat.{mul-le}
-use Rattle.etcs_vars.specs.declared.var.Var.{Var}
-use Rattle.etcs_vars.specs.Vars.{width, admits}
-use Rattle.etcs_tables.specs.declared.item.Guard.{Guard}
-use Rattle.etcs_tables.specs.Layouts.{Layout, Lengths, whole, one, guarded, counted, passes, looks}
-use Rattle.etcs_rows.specs.Sums.{Plus, SumOf}
-use Rattle.etcs_rows.specs.Lengths.{FitsWithin, LengthsBy}
-use Rattle.etcs_rows.proofs.LengthLemmas.{lengths_are}
-use Rattle.etcs_rows.proofs.SumLemmas.{most_admits}
-use Rattle.etcs_reasons.specs.PacketLengths.{HasLength, AnyIn, IsLast, IsFirst}
+use Rattle.std.proofs.Common.{◌≡◌, ℕ, ◌+◌, ◌-◌, ◌≤◌, ◌<◌, min, Bool, true, false, [], Option, None, Some, refl, arith, inl, inr}
+use Rattle.std.specs.Prelude.{◌↔◌, nat_lt, not, is_some, IsTrue, if◌then◌else◌}
+use Rattle.std.proofs.lemmas.Bool.{cases_lt, ltb-true, ltb-false}
+use Rattle.etcs_tables.specs.Layouts.{Layout, Lengths, whole, one, guarded, counted}
+use Rattle.etcs_rows.specs.Nearest.{IsLast, IsFirst, up_to}
+use Rattle.etcs_rows.specs.Lengths.{FitsWithin}
+use Rattle.etcs_reasons.specs.PacketLengths.{HasLength, raise}
 
--- ---- Answers turned round.
+-- ---- With the bits before a place.
 
-pub true_not : (b : Bool) → not b ≡ true → b ≡ true → ⊥
-true_not true e f = absurd cc
-true_not false e f = absurd cc
-
-pub not_true : (b : Bool) → (b ≡ true → ⊥) → not b ≡ true
-not_true true h = absurd (h refl)
-not_true false h = refl
-
--- ---- Whether there is one.
-
--- of those that may be left at the place
-abbrev pub Left : Layout → ℕ → ℕ → Type 0
-Left row low high = (k : ℕ) × Lengths row [] k × (low ≤ k) × (k ≤ high)
-
-pub any_left : (row : Layout) (before most low end e l : ℕ) → ((m : ℕ) → HasLength row before m → m ≤ most) → most ≤ 8191 → e ≡ min end (most + 1) → before < e → l ≡ low - before → Left row l (e - before - 1) ↔ AnyIn row before low end
-any_left row before most low end e l bounded small least some rest = (
-  (λ (k, h, lo, hi). (before + k, (k, h, refl, omega (arith, hi, least, some, small)), omega (arith, lo, rest), omega (arith, hi, least, some))),
-  (λ (m, h, lo, hi). (let at = bounded m h in let is = h.2 in (h.0, h.1, omega (arith, is, lo, rest), omega (arith, is, at, hi, least, some)))),
+pub below_raised : (row : Layout) (before length at : ℕ) (r : Option ℕ) → at ≡ min length 8191 → before ≤ at → IsLast (λ m. Lengths row [] m × (m ≤ at - before)) r → IsLast (λ m. HasLength row before m × (m ≤ length)) (raise before r)
+below_raised row before length at None is le h = λ k ((j, l, e, s), u). h j (l, omega (arith, e, s, u, is))
+below_raised row before length at (Some b) is le ((l, u), all) = (
+  ((b, l, (let t : before + b ≡ min (b + before) 18446744073709551615 = omega (arith, u, is, le) in t), (let t : min (b + before) 18446744073709551615 ≤ 8191 = omega (arith, u, is, le) in t)), (let t : min (b + before) 18446744073709551615 ≤ length = omega (arith, u, is, le) in t)),
+  λ k ((j, m, e, s), v). (let x = all j (m, omega (arith, e, s, v, is)) in omega (arith, x, e, s)),
 )
 
--- the end is before all of them
-pub none_left : (row : Layout) (before most low end e : ℕ) → ((m : ℕ) → HasLength row before m → m ≤ most) → e ≡ min end (most + 1) → (e ≤ before) ⊎ ((before < e) × (e ≤ low)) → AnyIn row before low end → ⊥
-none_left row before most low end e bounded least none (m, h, lo, hi) =
-    let at = bounded m h in let is = h.2 in
-    elim none [
-      | inl front ↦ omega (arith, is, at, hi, least, front)
-      | inr past ↦ (let under = past.1 in omega (arith, at, lo, hi, least, under))
-    ]
+pub below_none : (row : Layout) (before length at : ℕ) → at ≡ min length 8191 → at < before → IsLast (λ m. HasLength row before m × (m ≤ length)) None
+below_none row before length at is x = λ k ((j, l, f, s), u). omega (arith, x, f, s, u, is)
 
-pub one_any : (row : Layout) (before m : ℕ) → HasLength row before m → AnyIn row before m (m + 1)
-one_any row before m h = (m, h, omega arith, omega arith)
+above_up : (row : Layout) (before length a v : ℕ) (b : Bool) → nat_lt 8191 v ≡ b → v ≡ min (a + before) 18446744073709551615 → length ≤ 8191 → IsFirst (λ m. Lengths row [] m × (length - before ≤ m)) (Some a) → IsFirst (λ m. HasLength row before m × (length ≤ m)) (if b then None else Some v)
+above_up row before length a v true e is le (l, all) = λ k ((j, m, f, s), u). (let x = all j (m, omega (arith, f, u)) in let y = ltb-true 8191 v e in omega (arith, x, y, f, s, is))
+above_up row before length a v false e is le ((l, u), all) =
+    let y = ltb-false 8191 v e in (
+      ((a, l, (let t : before + a ≡ v = omega (arith, y, is) in t), y), (let t : length ≤ v = omega (arith, y, is, u) in t)),
+      λ k ((j, m, f, s), w). (let x = all j (m, omega (arith, f, w)) in omega (arith, x, f, is)),
+    )
 
-pub any_one : (row : Layout) (before m : ℕ) → AnyIn row before m (m + 1) → HasLength row before m
-any_one row before m (k, h, lo, hi) = let e : k ≡ m = omega (arith, lo, hi) in subst (λ (z : ℕ). HasLength row before z) e h
+up_raised : (row : Layout) (before length : ℕ) (r : Option ℕ) → length ≤ 8191 → IsFirst (λ m. Lengths row [] m × (length - before ≤ m)) r → IsFirst (λ m. HasLength row before m × (length ≤ m)) (up_to 8191 (raise before r))
+up_raised row before length None le h = λ k ((j, l, e, s), u). h j (l, omega (arith, e, u))
+up_raised row before length (Some a) le h = above_up row before length a (min (a + before) 18446744073709551615) (nat_lt 8191 (min (a + before) 18446744073709551615)) refl refl le h
 
--- none is above a number
-pub none_above : (row : Layout) (before n m : ℕ) → (AnyIn row before (n + 1) 8192 → ⊥) → HasLength row before m → m ≤ n
-none_above row before n m none h =
-    elim (cases_lt n m) [
-      | inl less ↦ absurd (none (m, h, omega (arith, less), omega (arith, h.3)))
-      | inr other ↦ other
-    ]
+pub above_raised : (row : Layout) (before length at : ℕ) (r : Option ℕ) → at ≡ min length 8191 → length ≤ at → IsFirst (λ m. Lengths row [] m × (at - before ≤ m)) r → IsFirst (λ m. HasLength row before m × (length ≤ m)) (up_to 8191 (raise before r))
+above_raised row before length at r is x h =
+    let le : length ≤ 8191 = omega (arith, x, is) in
+    let same : at ≡ length = omega (arith, is, le) in
+    up_raised row before length r le (rw same at h)
 
--- ---- None is above this.
+pub above_none : (row : Layout) (before length at : ℕ) → at ≡ min length 8191 → at < length → IsFirst (λ m. HasLength row before m × (length ≤ m)) None
+above_none row before length at is x = λ k ((j, l, f, s), u). omega (arith, x, f, s, u, is)
 
--- after a number of at most before
-abbrev pub Bounds : Layout → ℕ → ℕ → Type 0
-Bounds row before most = (n m : ℕ) → n ≤ before → LengthsBy row n m → m ≤ 8191 → m ≤ most
+-- ---- Whether there are others.
 
-pub bounds_whole : (row : Layout) (before : ℕ) → row ≡ whole → Bounds row before 0
-unfolding LengthsBy
-bounds_whole row before is n m le l small = let t : m ≡ 0 = rw is at l in omega (arith, t)
-
-pub bounds_one : (row rest : Layout) (v : Var) (before wide beyond most : ℕ) → row ≡ one v rest → wide ≡ width v → Bounds rest (18446744073709551615 / 2 ^ (64 - wide)) beyond → most ≡ min (beyond + wide) (2 ^ 64 - 1) → Bounds row before most
-unfolding LengthsBy
-bounds_one row rest v before wide beyond most is same below sum n m le l small =
-    let x : (k : ℕ) × (j : ℕ) × IsTrue (admits v k) × LengthsBy rest k j × (width v + j ≡ m) = rw is at l in
-    let (k, j, a, r, e) = x in
-    let high : k ≤ 18446744073709551615 / 2 ^ (64 - wide) = rw same (most_admits v k a) in
-    let at = below k j high r (omega (arith, e, small)) in
-    omega (arith, at, e, same, sum, small)
-
-either_of : (b : Bool) (A B : Type 0) → MatchBool b A B → A ⊎ B
-either_of true A B x = inl x
-either_of false A B x = inr x
-
-pub bounds_guarded : (row group rest : Layout) (g : Guard) (before inside beyond most : ℕ) → row ≡ guarded g group rest → Bounds group before inside → Bounds rest before beyond → most ≡ min (inside + beyond) (2 ^ 64 - 1) → Bounds row before most
-unfolding LengthsBy
-bounds_guarded row group rest g before inside beyond most is within below sum n m le l small =
-    let x : MatchBool (passes g.test n) (Plus (LengthsBy group n) (LengthsBy rest n) m) (LengthsBy rest n m) = rw is at l in
-    elim (either_of (passes g.test n) (Plus (LengthsBy group n) (LengthsBy rest n) m) (LengthsBy rest n m) x) [
-      | inl there ↦
-          let (i, j, a, b, e) = there in
-          let at = within n i le a (omega (arith, e, small)) in
-          let after = below n j le b (omega (arith, e, small)) in
-          omega (arith, at, after, e, sum, small)
-      | inr gone ↦ (let after = below n m le gone small in omega (arith, after, sum, small))
-    ]
-
-sum_most : (n most m : ℕ) (A : ℕ → Type 0) → ((k : ℕ) → A k → k ≤ 8191 → k ≤ most) → SumOf n A m → m ≤ 8191 → m ≤ most * n
-sum_most zero most m A each e small = omega (arith, e)
-sum_most (suc n) most m A each (i, j, a, s, e) small =
-    let at = each i a (omega (arith, e, small)) in
-    let others = sum_most n most j A each s (omega (arith, e, small)) in
-    omega (arith, at, others, e, mul-suc most n)
-
-pub bounds_counted : (row group rest : Layout) (before inside all beyond most : ℕ) → row ≡ counted group rest → Bounds group before inside → Bounds rest before beyond → all ≡ min (inside * before) (2 ^ 64 - 1) → most ≡ min (all + beyond) (2 ^ 64 - 1) → Bounds row before most
-unfolding LengthsBy
-bounds_counted row group rest before inside all beyond most is within below product sum n m le l small =
-    let x : Plus (SumOf n (LengthsBy group n)) (LengthsBy rest n) m = rw is at l in
-    let (i, j, a, b, e) = x in
-    let at = sum_most n inside i (LengthsBy group n) (λ k y z. within n k le y z) a (omega (arith, e, small)) in
-    let times = mul-le inside n inside before (omega arith) le in
-    let after = below n j le b (omega (arith, e, small)) in
-    omega (arith, at, times, after, e, product, sum, small)
-
--- those of a whole row
-pub row_bounded : (row : Layout) (before bits all most m : ℕ) → IsTrue (looks None row) → Bounds row 0 bits → all ≡ min (before + bits) (2 ^ 64 - 1) → most ≡ min all 8191 → HasLength row before m → m ≤ most
-row_bounded row before bits all most m sound bounds sum least (k, l, e, small) =
-    let by = (lengths_are row sound k).0 l in
-    let at = bounds 0 k (omega arith) by.0 by.1 in
-    omega (arith, at, e, small, sum, least)
-
--- ---- Halves.
-
--- in the half that has one
-pub last_lower : (row : Layout) (before middle end n : ℕ) → middle ≤ end → (AnyIn row before middle end → ⊥) → IsLast (λ m. HasLength row before m × (m < middle)) (Some n) → IsLast (λ m. HasLength row before m × (m < end)) (Some n)
-last_lower row before middle end n le none ((h, lt), all) = (
-  (h, omega (arith, lt, le)),
-  λ k g. elim (cases_lt k middle) [
-    | inl less ↦ all k (g.0, less)
-    | inr more ↦ absurd (none (k, g.0, more, g.1))
-  ],
+pub none_below : (row : Layout) (before length : ℕ) (r : Option ℕ) (b : Bool) → (length ≡ 0 → ⊥) → IsLast (λ m. HasLength row before m × (m ≤ length - 1)) r → is_some r ≡ not b → IsTrue b ↔ ((m : ℕ) → HasLength row before m → length ≤ m)
+none_below row before length None true some h e = (
+  λ t m l. elim (cases_lt m length) [ inl less ↦ absurd (h m (l, omega (arith, less))) | inr other ↦ other ],
+  λ all. refl,
 )
+none_below row before length None false some h e = absurd cc
+none_below row before length (Some k) true some h e = absurd cc
+none_below row before length (Some k) false some ((l, u), all) e = (λ t. absurd cc, λ none. absurd (let x = none k l in omega (arith, x, u, some)))
 
-pub first_upper : (row : Layout) (before low middle n : ℕ) → low ≤ middle → (AnyIn row before low middle → ⊥) → IsFirst (λ m. HasLength row before m × (middle ≤ m)) (Some n) → IsFirst (λ m. HasLength row before m × (low ≤ m)) (Some n)
-first_upper row before low middle n le none ((h, lt), all) = (
-  (h, omega (arith, lt, le)),
-  λ k g. elim (cases_lt k middle) [
-    | inl less ↦ absurd (none (k, g.0, g.1, less))
-    | inr more ↦ all k (g.0, more)
-  ],
+pub none_above : (row : Layout) (before length next : ℕ) (r : Option ℕ) (b : Bool) → next ≡ min (length + 1) 18446744073709551615 → IsFirst (λ m. HasLength row before m × (next ≤ m)) r → is_some r ≡ not b → IsTrue b ↔ ((m : ℕ) → HasLength row before m → m ≤ length)
+none_above row before length next None true is h e = (
+  λ t m l. elim (cases_lt length m) [ inl less ↦ absurd (let s = l.3 in h m (l, omega (arith, less, is, s))) | inr other ↦ other ],
+  λ all. refl,
 )
-
--- ---- In steps.
-
--- none is left out
-pub below_low : (row : Layout) (before number low end : ℕ) → ((k : ℕ) → HasLength row before k → k < number → k < end) → (AnyIn row before low end → ⊥) → (k : ℕ) → HasLength row before k → k < number → k < low
-below_low row before number low end all none k h lt =
-    elim (cases_lt k low) [
-      | inl less ↦ less
-      | inr more ↦ absurd (none (k, h, more, all k h lt))
-    ]
-
-pub above_end : (row : Layout) (before number low end : ℕ) → ((k : ℕ) → HasLength row before k → number ≤ k → low ≤ k) → (AnyIn row before low end → ⊥) → (k : ℕ) → HasLength row before k → number ≤ k → end ≤ k
-above_end row before number low end all none k h le =
-    elim (cases_lt k end) [
-      | inl less ↦ absurd (none (k, h, all k h le, less))
-      | inr more ↦ more
-    ]
-
-pub last_of : (row : Layout) (before number low end n : ℕ) → end ≤ number → ((k : ℕ) → HasLength row before k → k < number → k < end) → IsLast (λ m. HasLength row before m × (m < end)) (Some n) → IsLast (λ m. HasLength row before m × (m < number)) (Some n)
-last_of row before number low end n le all ((h, lt), most) = ((h, omega (arith, lt, le)), λ k g. most k (g.0, all k g.0 g.1))
-
-pub first_of : (row : Layout) (before number low n : ℕ) → number ≤ low → ((k : ℕ) → HasLength row before k → number ≤ k → low ≤ k) → IsFirst (λ m. HasLength row before m × (low ≤ m)) (Some n) → IsFirst (λ m. HasLength row before m × (number ≤ m)) (Some n)
-first_of row before number low n le all ((h, lt), least) = ((h, omega (arith, lt, le)), λ k g. least k (g.0, all k g.0 g.1))
+none_above row before length next None false is h e = absurd cc
+none_above row before length next (Some k) true is h e = absurd cc
+none_above row before length next (Some k) false is ((l, u), all) e = (λ t. absurd cc, λ none. absurd (let x = none k l in let s = l.3 in omega (arith, x, u, is, s)))
 
 -- ---- Numbers that fit.
 

@@ -11,7 +11,7 @@ use crate::numbers::{low_byte, write_bits};
 use crate::text::Text;
 use etcs_bits::peek;
 use etcs_rows::inner::message_lengths;
-use etcs_rows::{Fits, Place};
+use etcs_rows::{Fits, Near, Place};
 use etcs_tables::{MOST_LENGTH, Way, frame_bits, is_framed, row_of};
 use etcs_text::Kind;
 use etcs_vars::Var;
@@ -77,15 +77,12 @@ fn write_at_least(lengths: &Lengths, least: Option<usize>, out: &mut Text) {
 }
 
 /// Appends the lengths if there are one or two, otherwise those nearest to one that isn't among them.
-fn write_nearest(lengths: &Lengths, length: usize, out: &mut Text) {
-    let length = length.min(MOST_LENGTH);
-    let low = lengths.last_below(length);
-    let high = lengths.first_from(length.saturating_add(1));
-    let Some(low) = low else {
-        return write_at_least(lengths, high, out);
+fn write_nearest(lengths: &Lengths, near: Near, out: &mut Text) {
+    let Some(low) = near.below else {
+        return write_at_least(lengths, near.above, out);
     };
-    let is_first = !lengths.any(0, low);
-    match high {
+    let is_first = lengths.is_first(low);
+    match near.above {
         Some(high) => {
             write!(out, "{low} or {high} bits");
             if !is_first || !lengths.is_last(high) {
@@ -141,8 +138,8 @@ fn write_least(way: Way, nid: u8, out: &mut Text) -> usize {
         write!(out, "at least {frame} bits");
         return frame;
     };
-    let lengths = Lengths::of_row(row, frame);
-    let least = lengths.first_from(frame);
+    let lengths = Lengths::new(Place::start(row), frame);
+    let least = lengths.around(frame).above;
     write_at_least(&lengths, least, out);
     least.unwrap_or(frame)
 }
@@ -202,10 +199,11 @@ fn write_no_length(front: &Front, number: Option<u64>, out: &mut Text)
     let way = way_of(front.kind);
     let frame = frame_bits(way);
     if let Some(row) = row_of(way, packet) {
-        let lengths = Lengths::of_row(row, frame);
-        if !lengths.holds(length) {
+        let lengths = Lengths::new(Place::start(row), frame);
+        let near = lengths.around(length);
+        if near.below != Some(length) {
             write!(out, "packet {packet} has ");
-            write_nearest(&lengths, length, out);
+            write_nearest(&lengths, near, out);
             out.push(", not ");
             return write!(out, "{length}");
         }
@@ -251,7 +249,8 @@ fn write_no_fit(front: &Front, var: Var, number: u64, out: &mut Text)
         Some(next) => {
             let before = bits_before(front).saturating_add(var.width());
             let lengths = Lengths::new(next, before);
-            write_nearest(&lengths, front.length, out);
+            let near = lengths.around(front.length.min(MOST_LENGTH));
+            write_nearest(&lengths, near, out);
         }
         None => out.push("no length"),
     }

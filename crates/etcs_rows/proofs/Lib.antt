@@ -11,6 +11,7 @@ pub mod LeastLengths
 pub mod LengthLemmas
 pub mod LooksLemmas
 pub mod MessageLengths
+pub mod NearLemmas
 pub mod PlaceLemmas
 pub mod Raised
 pub mod Ranges

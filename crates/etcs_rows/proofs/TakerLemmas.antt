@@ -1,15 +1,12 @@
 -- What a walk gives to a taker.
-use Rattle.std.proofs.Common.{◌≡◌, ℕ, ◌+◌, ◌-◌, ◌≤◌, min, Bool, true, false, [], Option, Some, None, refl, subst, arith, inl, inr}
+use Rattle.std.proofs.Common.{◌≡◌, ℕ, ◌+◌, ◌≤◌, Bool, true, false, [], Option, Some, None, refl, subst, arith, inl, inr}
 use Rattle.std.specs.Prelude.{◌↔◌, ◌⊎◌, IsTrue, IfSome}
-use Rattle.etcs_tables.specs.Layouts.{Layout, looks, Lengths}
 use Rattle.etcs_rows.specs.declared.takers.Sought.{Sought}
 use Rattle.etcs_rows.specs.declared.takers.Kept.{Kept}
-use Rattle.etcs_rows.specs.Lengths.{LengthsBy}
-use Rattle.etcs_rows.specs.Progressions.{AtMost}
 use Rattle.etcs_rows.specs.Sums.{Plus}
 use Rattle.etcs_rows.specs.Totals.{InSums}
 use Rattle.etcs_rows.specs.Takers.{TakerLaws}
-use Rattle.etcs_rows.proofs.LengthLemmas.{SameSet, lengths_are}
+use Rattle.etcs_rows.proofs.LengthLemmas.{SameSet}
 
 -- the same sums, said otherwise
 pub took_same : {T : Type 0} {Took : T → T → Bool → (ℕ → Type 0) → Type 0} {Past : T → ℕ → Type 0} (laws : TakerLaws T Took Past) (s t : T) (r : Option Bool) (A B : ℕ → Type 0) → SameSet A B → IfSome r (λ b. Took s t b A) → IfSome r (λ b. Took s t b B)
@@ -47,18 +44,4 @@ pub part_last : (S Y G : ℕ → Type 0) → SameSet (Plus (Plus S Y) G) (Plus S
 part_last S Y G m = (
   λ (x, g, (s, y, ps, py, e), pg, f). (s, g + y, ps, (g, y, pg, py, refl), (let t : s + (g + y) ≡ m = omega (arith, e, f) in t)),
   λ (s, x, ps, (g, y, pg, py, e), f). (s + y, g, (s, y, ps, py, refl), pg, (let t : s + y + g ≡ m = omega (arith, e, f) in t)),
-)
-
--- whether a length from low to high was kept
-pub kept_near : (left : Layout) (K : ℕ → Type 0) (b : Bool) (low high most : ℕ) → IsTrue (looks None left) → ((m : ℕ) → m ≤ 8191 → K m ↔ LengthsBy left 0 m) → low ≤ most → most ≡ min high 8191 → IsTrue b ↔ Plus K (AtMost (most - low)) most
-    → IsTrue b ↔ ((m : ℕ) × Lengths left [] m × (low ≤ m) × (m ≤ high))
-kept_near left K b low high most look known le is h = (
-  λ t.
-      let (m, k, pm, pk, e) = h.0 t in let near : k ≤ most - low = pk in
-      let small : m ≤ 8191 = omega (arith, e, is) in
-      (m, (lengths_are left look m).1 ((known m small).0 pm, small), (let g : low ≤ m = omega (arith, e, near, le) in g), (let g : m ≤ high = omega (arith, e, is) in g)),
-  λ (m, l, above, below).
-      let (by, small) = (lengths_are left look m).0 l in
-      let near : most - m ≤ most - low = omega (arith, above) in
-      h.1 (m, most - m, (known m small).1 by, near, (let g : m + (most - m) ≡ most = omega (arith, is, small, below) in g)),
 )

@@ -1,5 +1,5 @@
 -- Sums of lengths whose parts are added one after another.
-use Rattle.std.proofs.Common.{◌≡◌, ℕ, ◌+◌, ◌-◌, ◌≤◌, List, [], ◌∷◌, ◌++◌, Option, Some, None, refl, sym, subst, arith, inl, inr}
+use Rattle.std.proofs.Common.{◌≡◌, ℕ, ◌+◌, ◌≤◌, List, [], ◌∷◌, ◌++◌, Option, Some, None, refl, sym, subst, arith, inl, inr}
 use Rattle.std.specs.Prelude.{◌↔◌, ◌⊎◌}
 use Rattle.etcs_rows.specs.declared.progression.Progression.{Progression}
 use Rattle.etcs_rows.specs.declared.total.Times.{Times}
@@ -8,7 +8,7 @@ use Rattle.etcs_rows.specs.Progressions.{InProgression, IsProgression, TimesWith
 use Rattle.etcs_rows.specs.Sums.{Plus}
 use Rattle.etcs_rows.specs.Totals.{InTimes, InTotal, InSums, AreTotal}
 use Rattle.etcs_rows.proofs.LengthLemmas.{SameSet, set_along, set_back, set_self, Plus-same}
-use Rattle.etcs_rows.proofs.RowSums.{zero-Plus, Plus-assoc}
+use Rattle.etcs_rows.proofs.RowSums.{zero-Plus}
 use Rattle.etcs_rows.proofs.StepLemmas.{in_first}
 
 pub total_first : (t : Total) (m : ℕ) → InTotal t m → t.steps.first ≤ m
@@ -42,6 +42,19 @@ no_slack S m = (
   λ (j, k, s, l, e). (let none : k ≤ 0 = l in let same : j ≡ m = omega (arith, none, e) in subst S same s),
   λ s. (m, 0, s, (let t : 0 ≤ 0 = omega arith in t), (let t : m + 0 ≡ m = omega arith in t)),
 )
+
+-- what there is without slack
+pub total_alone : (t : Total) → t.times ≡ None → t.slack ≡ 0 → SameSet (InProgression t.steps) (InTotal t)
+total_alone t e f =
+    let S = InProgression t.steps in
+    let all : SameSet (Plus S (AtMost 0)) (InTotal t) = subst (λ (x : ℕ). SameSet (Plus S (AtMost x)) (InTotal t)) f (total_free t e) in
+    set_along S (Plus S (AtMost 0)) (InTotal t) (set_back (Plus S (AtMost 0)) S (no_slack S)) all
+
+pub total_group : (t : Total) (g : Times) → t.times ≡ Some g → t.slack ≡ 0 → SameSet (Plus (InProgression t.steps) (TimesWithin g.group g.first g.last)) (InTotal t)
+total_group t g e f =
+    let S = InProgression t.steps in let G = TimesWithin g.group g.first g.last in
+    let all : SameSet (Plus S (Plus G (AtMost 0))) (InTotal t) = subst (λ (x : ℕ). SameSet (Plus S (Plus G (AtMost x))) (InTotal t)) f (total_parts t (Some g) e) in
+    set_along (Plus S G) (Plus S (Plus G (AtMost 0))) (InTotal t) (Plus-same S G S (Plus G (AtMost 0)) (set_self S) (set_back (Plus G (AtMost 0)) G (no_slack G))) all
 
 -- ---- One more part.
 
@@ -80,25 +93,6 @@ total_with t u group first last none d e f =
     let all : SameSet (Plus S (Plus T K)) (InTotal u) = named u t.steps (Some (record { group = group; first = first; last = last })) t.slack d e f in
     set_along (InTotal u) (Plus S (Plus T K)) (Plus (InTotal t) T) (set_back (Plus S (Plus T K)) (InTotal u) all)
     (set_along (Plus S (Plus T K)) (Plus (Plus S K) T) (Plus (InTotal t) T) (between S K T) (Plus-same (Plus S K) T (InTotal t) T (total_free t none) (set_self T)))
-
--- slack is added to slack
-slack_sum : (a b : ℕ) → SameSet (AtMost (a + b)) (Plus (AtMost a) (AtMost b))
-slack_sum a b m = (
-  λ l. (let small : m ≤ a + b = l in (m - b, m - (m - b), (let t : m - b ≤ a = omega (arith, small) in t), (let t : m - (m - b) ≤ b = omega arith in t), (let t : m - b + (m - (m - b)) ≡ m = omega arith in t))),
-  λ (j, k, x, y, e). (let p : j ≤ a = x in let q : k ≤ b = y in let t : m ≤ a + b = omega (arith, p, q, e) in t),
-)
-
-pub total_slack : (t u : Total) (more : ℕ) → u.steps ≡ t.steps → u.times ≡ t.times → u.slack ≡ t.slack + more → AreTotal u (Plus (InTotal t) (AtMost more))
-total_slack t u more d e f =
-    let S = InProgression t.steps in let T = InTimes t.times in let K = AtMost t.slack in let M = AtMost more in let A = AtMost (t.slack + more) in
-    let all : SameSet (Plus S (Plus T A)) (InTotal u) = named u t.steps t.times (t.slack + more) d e f in
-    let own : SameSet (Plus S (Plus T K)) (InTotal t) = total_parts t t.times refl in
-    set_along (InTotal u) (Plus S (Plus T A)) (Plus (InTotal t) M) (set_back (Plus S (Plus T A)) (InTotal u) all)
-    (set_along (Plus S (Plus T A)) (Plus S (Plus (Plus T K) M)) (Plus (InTotal t) M)
-    (Plus-same S (Plus T A) S (Plus (Plus T K) M) (set_self S)
-    (set_along (Plus T A) (Plus T (Plus K M)) (Plus (Plus T K) M) (Plus-same T A T (Plus K M) (set_self T) (slack_sum t.slack more)) (set_back (Plus (Plus T K) M) (Plus T (Plus K M)) (Plus-assoc T K M))))
-    (set_along (Plus S (Plus (Plus T K) M)) (Plus (Plus S (Plus T K)) M) (Plus (InTotal t) M) (set_back (Plus (Plus S (Plus T K)) M) (Plus S (Plus (Plus T K) M)) (Plus-assoc S (Plus T K) M))
-    (Plus-same (Plus S (Plus T K)) M (InTotal t) M own (set_self M))))
 
 -- ---- Several totals.
 

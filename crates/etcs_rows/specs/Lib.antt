@@ -3,6 +3,7 @@ pub mod Frames
 pub mod Heads
 pub mod Lengths
 pub mod Messages
+pub mod Nearest
 pub mod Places
 pub mod Sets
 pub mod Progressions

@@ -24,7 +24,6 @@ AreTotal t A = (m : ℕ) → InTotal t m ↔ A m
 abbrev pub InAdded : Added → ℕ → Type 0
 InAdded (added.Steps s) m = InProgression s m
 InAdded (added.Times t) m = TimesWithin t.group t.first t.last m
-InAdded (added.Slack n) m = AtMost n m
 
 -- the numbers of one of the sums
 abbrev pub InSums : List Total → ℕ → Type 0

@@ -7,6 +7,7 @@ ghost use Rattle.std.specs.Simd.Lanes.{zip2, chunk, put_chunk};
 ghost use Rattle.etcs_rows.specs.Sets.{In, Has, Adds, TakesIn, AnyFlag, AnyHas, shifted_word};
 ghost use Rattle.etcs_rows.specs.Sums.{Plus};
 
+use crate::near::Near;
 use std::simd::u64x4;
 
 /// A set of numbers from 0 to 8191, such as the lengths in bits that a part of a row may have.
@@ -20,6 +21,7 @@ pub struct LengthSet {
 
 impl LengthSet {
     ghost use Rattle.etcs_rows.specs.Sums.{SumOf};
+    ghost use Rattle.etcs_rows.specs.Nearest.{IsLast, IsFirst, IsNear};
 
     /// The set with no number.
     pub(crate) fn empty() -> LengthSet
@@ -100,6 +102,44 @@ impl LengthSet {
     {
         let high = high.min(8191);
         low <= high && any_between(&self.words, low, high)
+    }
+
+    /// Those next to a number of at most 8191.
+    pub(crate) fn around(&self, number: usize) -> Near
+        requires { number ≤ 8191 }
+        ensures { IsNear (In self.now) number result }
+    {
+        Near {
+            below: self.last_to(number),
+            above: self.first_from(number),
+        }
+    }
+
+    /// The greatest that isn't above a number.
+    fn last_to(&self, number: usize) -> Option<usize>
+        requires { number ≤ 8191 }
+        ensures { IsLast (λ m. In self.now m × (m ≤ number)) result }
+    {
+        let mut end = number.saturating_add(1);
+        while end > 0 {
+            end -= 1;
+            if self.holds(end) {
+                return Some(end);
+            }
+        }
+        None
+    }
+
+    /// The least that isn't below a number.
+    fn first_from(&self, number: usize) -> Option<usize>
+        ensures { IsFirst (λ m. In self.now m × (number ≤ m)) result }
+    {
+        for n in number..8192usize {
+            if self.holds(n) {
+                return Some(n);
+            }
+        }
+        None
     }
 }
 

@@ -4,6 +4,7 @@ ghost use Rattle.std.specs.Prelude.{◌≡◌, ◌↔◌, false, ℕ, ◌+◌, �
 ghost use Rattle.etcs_tables.specs.Layouts.{layout, passes, guarded, counted, looks, Lengths};
 ghost use Rattle.etcs_rows.specs.Lengths.{FitsWithin, is_free};
 ghost use Rattle.etcs_rows.specs.Sets.{In};
+ghost use Rattle.etcs_rows.specs.Nearest.{IsNear};
 ghost use Rattle.etcs_rows.specs.Places.{first_variable, after_any, after_number};
 
 use crate::fitting::{
@@ -12,9 +13,9 @@ use crate::fitting::{
 use crate::head::{Head, first_item, has_group};
 use crate::length_set::LengthSet;
 use crate::measure::{first_lengths, lengths_of};
+use crate::near::Near;
 use crate::progression::{Progression, steps_again};
 use crate::takers::Kept;
-use crate::total::Added;
 use arrayvec::ArrayVec;
 use etcs_tables::{Guard, Row, RowItem};
 use etcs_vars::Var;
@@ -419,20 +420,17 @@ impl Reach {
         Reach { place, sums }
     }
 
-    /// Whether what is left of the row has a spelling whose number of bits is from `low` to `high`, both included.
-    pub fn any(&self, low: usize, high: usize) -> bool
-        ensures { IsTrue result ↔ ((m : ℕ) × Lengths self.now [] m × (low ≤ m) × (m ≤ high)) }
+    /// The numbers of bits, up to 8191, that what is left of the row may have, next to a number of at most 8191.
+    pub fn around(&self, bits: usize) -> Near
+        requires { bits ≤ 8191 }
+        ensures { IsNear (λ m. Lengths self.now [] m) bits result }
     {
-        let most = high.min(8191);
-        if most < low {
-            return false;
-        }
         if let Some(sums) = &self.sums {
-            if let Some(answer) = sums.any(Added::Slack(most - low), most) {
-                return answer;
+            if let Some(near) = sums.around(bits) {
+                return near.to(8191);
             }
         }
-        self.place.meets(low, high)
+        self.place.lengths().around(bits)
     }
 }
 

@@ -3,6 +3,7 @@
 ghost use Rattle.std.specs.Prelude.{◌≡◌, ◌↔◌, ℕ, ◌+◌, ◌*◌, ◌<◌, ◌≤◌, true, false, IsTrue, IfSome, ◌⊎◌, length};
 
 use crate::head::{Alone, Head, Looked, after_groups, first_item, has_group, only_group};
+use crate::near::Near;
 use etcs_tables::{RowItem, Test};
 use etcs_vars::Var;
 
@@ -17,6 +18,7 @@ pub struct Progression {
 impl Progression {
     ghost use Rattle.etcs_rows.specs.Progressions.{InProgression, IsProgression, InAny, AtMost};
     ghost use Rattle.etcs_rows.specs.Sums.{Plus, SumOf};
+    ghost use Rattle.etcs_rows.specs.Nearest.{IsLast, IsFirst, IsNear};
 
     /// One number.
     pub(crate) fn single(number: usize) -> Progression
@@ -56,6 +58,47 @@ impl Progression {
         }
         let index = (over / self.step).min(self.count);
         over - index * self.step <= slack
+    }
+
+    /// The greatest that isn't above a number.
+    fn last_to(self, number: usize) -> Option<usize>
+        ensures { IsLast (λ m. InProgression self m × (m ≤ number)) result }
+    {
+        if number < self.first {
+            return None;
+        }
+        if self.step == 0 {
+            return Some(self.first);
+        }
+        let index = ((number - self.first) / self.step).min(self.count);
+        Some(self.first + index * self.step)
+    }
+
+    /// The least that isn't below a number, unless it is too great.
+    fn first_from(self, number: usize) -> Option<Option<usize>>
+        ensures { IfSome result (λ n. IsFirst (λ m. InProgression self m × (number ≤ m)) n) }
+    {
+        if number <= self.first {
+            return Some(Some(self.first));
+        }
+        if self.step == 0 {
+            return Some(None);
+        }
+        let index = (number - self.first - 1) / self.step + 1;
+        if index > self.count {
+            return Some(None);
+        }
+        Some(Some(self.at(index)?))
+    }
+
+    /// Those next to a number.
+    pub(crate) fn around(self, number: usize) -> Option<Near>
+        ensures { IfSome result (λ n. IsNear (InProgression self) number n) }
+    {
+        Some(Near {
+            below: self.last_to(number),
+            above: self.first_from(number)?,
+        })
     }
 
     /// The number after this many steps.

@@ -3,7 +3,9 @@
 ghost use Rattle.std.specs.Prelude.{◌≡◌, ◌↔◌, IsTrue, IfSome, []};
 ghost use Rattle.etcs_rows.specs.Totals.{InSums, InAdded};
 ghost use Rattle.etcs_rows.specs.Sums.{Plus};
+ghost use Rattle.etcs_rows.specs.Nearest.{IsNear};
 
+use crate::near::Near;
 use crate::total::{Added, Total};
 use arrayvec::ArrayVec;
 
@@ -76,11 +78,31 @@ impl Kept {
         }
     }
 
+    /// Those next to a number.
+    pub(crate) fn around(&self, number: usize) -> Option<Near>
+        ensures { IfSome result (λ n. IsNear (InSums self.now.sums.items) number n) }
+    {
+        sums_around(self.sums.as_slice(), number)
+    }
+
     /// Whether one with this added makes the number.
     pub(crate) fn any(&self, added: Added, number: usize) -> Option<bool>
         ensures { IfSome result (λ b. IsTrue b ↔ Plus (InSums self.now.sums.items) (InAdded added) number) }
     {
         any_sum(self.sums.as_slice(), added, number)
+    }
+}
+
+/// Those of the sums that are next to a number.
+fn sums_around(sums: &[Total], number: usize) -> Option<Near>
+    ensures { IfSome result (λ n. IsNear (InSums sums.now) number n) }
+{
+    match sums.split_first() {
+        None => Some(Near::none()),
+        Some((sum, rest)) => {
+            let near = sum.around(number)?;
+            Some(near.or(sums_around(rest, number)?))
+        }
     }
 }
 

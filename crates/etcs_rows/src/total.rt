@@ -4,7 +4,9 @@ ghost use Rattle.std.specs.Prelude.{◌↔◌, ℕ, IsTrue, IfSome};
 ghost use Rattle.etcs_rows.specs.Progressions.{InProgression, TimesWithin, AtMost};
 ghost use Rattle.etcs_rows.specs.Totals.{InTotal, InAdded, AreTotal};
 ghost use Rattle.etcs_rows.specs.Sums.{Plus};
+ghost use Rattle.etcs_rows.specs.Nearest.{IsNear};
 
+use crate::near::Near;
 use crate::progression::Progression;
 
 /// How many bits a group takes each time, and how often it may occur.
@@ -45,8 +47,6 @@ pub enum Added {
     Steps(Progression),
     /// A group.
     Times(Times),
-    /// A number from 0 to this one.
-    Slack(usize),
 }
 
 impl Total {
@@ -83,10 +83,6 @@ impl Total {
         match added {
             Added::Steps(more) => self.plus(more),
             Added::Times(times) => self.with_times(times),
-            Added::Slack(more) => {
-                let slack = self.slack.checked_add(more)?;
-                Some(Total { slack, ..self })
-            }
         }
     }
 
@@ -100,6 +96,19 @@ impl Total {
                 ..self
             }),
             Some(_) => None,
+        }
+    }
+
+    /// Those next to a number, where there is no slack.
+    pub(crate) fn around(self, number: usize) -> Option<Near>
+        ensures { IfSome result (λ n. IsNear (InTotal self) number n) }
+    {
+        if self.slack > 0 {
+            return None;
+        }
+        match self.times {
+            None => self.steps.around(number),
+            Some(times) => times_around(self.steps, times, number),
         }
     }
 
@@ -129,4 +138,17 @@ fn any_times(sum: Progression, times: Times, slack: usize, number: usize) -> Opt
         }
     }
     Some(false)
+}
+
+/// The sums next to a number of a number of the steps and a group as often as it may be there.
+fn times_around(sum: Progression, times: Times, number: usize) -> Option<Near>
+    ensures { IfSome result (λ n. IsNear (Plus (InProgression sum) (TimesWithin times.group times.first times.last)) number n) }
+{
+    let end = times.last.checked_add(1)?;
+    let mut near = Near::none();
+    for count in times.first..end {
+        let all = sum.plus(times.group.times(count)?)?;
+        near = near.or(all.around(number)?);
+    }
+    Some(near)
 }

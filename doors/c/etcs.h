@@ -61,7 +61,7 @@ enum {
     ETCS_BAD_JSON = 6,     /* no item of the kind has this JSON */
     ETCS_BAD_FIELDS = 7,   /* a number doesn't fit its width, or the item that their bits begin with has other fields */
     ETCS_EMPTY_LINE = 8,   /* the line is blank, or a comment */
-    ETCS_NO_DIGITS = 9,    /* the line has no digits */
+    ETCS_NO_DIGITS = 9,    /* the line has no digits at its end, and nowhere 20 */
     ETCS_ODD_DIGITS = 10,  /* the number of the line's digits is odd: answer.taken of them */
     /* a telegram doesn't belong to the group of those before it */
     ETCS_CLASH_POSITION = 11,  /* its N_PIG is above N_TOTAL */

@@ -25,7 +25,7 @@ pub const BAD_JSON: u32 = 6;
 pub const BAD_FIELDS: u32 = 7;
 /// A line is blank, or a comment.
 pub const EMPTY_LINE: u32 = 8;
-/// A line has no digits.
+/// A line has no digits at its end, and nowhere 20.
 pub const NO_DIGITS: u32 = 9;
 /// The number of a line's digits is odd.
 pub const ODD_DIGITS: u32 = 10;

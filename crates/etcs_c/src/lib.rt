@@ -4,7 +4,8 @@
 //!
 //! Each call but [`etcs_line_front`] returns a status. In addition to those that a call's comment names there are `ETCS_OK` if it
 //! did what it is for, `ETCS_NO_ROOM` if `out` is shorter than `written` of the answer, `ETCS_NO_MEMORY` if memory was
-//! refused, and `ETCS_UNKNOWN_KIND` if no kind has the number `kind`. After the last three `out` is as before.
+//! refused, and `ETCS_UNKNOWN_KIND` if no kind has the number `kind`. `out` changes only with `ETCS_OK`, or with a status
+//! with which the call's comment says that something is written.
 #![tactic(auto)]
 
 mod answer;
@@ -215,8 +216,8 @@ pub extern "C" fn etcs_explain_json(
 }
 
 /// Writes what a number of a variable means in an item of the kind, in the words of `explain`; returns the variable's name.
-/// A distance is in the unit that `scale`, a number of Q_SCALE, gives, and has no meaning if that is none of 0, 1 and 2.
-/// `ETCS_BAD_FIELDS` if no variable has the number `var`.
+/// Nothing is written where the number has no meaning. A distance is written in metres by `scale`, a number of Q_SCALE, and
+/// has no meaning if that is none of 0, 1 and 2. `ETCS_BAD_FIELDS` if no variable has the number `var`.
 #[unsafe(no_mangle)]
 pub extern "C" fn etcs_meaning(
     alloc: Global,
@@ -244,7 +245,8 @@ pub extern "C" fn etcs_meaning(
 }
 
 /// Writes the bytes that the hexadecimal digits of a line stand for, found by the rule of logs. `ETCS_EMPTY_LINE` if the
-/// line is blank or a comment, `ETCS_NO_DIGITS` if it has no digits, `ETCS_ODD_DIGITS` with their number if that is odd.
+/// line is blank or a comment, `ETCS_NO_DIGITS` if it has none at its end and nowhere 20, `ETCS_ODD_DIGITS` with their
+/// number if that is odd.
 #[unsafe(no_mangle)]
 pub extern "C" fn etcs_line_bytes(
     alloc: Global,
@@ -257,8 +259,8 @@ pub extern "C" fn etcs_line_bytes(
     write_bytes(alloc, line, out, answer)
 }
 
-/// How many bytes are before the digits of a line, counting neither a byte order mark at its start nor blanks and tabs just
-/// before the digits.
+/// How many bytes are before the digits of a line, counting neither a byte order mark at its start nor blanks, tabs and CRs
+/// just before the digits. Without digits all of the line is before them.
 #[unsafe(no_mangle)]
 pub extern "C" fn etcs_line_front(line: &[u8]) -> usize
     ensures { result ≡ length (line_front line.now) }

@@ -46,7 +46,7 @@ impl Level23Ma {
     ///
     /// - `dir`: Q_DIR, for which direction of the train it holds (0 reverse, 1 nominal, 2 both);
     /// - `q_scale`: the unit of all distances (0: 10 cm, 1: 1 m, 2: 10 m);
-    /// - `v_loa`: V_LOA, the speed at the limit of the authority, in 5 km/h, at most 120;
+    /// - `v_loa`: V_LOA, the speed at the limit of the authority, in steps of 5 km/h, at most 120 of them;
     /// - `t_loa`: T_LOA, how long that speed holds, in seconds; 1023 is unlimited;
     /// - `authority`: its sections, and what is after them.
     ///
@@ -76,7 +76,7 @@ impl Level23Ma {
         self.q_scale
     }
 
-    /// V_LOA: the speed at the limit of the authority, in 5 km/h, at most 120.
+    /// V_LOA: the speed at the limit of the authority, in steps of 5 km/h, at most 120 of them.
     pub fn v_loa(&self) -> u8
         ensures { result ≡ self.now.v_loa }
     {

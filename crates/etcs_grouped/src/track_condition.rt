@@ -45,7 +45,7 @@ impl TrackCondition {
     ///
     /// # Errors
     ///
-    /// The first of these, and what it should have said: [`BuildFault::NotAdmitted`] with Q_DIR or Q_SCALE, above 2, or
+    /// The first of these, and the state: [`BuildFault::NotAdmitted`] with Q_DIR or Q_SCALE, above 2, or
     /// with D_TRACKINIT, above 32,767; [`BuildFault::TooMany`] with N_ITER, where there are more than 31 further
     /// conditions.
     pub fn new(

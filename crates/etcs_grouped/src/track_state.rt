@@ -13,7 +13,7 @@ use etcs_vars::inner::{VarSink, Variables};
 use etcs_vars::{BuildFault, Var};
 use std::alloc::{AllocError, Global};
 
-/// What packet 68 says.
+/// What packet 68 says (SUBSET-026, 7.4.2). Distances are in steps of Q_SCALE.
 #[derive(Debug, Drop, PartialEq, Eq)]
 pub enum TrackState {
     /// The initial states are resumed from this distance on, D_TRACKINIT.

@@ -21,7 +21,7 @@ pub fn dir(packet: &Packet) -> Option<u8>
     packet.dir()
 }
 
-/// The bits after L_PACKET of a packet that is kept as bits.
+/// The bits after L_PACKET of a packet that is kept as bits. `None` for any other.
 pub fn kept_bits(packet: &Packet) -> Option<BitSlice<'_>>
     ensures { result ≡ kept_of (packet_value packet.now) }
 {

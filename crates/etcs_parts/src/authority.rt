@@ -51,7 +51,7 @@ impl Authority {
     /// - `end_timer` is T_ENDTIMER in seconds, where 1023 is unlimited, and D_ENDTIMERSTARTLOC,
     ///   the distance from the timer's start to the end of the authority, in steps of Q_SCALE.
     /// - `danger_point` is D_DP, its distance from the end of the authority in steps of Q_SCALE,
-    ///   and the release speed V_RELEASEDP in 5 km/h: 0 to 120, 126 is calculated on board, 127
+    ///   and the release speed V_RELEASEDP in steps of 5 km/h: 0 to 120, 126 is calculated on board, 127
     ///   is the national value.
     /// - `overlap` is D_STARTOL, the distance from the timer's start to the end of the authority,
     ///   T_OL in seconds, where 1023 is unlimited, D_OL, the distance from the end of the
@@ -103,7 +103,7 @@ impl Authority {
     }
 
     /// The time in seconds, where 1023 is unlimited, and the distance from the timer's start to
-    /// the end of the authority, in steps of Q_SCALE.
+    /// the end of the authority, in steps of Q_SCALE. `None` without an end timer.
     pub fn end_timer(&self) -> Option<(u16, u16)>
         ensures { result ≡ self.now.end_timer }
     {
@@ -111,7 +111,7 @@ impl Authority {
     }
 
     /// The danger point's distance from the end of the authority, in steps of Q_SCALE, and the
-    /// release speed in 5 km/h, where 126 is calculated on board and 127 the national value.
+    /// release speed in steps of 5 km/h, where 126 is calculated on board and 127 the national value. `None` without one.
     pub fn danger_point(&self) -> Option<(u16, u8)>
         ensures { result ≡ self.now.danger_point }
     {
@@ -120,8 +120,8 @@ impl Authority {
 
     /// The distance from the start of the overlap's timer to the end of the authority, the time in
     /// seconds, where 1023 is unlimited, the distance to the end of the overlap, and the release
-    /// speed in 5 km/h, where 126 is calculated on board and 127 the national value. Distances
-    /// are in steps of Q_SCALE.
+    /// speed in steps of 5 km/h, where 126 is calculated on board and 127 the national value. Distances
+    /// are in steps of Q_SCALE. `None` without an overlap.
     pub fn overlap(&self) -> Option<(u16, u16, u16, u8)>
         ensures { result ≡ self.now.overlap }
     {

@@ -39,7 +39,7 @@ impl Differing {
     /// - `q_diff`: which category it is: 0 of cant deficiency, 1 another one, in place of that of cant deficiency,
     ///   2 another one, beside that of cant deficiency;
     /// - `category`: the number of NC_CDDIFF where `q_diff` is 0, of NC_DIFF where it is 1 or 2;
-    /// - `v_diff`: the speed of these trains, in 5 km/h.
+    /// - `v_diff`: the speed of these trains, in steps of 5 km/h.
     ///
     /// # Errors
     ///
@@ -74,7 +74,7 @@ impl Differing {
         self.category
     }
 
-    /// V_DIFF: the speed of the category's trains, in 5 km/h.
+    /// V_DIFF: the speed of the category's trains, in steps of 5 km/h.
     pub fn v_diff(&self) -> u8
         ensures { result ≡ self.now.v_diff }
     {

@@ -47,7 +47,9 @@ impl Link {
     ghost use Rattle.etcs_parts.specs.Links.{link_value, link_fault};
 
     /// The group `d_link` after the one before, in steps of Q_SCALE; `nid_c` is given where its country or
-    /// region is another.
+    /// region is another. `q_linkorientation` is `true` where the train passes it in its nominal direction, `q_linkreaction`
+    /// what the train does where it isn't found (0 train trip, 1 service brake, 2 nothing), `q_locacc` how exactly it is
+    /// placed, in metres.
     ///
     /// # Errors
     ///

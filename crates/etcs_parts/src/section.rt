@@ -51,7 +51,7 @@ impl Section {
     /// A section of this length, in steps of Q_SCALE.
     ///
     /// `timer` is T_SECTIONTIMER in seconds, where 1023 is unlimited, and
-    /// D_SECTIONTIMERSTOPLOC, the distance from the section's begin at which the timer stops, in
+    /// D_SECTIONTIMERSTOPLOC, the distance from the section's beginning at which the timer stops, in
     /// steps of Q_SCALE.
     ///
     /// # Errors
@@ -79,7 +79,7 @@ impl Section {
     }
 
     /// The time in seconds, where 1023 is unlimited, and the distance at which the timer stops, in
-    /// steps of Q_SCALE.
+    /// steps of Q_SCALE. `None` without a timer.
     pub fn timer(&self) -> Option<(u16, u16)>
         ensures { result ≡ self.now.timer }
     {

@@ -42,8 +42,8 @@ impl Slope {
 
     /// A gradient `g_a` from `d_gradient` on.
     ///
-    /// `d_gradient` is the distance to it, in steps of Q_SCALE. `q_gdir` says whether it is uphill.
-    /// `g_a` is in promille; 255 is the end of the profile.
+    /// `d_gradient` is the distance to it, in steps of Q_SCALE from the one before. `q_gdir` says whether it is uphill.
+    /// `g_a` is in per mille; 255 is the end of the profile.
     ///
     /// # Errors
     ///
@@ -56,7 +56,7 @@ impl Slope {
         fields!(build_part: d_gradient, q_gdir, g_a)
     }
 
-    /// The distance to the change, in steps of Q_SCALE.
+    /// The distance to the change, in steps of Q_SCALE from the one before.
     pub fn d_gradient(&self) -> u16
         ensures { result ≡ self.now.d_gradient }
     {
@@ -70,7 +70,7 @@ impl Slope {
         self.q_gdir
     }
 
-    /// The gradient in promille; 255 is the end of the profile.
+    /// The gradient in per mille; 255 is the end of the profile.
     pub fn g_a(&self) -> u8
         ensures { result ≡ self.now.g_a }
     {

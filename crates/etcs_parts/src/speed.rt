@@ -49,7 +49,7 @@ impl Speed {
     ///
     /// - `d_static`: how far it begins after the place of the speed before it, in steps of Q_SCALE (0: 10 cm,
     ///   1: 1 m, 2: 10 m);
-    /// - `v_static`: the speed in 5 km/h; 127 is the end of the profile;
+    /// - `v_static`: the speed in steps of 5 km/h; 127 is the end of the profile;
     /// - `q_front`: whether the speed ends where the front of the train comes to the next one, with no delay by the
     ///   length of the train;
     /// - `differing`: the speeds of categories of trains for which it differs.
@@ -79,7 +79,7 @@ impl Speed {
         self.d_static
     }
 
-    /// V_STATIC: the speed in 5 km/h; 127 is the end of the profile.
+    /// V_STATIC: the speed in steps of 5 km/h; 127 is the end of the profile.
     pub fn v_static(&self) -> u8
         ensures { result ≡ self.now.v_static }
     {

@@ -63,8 +63,9 @@ impl TextFrame {
     /// - `t_textdisplay`: T_TEXTDISPLAY, its duration in seconds, 0 to 1,023; 1,023 is unlimited.
     /// - `end`: the mode and level in which it ends.
     /// - `q_textconfirm`: Q_TEXTCONFIRM, whether the driver must confirm, 0 to 3; 0 is no confirmation.
-    /// - `confirm`: where he must, Q_CONFTEXTDISPLAY (whether his confirmation doesn't end the display), and where
-    ///   the confirmation is reported, NID_TEXTMESSAGE (0 to 255), NID_C (0 to 1,023) and NID_RBC (0 to 16,383).
+    /// - `confirm`: where he must, Q_CONFTEXTDISPLAY (`true` where his confirmation is one more condition for the end of
+    ///   the display, `false` where it always ends it), and where the confirmation is reported, NID_TEXTMESSAGE (0 to
+    ///   255), NID_C (0 to 1,023) and NID_RBC (0 to 16,383).
     ///
     /// # Errors
     ///

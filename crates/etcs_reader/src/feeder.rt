@@ -127,7 +127,7 @@ impl<R: Rest> Feeder<R> {
         }
     }
 
-    /// Takes the bits of a piece, up to the language's end, and says how many it was. All are taken where
+    /// Takes the bits of a piece, up to the language's end, and returns how many they were. All are taken where
     /// more are wanted.
     ///
     /// # Errors

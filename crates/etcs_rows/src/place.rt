@@ -248,7 +248,7 @@ impl Place {
         Place { cursor }
     }
 
-    /// The variable that comes next.
+    /// The variable that comes next. `None` where nothing is left.
     pub fn var(&self) -> Option<Var>
         ensures { result ≡ first_variable self.now }
     {
@@ -258,7 +258,7 @@ impl Place {
         }
     }
 
-    /// What is left after a number of the next variable, if it is admitted.
+    /// What is left after a number of the next variable. `None` where it isn't admitted, or nothing is left.
     pub fn after(&self, number: u64) -> Option<Place>
         ensures { result ≡ after_number self.now number }
     {

@@ -12,7 +12,8 @@ use std::alloc::AllocError;
 /// How many bits of its row the length of a packet can count.
 const ROW_LIMIT: usize = 8168;
 
-/// Whether the numbers are those of a spelling of the row of at most 8,168 bits, which is what L_PACKET leaves.
+/// Whether the numbers are those of a spelling of the row of at most 8,168 bits, which is what L_PACKET leaves to a packet
+/// to the train.
 pub fn admits_fields(row: Row, fields: &[u64]) -> bool
     ensures { IsTrue result ↔ AdmitsFields (layout row.items.now) fields.now }
 {

@@ -17,7 +17,7 @@ pub enum NoBytes {
     Empty,
     /// There are no digits at its end, nor enough for an item anywhere.
     NoDigits,
-    /// The number of its digits, this, is odd.
+    /// It has this number of digits, which is odd.
     OddDigits(usize),
 }
 

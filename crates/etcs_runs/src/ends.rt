@@ -31,8 +31,11 @@ pub trait Source {
 
     ghost failures: { Self → ℕ };
 
-    /// Reads some bytes into the buffer and says how many: 0 only at the end, or with no room.
-    /// `Failed` is any error of the reader; no byte is lost then.
+    /// Reads some bytes into the buffer and returns how many: 0 only at the end, or with no room.
+    ///
+    /// # Errors
+    ///
+    /// `Failed` for any error of the reader. No byte is lost then.
     fn read(&mut self, buffer: &mut [u8]) -> Result<usize, Failed>
         requires more_reads { reads self.old < 2 ^ 64 - 1 }
         requires more_failures { failures self.old < 2 ^ 64 - 1 }
@@ -59,8 +62,11 @@ pub trait Sink {
     /// How often `flush` was called. After 2^64 - 1 comes 0.
     ghost flushes: { Self → ℕ };
 
-    /// Writes some bytes of the piece from its front on and says how many.
-    /// `Failed` is any error of the writer; no byte was written then.
+    /// Writes some bytes of the piece from its front on and returns how many.
+    ///
+    /// # Errors
+    ///
+    /// `Failed` for any error of the writer. No byte was written then.
     fn write(&mut self, piece: &[u8]) -> Result<usize, Failed>
         requires { failures self.old < 2 ^ 64 - 1 }
         ensures bound { WritesAtMost result piece.now }
@@ -69,6 +75,10 @@ pub trait Sink {
         ensures unflushed { flushes self.new ≡ flushes self.old };
 
     /// Passes on what the writer may have kept back.
+    ///
+    /// # Errors
+    ///
+    /// `Failed` for any error of the writer. What was written before stays written.
     fn flush(&mut self) -> Result<(), Failed>
         requires { failures self.old < 2 ^ 64 - 1 }
         ensures bytes { Keeps (contents self.old) (contents self.new) }

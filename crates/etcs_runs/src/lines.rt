@@ -8,7 +8,7 @@ use memchr::memchr;
 /// How many characters a line has at most, but for those of `run` in hexadecimal.
 pub const MOST_LINE: usize = 1_048_576;
 
-/// The characters before the first LF, and those after it.
+/// The characters before the first LF, and those after it. `None` without a LF.
 pub fn split_line(text: &[u8]) -> Option<(&[u8], &[u8])>
     ensures some { IfSome result (λ p. (text.now ≡ p.0.now ++ 10 ∷ p.1.now) × IsLine p.0.now) }
     ensures none { IsNone result → IsLine text.now }

@@ -29,7 +29,7 @@ const MOST_READS: u64 = 16_000_000;
 ///
 /// - [`RunFault::Refused`] if no item continues with a bit, [`RunFault::Truncated`] if the input ends inside an item;
 /// - [`RunFault::BadHex`] if a line isn't pairs of hexadecimal digits or has more than 4,096 characters,
-///   [`RunFault::BadJson`] if no item of the kind has the JSON of a line;
+///   [`RunFault::BadJson`] if no item of the kind has the JSON of a line, or the line has more than 1,048,576 characters;
 /// - [`RunFault::Read`] if a read failed, [`RunFault::Write`] if a write failed, with how many bytes of the text the sink
 ///   took;
 /// - [`RunFault::Endless`] if the input isn't at its end after 16,000,000 reads, or continues after 1,000,000 items;

@@ -7,7 +7,7 @@ ghost use Rattle.etcs_telegram.specs.Telegrams.{header_of};
 use etcs_vars::{BuildFault, Var, check};
 use std::marker::Model;
 
-/// A telegram's header.
+/// A telegram's header of 50 bits (SUBSET-026, 8).
 #[derive(Clone, Copy, Debug, PartialEq, Eq)]
 pub struct Header {
     m_version: u8,

@@ -68,7 +68,8 @@ impl EntryReader {
     ///
     /// `Refused` with the first bit, counted from 0 in the item, with which no item continues, and the variable that holds
     /// it; `Memory` if memory is refused, at a bit with which an item continues, never within the first 6 bytes of a
-    /// telegram or the first 2 of a message. No clause says what the reader returns after a fault: make a new one.
+    /// telegram or the first 2 of a message. No clause says what the reader returns after these: make a new one. `Ended` if
+    /// the item is whole and wasn't taken; it still can be.
     #[inline(always)]
     pub fn feed(&mut self, piece: &[u8]) -> Result<Fed, ReadFault>
         ensures answer { (seen : List Bool) → self.old.progress ≡ reading seen → Feeds (EntryReads self.old.kind) seen (bits piece.now) result self.new.progress }

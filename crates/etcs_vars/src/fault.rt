@@ -10,7 +10,8 @@ use std::fmt;
 /// Why a packet, a telegram, a message or a part of one can't be built from these values.
 #[derive(Clone, Copy, Debug, PartialEq, Eq)]
 pub enum BuildFault {
-    /// The variable doesn't admit the number: it is spare, or too large for the variable's width.
+    /// The variable doesn't admit the number: it is spare, or too large for the variable's width. Also NID_PACKET or
+    /// NID_MESSAGE that the type or the message can't have, and PADDING of more bits than are left.
     NotAdmitted(Var),
     /// A group is there where its guard on the variable doesn't hold, or is missing where it does.
     Guard(Var),
@@ -20,8 +21,7 @@ pub enum BuildFault {
     Count,
     /// The packet, the telegram or the message would be longer than it may be.
     TooLong,
-    /// The fill isn't exactly the rest of the telegram, or the kept bits aren't those of any
-    /// length in bytes.
+    /// The fill isn't exactly the rest of the telegram, or a message that is kept as bits isn't 3 to 1,023 whole bytes.
     FillLength,
     /// Memory was refused.
     Memory,

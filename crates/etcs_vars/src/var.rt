@@ -40,7 +40,7 @@ pub enum Var {
     // The frame of a packet.
     /// The packet's number.
     NID_PACKET,
-    /// The direction for which the packet is valid.
+    /// The direction for which the packet is valid: 0 reverse, 1 nominal, 2 both.
     Q_DIR,
     /// The length of the packet in bits, with its frame.
     L_PACKET,
@@ -56,9 +56,9 @@ pub enum Var {
     D_LINK,
     /// Whether NID_C follows.
     Q_NEWCOUNTRY,
-    /// The direction in which the train passes the linked group.
+    /// The direction in which the train passes the linked group: 0 reverse, 1 nominal.
     Q_LINKORIENTATION,
-    /// What the train does where linking finds a fault.
+    /// What the train does where linking finds a fault: 0 train trip, 1 service brake, 2 nothing.
     Q_LINKREACTION,
     /// How exactly the place of the linked group is known, in metres.
     Q_LOCACC,
@@ -118,7 +118,7 @@ pub enum Var {
     V_STATIC,
     /// Whether the speed may rise with the train's front (1) or only with its end (0).
     Q_FRONT,
-    /// Which of NC_CDDIFF and NC_DIFF follows.
+    /// Which of NC_CDDIFF (0) and NC_DIFF (1 and 2) follows.
     Q_DIFF,
     /// A category of trains by cant deficiency.
     NC_CDDIFF,
@@ -162,7 +162,7 @@ pub enum Var {
     // Texts.
     /// The class of the text.
     Q_TEXTCLASS,
-    /// Whether one of the conditions for showing the text is enough, or all are needed.
+    /// Whether all conditions for showing the text must hold (1), or one is enough (0).
     Q_TEXTDISPLAY,
     /// The distance from which on the text is shown.
     D_TEXTDISPLAY,
@@ -176,7 +176,7 @@ pub enum Var {
     T_TEXTDISPLAY,
     /// Whether and how the driver confirms the text.
     Q_TEXTCONFIRM,
-    /// Whether the driver's confirmation ends the text.
+    /// Whether the driver's confirmation is one more condition for the text's end (1), or always ends it (0).
     Q_CONFTEXTDISPLAY,
     /// Whether the driver's confirmation is reported.
     Q_TEXTREPORT,

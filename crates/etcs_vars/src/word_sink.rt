@@ -12,7 +12,8 @@ use crate::word::Word;
 use etcs_bits::BitSlice;
 use std::alloc::AllocError;
 
-/// Bytes over whose first bits others are put, one after another. Bits that have no room are left out.
+/// Bytes over whose first bits others are put, one after another. Where these have no room, no clause says what the bytes
+/// hold.
 #[derive(Drop)]
 pub struct WordSink<'a> {
     bytes: &'a mut [u8],
@@ -125,7 +126,7 @@ impl<'a> WordSink<'a> {
         }
     }
 
-    /// Writes the last bits.
+    /// Writes the last bits, fewer than 64, with zeros after them: eight bytes in all, or as many as are left.
     pub fn finish(self)
         ensures { IsWritten self.entry self.exit.0.now }
     {

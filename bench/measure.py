@@ -48,7 +48,7 @@ TOP = os.path.dirname(HERE)
 README = os.path.join(HERE, "README.md")
 PROGRAM = os.path.join(TOP, "crates", "etcs", "out", "etcs")
 CACHE = os.environ.get("XDG_CACHE_HOME") or os.path.expanduser("~/.cache")
-FOLDER = os.environ.get("BENCH") or os.path.join(CACHE, "etcs_bench")
+FOLDER = os.path.abspath(os.environ.get("BENCH") or os.path.join(CACHE, "etcs_bench"))
 DOORS = ["C", "Python"]
 COMMANDS = {
     "check": ["check"],

@@ -80,8 +80,11 @@ def copy(folder):
     replaced = {there.get(name) for name in crates}
     made = [*crates.values(), *(it for it in lines if it not in replaced)]
     if made != lines:
-        with open(f"{folder}/crates.txt", "w", encoding="utf-8") as kept:
-            kept.write("".join(f"{it}\n" for it in made))
+        # a full disk leaves the lines that are there
+        path = os.path.realpath(f"{folder}/crates.txt")
+        with open(f"{path}.new", "w", encoding="utf-8") as new:
+            new.write("".join(f"{it}\n" for it in made))
+        os.replace(f"{path}.new", path)
     return len(crates)
 
 
@@ -100,7 +103,7 @@ def main(words):
             print(f"{copy(folder)} crates and their lines of crates.txt are in {folder}")
         found = list(differences(folder))
     except OSError as error:
-        print(f"{error.filename}: {error.strerror}", file=sys.stderr)
+        print(f"{error.filename or folder}: {error.strerror}", file=sys.stderr)
         return 2
     print("\n".join(found) or "the library is there, whole and unchanged")
     return 1 if found else 0

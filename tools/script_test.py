@@ -459,20 +459,34 @@ def check_install(room):
         room.check(named == found.keys() - {"bin/other"}, f"install {words}: named {named ^ found.keys()}")
         room.check(sums_hold(f"{room.folder}/{where}", sums), f"install {words}: sums")
         room.check(found.get("bin/other", b"kept") == b"kept", f"install {words}: another's file")
-        calls = ["build.py", "build"] if where == "in to" else ["build"]
+        calls = ["build.py", "build"] if where != "in to" else ["build.py", "build.py", "build"]
         room.check(room.calls() == calls, f"install {words}: built at the wrong time")
 
 
 def check_piped(room):
-    """If nothing reads the names that it writes, the installation is whole all the same."""
+    """If nothing reads the names that it writes, the installation is whole all the same, and says so."""
     read, write = os.pipe()
     os.close(read)
     started = room.start(["install", "dist"], stdout=write)
     os.close(write)
-    started.communicate(timeout=LIMIT)
+    _, faults = started.communicate(timeout=LIMIT)
+    room.check(started.returncode == 0 and faults.endswith(b"etcs: installed: dist\n"), f"install without a reader: {faults}")
     found = files_of(f"{room.folder}/dist")
     room.check(sums_hold(f"{room.folder}/dist", "SHA256SUMS") and not [it for it in found if it.startswith(".")], "install without a reader")
     room.check(not [it for it in os.listdir(f"{room.folder}/dist") if it.startswith(".")], "install without a reader: a folder is left")
+
+
+def check_replaced(room):
+    """What an earlier installation below a prefix wrote is replaced, or removed if a new one doesn't have it."""
+    room.build()
+    room.answer(["install", "--prefix", "to"])
+    room.write("to/share/etcs/earlier", "")
+    room.write("to/share/etcs/other", "")
+    with open(f"{room.folder}/to/share/doc/etcs/SHA256SUMS", "a", encoding="ascii") as sums:
+        sums.write(f"{'0' * 64}  ./share/etcs/earlier\n")
+    status, _, faults = room.answer(["install", "--prefix", "to"])
+    room.check(status == 0 and not room.is_there("to/share/etcs/earlier"), f"install again: an earlier file is left: {faults}")
+    room.check(room.is_there("to/share/etcs/other"), "install again: another's file is gone")
 
 
 def check_refused(room):
@@ -604,7 +618,7 @@ def check_bench(room):
 CHECKS = (
     check_help, check_words, check_age, check_look, check_same, check_try, check_terminal, check_faults, check_build, check_ended,
     check_two, check_unwritable, check_install, check_refused, check_no_room, check_environment, check_library, check_names,
-    check_bench, check_piped,
+    check_bench, check_piped, check_replaced,
 )  # fmt: skip
 
 

@@ -17,17 +17,19 @@ int main(int argc, char **argv) {
     etcs_kind kind = !strcmp(argv[2], "long") ? ETCS_LONG : !strcmp(argv[2], "short") ? ETCS_SHORT
         : !strcmp(argv[2], "train") ? ETCS_TRAIN : ETCS_RADIO;
     FILE *file = fopen(argv[3], "rb");
+    if (!file) return 2;
     fseek(file, 0, SEEK_END);
     size_t len = (size_t)ftell(file);
     rewind(file);
     uint8_t *bytes = malloc(len);
-    if (fread(bytes, 1, len, file) != len) return 2;
+    if (!bytes || fread(bytes, 1, len, file) != len) return 2;
     int count = atoi(argv[4]);
     etcs_answer answer = {0};
     size_t items = 0, sum = 0, lines = 0;
     char **texts = 0; size_t *lens = 0;
     if (!strcmp(call, "from_json")) {
-        texts = malloc(sizeof *texts * 300000); lens = malloc(sizeof *lens * 300000);
+        texts = malloc(sizeof *texts * (len + 1)); lens = malloc(sizeof *lens * (len + 1)); /* an item has a byte */
+        if (!texts || !lens) return 2;
         for (size_t at = 0; at < len; at += answer.taken) {
             if (etcs_to_json(kind, bytes + at, len - at, (uint8_t *)line, sizeof line, &answer)) return 3;
             texts[lines] = malloc(answer.written); memcpy(texts[lines], line, answer.written); lens[lines++] = answer.written;
@@ -59,6 +61,7 @@ int main(int argc, char **argv) {
         }
         if (!strcmp(call, "explain") || !strcmp(call, "before")) {
             size_t size = kind == ETCS_LONG ? 104 : 27;
+            if (kind > ETCS_SHORT || len % size) return 2;
             for (size_t at = 0; at < len; at += size, items++) {
                 bytes[at + size - 1] ^= 1;
                 etcs_status status = !strcmp(call, "before") ? etcs_fields_before(kind, bytes + at, size, fields, 8192, &answer)

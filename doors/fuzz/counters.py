@@ -12,6 +12,7 @@ doors/fuzz/unproved.py needs, and clang; if the library isn't there, building it
 import collections
 import os
 import re
+import shlex
 import subprocess
 import sys
 import tempfile
@@ -60,7 +61,7 @@ def reached_by(folders):
     """Returns a 1 or 0 for each counter."""
     with tempfile.TemporaryDirectory() as room:
         sources = [f"{TOP}/doors/fuzz/{it}.c" for it in ("counters", "fuzz", "mutate")]
-        words = [os.environ.get("CLANG") or "clang", "-std=gnu11", "-O1", f"-I{TOP}/doors/c", "-Wl,--wrap=malloc,--wrap=realloc,--wrap=free"]
+        words = [*shlex.split(os.environ.get("CLANG") or "clang"), "-std=gnu11", "-O1", f"-I{TOP}/doors/c", "-Wl,--wrap=malloc,--wrap=realloc,--wrap=free"]
         subprocess.run([*words, "-o", f"{room}/counters", *sources, f"{OUT}/counted/libetcs.a"], check=True)
         return subprocess.run([f"{room}/counters", *folders], check=True, text=True, stdout=subprocess.PIPE).stdout.strip()
 

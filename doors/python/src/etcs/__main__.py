@@ -1,6 +1,6 @@
 """A small `etcs` over the library, with a part of the program's command line.
 
-    python -m etcs show|check --kind long|short|radio [--from hex|bin] < FILE
+    python -m etcs show|check --kind long|short|radio|train [--from hex|bin|json] < FILE
     python -m etcs convert --kind .. --to json|hex|bin [--from hex|bin|json] < FILE
     python -m etcs fields --kind .. < FILE        each variable with its bit, which the program doesn't print
 

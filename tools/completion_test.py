@@ -36,7 +36,7 @@ ASKED = (
     ("etcs convert --kind short --to ", FORMS),
     ("etcs explain --kind radio --to ", "text html"),
     ("etcs show --f", "--from"),
-    ("etcs log --", "--kind --good --summary --help"),
+    ("etcs log --", "--kind --good --to --groups --summary --help"),
     ("etcs convert --kind short --t", "--to"),
     ("etcs check --kind=t", "train"),
     ("etcs help ", COMMANDS),

@@ -25,7 +25,9 @@ FUNCTION = r'(?:    )?(?:pub )?(?:const |unsafe |extern "C" )*fn (\w+)'
 
 def files():
     """Returns the paths in crates/ of the files of definitions and lemmas."""
-    places = ((place, names) for place, _, names in os.walk(f"{TOP}/crates") if re.search("/(specs|proofs)\\b", place))
+    # what is built has copies of them, in out/
+    parts = [f"{TOP}/crates/{name}/{part}" for name in os.listdir(f"{TOP}/crates") for part in ("specs", "proofs")]
+    places = ((place, names) for part in parts for place, _, names in os.walk(part))
     return [os.path.relpath(f"{place}/{it}", f"{TOP}/crates") for place, names in places for it in names]
 
 

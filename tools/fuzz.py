@@ -231,7 +231,7 @@ def spelled(pick, digits):
     after = [",", " ", "\r"]
     if len(digits) >= 20:  # fewer are taken at a line's end alone
         after += [" ; balise"] + [",OK", '"}'] * (len(text.split()) == 1)
-    return pick.choice(("", "", "12:00:03 ", "t=12 ", "RX\t", "line 1: ")) + text + pick.choice(("", *after))
+    return pick.choice(("", "", "12:00:03 ", "t=120 ", "RX\t", "line 1: ")) + text + pick.choice(("", *after))
 
 
 def changed_bytes(pick, given):

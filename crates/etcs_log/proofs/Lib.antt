@@ -2,6 +2,5 @@ pub mod Answering
 pub mod Counting
 pub mod Printed
 pub mod Endings
-pub mod ReaderPlaces
 pub mod Shown
 pub mod VisibleExamples

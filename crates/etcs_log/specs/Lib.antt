@@ -2,7 +2,6 @@ pub mod Candidates
 pub mod JsonLines
 pub mod LogGroups
 pub mod Logs
-pub mod Places
 pub mod Tries
 pub mod Stands
 pub mod Promised

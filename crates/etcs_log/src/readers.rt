@@ -1,9 +1,8 @@
 //! A reader of each kind.
 
-ghost use Rattle.std.specs.Prelude.{◌≡◌, ◌<◌, ◌∷◌, [], IfOk};
+ghost use Rattle.std.specs.Prelude.{◌≡◌, IfOk};
 ghost use Rattle.etcs_text.specs.declared.entry.Kind.TheVariants.{Long, Short, Radio, Train};
 ghost use Rattle.etcs_text.specs.Verdicts.{IsVerdict};
-ghost use Rattle.etcs_log.specs.Places.{place_of};
 
 use etcs_text::{Entry, Kind, SingleReader, Verdict};
 use std::alloc::{AllocError, Global};
@@ -11,34 +10,24 @@ use std::alloc::{AllocError, Global};
 /// Readers of all kinds. One takes no memory before it reads.
 #[derive(Drop)]
 pub(crate) struct Readers {
-    /// By their places.
-    readers: [SingleReader; 4],
-    ghost are_each: { readers ≡ Long ∷ Short ∷ Radio ∷ Train ∷ [] },
-}
-
-/// Where the reader of a kind is.
-fn place_of(kind: Kind) -> usize
-    ensures value { result ≡ place_of kind }
-    ensures within { result < 4 }
-{
-    match kind {
-        Kind::Long => 0,
-        Kind::Short => 1,
-        Kind::Radio => 2,
-        Kind::Train => 3,
-    }
+    long: SingleReader,
+    short: SingleReader,
+    radio: SingleReader,
+    train: SingleReader,
+    ghost is_long: { long ≡ Long },
+    ghost is_short: { short ≡ Short },
+    ghost is_radio: { radio ≡ Radio },
+    ghost is_train: { train ≡ Train },
 }
 
 impl Readers {
     /// Nothing was read.
     pub(crate) fn new(alloc: Global) -> Readers {
         Readers {
-            readers: [
-                SingleReader::new(alloc, Kind::Long),
-                SingleReader::new(alloc, Kind::Short),
-                SingleReader::new(alloc, Kind::Radio),
-                SingleReader::new(alloc, Kind::Train),
-            ],
+            long: SingleReader::new(alloc, Kind::Long),
+            short: SingleReader::new(alloc, Kind::Short),
+            radio: SingleReader::new(alloc, Kind::Radio),
+            train: SingleReader::new(alloc, Kind::Train),
         }
     }
 
@@ -50,14 +39,22 @@ impl Readers {
     pub(crate) fn read(&mut self, kind: Kind, bytes: &[u8]) -> Result<Verdict, AllocError>
         ensures { IfOk result (λ v. IsVerdict kind bytes.now v) }
     {
-        let readers = &mut self.readers;
-        readers[place_of(kind)].read(bytes)
+        match kind {
+            Kind::Long => self.long.read(bytes),
+            Kind::Short => self.short.read(bytes),
+            Kind::Radio => self.radio.read(bytes),
+            Kind::Train => self.train.read(bytes),
+        }
     }
 
     /// Takes the room of an item of the kind that isn't needed any more for the next ones that are read.
     #[inline(always)]
     pub(crate) fn reuse(&mut self, kind: Kind, entry: Entry) {
-        let readers = &mut self.readers;
-        readers[place_of(kind)].reuse(entry);
+        match kind {
+            Kind::Long => self.long.reuse(entry),
+            Kind::Short => self.short.reuse(entry),
+            Kind::Radio => self.radio.reuse(entry),
+            Kind::Train => self.train.reuse(entry),
+        }
     }
 }

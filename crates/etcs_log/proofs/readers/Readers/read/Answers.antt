@@ -1,10 +1,21 @@
-use Rattle.std.proofs.Common.{IfOk, subst}
+use Rattle.std.proofs.Common.{◌≡◌, ◌∙◌, IfOk, subst, sym}
 use Rattle.etcs_text.specs.declared.entry.Kind.{Kind}
+use Rattle.etcs_text.specs.declared.entry.Kind.TheVariants.{Long, Short, Radio, Train}
 use Rattle.etcs_text.specs.Verdicts.{IsVerdict}
-use Rattle.etcs_log.proofs.ReaderPlaces.{reader_at}
 use Rattle.etcs_log.proofs.readers.Readers.read.Goals as goal
 
-pub returns : goal.returns
-returns c =
-    let is = reader_at c.args.self.now.readers c.place_of.result c.args.kind c.index-readers-place_of.result c.args.self.now.are_each c.place_of.ensures.value in
-    subst (λ (k : Kind). IfOk c.read.result (λ v. IsVerdict k c.args.bytes.now v)) is c.read.ensures.verdict
+-- what holds of a reader's kind holds of the kind that is the same
+carried : (P : Kind → Type 0) (reader kind variant : Kind) → reader ≡ variant → kind ≡ variant → P reader → P kind
+carried P reader kind variant of is holds = subst P (of ∙ sym is) holds
+
+pub returns-in-Long : goal.returns-in-Long
+returns-in-Long c = carried (λ (k : Kind). IfOk c.read.result (λ v. IsVerdict k c.args.bytes.now v)) c.args.self.now.long c.args.kind Long c.args.self.now.is_long c.in-Long.is c.read.ensures.verdict
+
+pub returns-in-Short : goal.returns-in-Short
+returns-in-Short c = carried (λ (k : Kind). IfOk c.read-in-Short.result (λ v. IsVerdict k c.args.bytes.now v)) c.args.self.now.short c.args.kind Short c.args.self.now.is_short c.in-Short.is c.read-in-Short.ensures.verdict
+
+pub returns-in-Radio : goal.returns-in-Radio
+returns-in-Radio c = carried (λ (k : Kind). IfOk c.read-in-Radio.result (λ v. IsVerdict k c.args.bytes.now v)) c.args.self.now.radio c.args.kind Radio c.args.self.now.is_radio c.in-Radio.is c.read-in-Radio.ensures.verdict
+
+pub returns-in-Train : goal.returns-in-Train
+returns-in-Train c = carried (λ (k : Kind). IfOk c.read-in-Train.result (λ v. IsVerdict k c.args.bytes.now v)) c.args.self.now.train c.args.kind Train c.args.self.now.is_train c.in-Train.is c.read-in-Train.ensures.verdict

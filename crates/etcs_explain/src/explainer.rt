@@ -1,6 +1,6 @@
 //! Parts of an input explained, one after another.
 
-ghost use Rattle.std.specs.Prelude.{◌≡◌, ◌+◌, ◌<◌, ◌≤◌, ◌++◌, ◌∷◌, ℕ, List, [], true, false, Some, None, length, string_bytes, take, IfOk, IsTrue, OnErr, OnOk};
+ghost use Rattle.std.specs.Prelude.{◌≡◌, ◌+◌, ◌<◌, ◌≤◌, ◌++◌, ◌∷◌, ◌⊎◌, ℕ, List, [], true, false, Some, None, length, string_bytes, take, IfOk, IsTrue, OnErr, OnOk};
 ghost use Rattle.etcs_bits.specs.Bits.{bits};
 ghost use Rattle.etcs_vars.specs.Reading.{readings_of};
 ghost use Rattle.etcs_text.specs.Entries.{EntryReads};
@@ -276,8 +276,7 @@ impl Explainer {
                 break;
             }
             let account = Account::read(self.alloc, self.task.kind, rest)?;
-            // an item that isn't whole though its bytes are there doesn't come
-            if !is_last && is_open(&account) {
+            if !is_last && waits(self.task.from, &account, rest.len()) {
                 break;
             }
             at += self.item(rest, &lines[at..], &account, text)?;
@@ -425,10 +424,17 @@ fn long_fault(from: Form, line: u64) -> RunFault
     }
 }
 
-/// Whether the bytes of an account end inside the item.
-fn is_open(account: &Account) -> bool
-    ensures open { IsTrue result → (part : Part) × (account.now.end ≡ End.Open part) }
+/// Whether an item is explained only with more bytes, of which this many are there: where they end inside it, and in an
+/// input of bytes where it is refused, until there are as many as are shown; so nothing depends on how reads were cut.
+fn waits(from: Form, account: &Account, count: usize) -> bool
+    ensures waits { IsTrue result → ((part : Part) × (account.now.end ≡ End.Open part)) ⊎ (count < 1023) }
+    ensures whole { account.now.end ≡ End.Whole → result ≡ false }
     ensures other { result ≡ false → (part : Part) → account.now.end ≡ End.Open part → ⊥ }
 {
-    matches!(account.end, End::Open(_))
+    match account.end {
+        End::Whole => false,
+        // doesn't come, since the bytes of the item are there
+        End::Open(_) => true,
+        End::Refused(_, _) => from == Form::Bin && count < MOST_BYTES,
+    }
 }

@@ -64,10 +64,10 @@ pub(crate) fn write_no_json(line: &[u8], error: &Error, out: &mut Text)
 
 /// The longest front of a line with which JSON begins.
 fn front_of<'a>(line: &'a [u8], out: &mut Text) -> &'a [u8] {
-    let text = match std::str::from_utf8(line) {
+    let text = paired_front(match std::str::from_utf8(line) {
         Ok(_) => line,
         Err(error) => line.get(..error.valid_up_to()).unwrap_or(line),
-    };
+    });
     let mut found: &[u8] = &[];
     let mut step = MOST_JSON;
     for _ in 0..17 {
@@ -79,6 +79,69 @@ fn front_of<'a>(line: &'a [u8], out: &mut Text) -> &'a [u8] {
         step /= 2;
     }
     found
+}
+
+/// Where a line is in an escape. An escape from D800 to DBFF is the first half of a character, and the next has to be the
+/// other, from DC00 to DFFF.
+#[derive(Clone, Copy)]
+enum Escape {
+    /// In none.
+    Outside,
+    /// In none, after a first half.
+    Half,
+    /// After its backslash, and whether it is the other half.
+    Begun { is_other: bool },
+    /// After its `u`.
+    Digits { is_other: bool },
+    /// After the digit D.
+    HalfDigits { is_other: bool },
+    /// Before this many further digits, and whether it is a first half.
+    Rest { left: usize, is_half: bool },
+}
+
+impl Escape {
+    /// Where the line is after this byte. `None` where a half can't have it.
+    fn after(self, byte: u8) -> Option<Escape> {
+        match (self, byte) {
+            (Escape::Outside, b'\\') => Some(Escape::Begun { is_other: false }),
+            (Escape::Half, b'\\') => Some(Escape::Begun { is_other: true }),
+            (Escape::Begun { is_other }, b'u') => Some(Escape::Digits { is_other }),
+            (Escape::Digits { is_other }, b'D' | b'd') => Some(Escape::HalfDigits { is_other }),
+            (Escape::Digits { is_other: false }, _) => Some(rest_of(3, false)),
+            (Escape::HalfDigits { is_other }, b'C'..=b'F' | b'c'..=b'f') if is_other => {
+                Some(rest_of(2, false))
+            }
+            (Escape::HalfDigits { is_other: false }, b'0'..=b'7') => Some(rest_of(2, false)),
+            (Escape::HalfDigits { is_other: false }, b'8' | b'9' | b'A' | b'B' | b'a' | b'b') => {
+                Some(rest_of(2, true))
+            }
+            (Escape::Outside | Escape::Begun { is_other: false }, _) => Some(Escape::Outside),
+            (Escape::Rest { left, is_half }, _) => Some(rest_of(left.saturating_sub(1), is_half)),
+            _ => None,
+        }
+    }
+}
+
+/// Before this many further digits of an escape.
+fn rest_of(left: usize, is_half: bool) -> Escape {
+    match (left, is_half) {
+        (0, true) => Escape::Half,
+        (0, false) => Escape::Outside,
+        _ => Escape::Rest { left, is_half },
+    }
+}
+
+/// The front of a line before the first byte that half a character can't have; all of it where there is none. The parser
+/// reads on to the line's end before it refuses such a half.
+fn paired_front(line: &[u8]) -> &[u8] {
+    let mut escape = Escape::Outside;
+    for (place, byte) in line.iter().enumerate() {
+        match escape.after(*byte) {
+            Some(next) => escape = next,
+            None => return line.get(..place).unwrap_or(line),
+        }
+    }
+    line
 }
 
 /// Whether a text ends inside an escape of four digits, after a character that is none.

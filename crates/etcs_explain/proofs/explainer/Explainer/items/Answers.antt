@@ -1,4 +1,4 @@
-use Rattle.std.proofs.Common.{◌≡◌, ◌-◌, ℕ, List, [], false, drop, length, take, ap, refl, rules, subst, sym, ◌∙◌, arith}
+use Rattle.std.proofs.Common.{◌≡◌, ◌-◌, ◌<◌, inl, inr, ℕ, List, [], false, drop, length, take, ap, refl, rules, subst, sym, ◌∙◌, arith}
 use Rattle.std.proofs.lemmas.List.{length-drop, take_rest}
 use Rattle.std.proofs.lemmas.Result.{err_from_is_err_and}
 use Rattle.etcs_reasons.specs.declared.page.TheConstants.{HEAD}
@@ -10,7 +10,7 @@ use Rattle.etcs_explain.specs.Inputs.{placed}
 use Rattle.etcs_explain.specs.Stands.{AddsOne, ExplainsSome}
 use Rattle.etcs_explain.proofs.Parting.{explains_none, first_kept, first_some, items_further}
 use Rattle.etcs_explain.proofs.explainer.Explainer.items.Goals as goal
-use Rattle.etcs_explain.proofs.explainer.Explainer.items.Goals.{else-not-is_last-2-via-then-not-is_last-2+else-is_open, else-not-is_last-2-via-else-not-is_last-2}
+use Rattle.etcs_explain.proofs.explainer.Explainer.items.Goals.{else-not-is_last-2-via-then-not-is_last-2+else-waits, else-not-is_last-2-via-else-not-is_last-2}
 
 pub loop-at-init : goal.loop-at-init
 loop-at-init c = (search rules, refl, (λ last before. before), explains_none HEAD.now c.args.self.now.task c.args.self.now.seen c.args.text.now.items, (λ fault before. before))
@@ -42,7 +42,7 @@ loop-at-preserved c =
     let added1 = subst (λ (z : List ℕ). AddsOne HEAD.now l.self.task l.self.seen c.item.new.self.seen (placed (take n z) (take n (take (length bytes - l.at) (drop l.at bytes)))) [] l.text.items c.item.new.text.items) (take_rest lines l.at) e.ok in
     let added2 = subst (λ (z : List ℕ). AddsOne HEAD.now l.self.task l.self.seen c.item.new.self.seen (placed (take n (drop l.at lines)) (take n z)) [] l.text.items c.item.new.text.items) (take_rest bytes l.at) added1 in
     let added = subst (λ (z : Task). AddsOne HEAD.now z l.self.seen c.item.new.self.seen (placed (take n (drop l.at lines)) (take n (drop l.at bytes))) [] l.text.items c.item.new.text.items) l.invariant.1 added2 in
-    let other : c.args.is_last ≡ false → (part : Part) → c.in_ok-account.account.end ≡ Open part → ⊥ = λ last. elim c.else-not-is_last-2.branch [ else-not-is_last-2-via-then-not-is_last-2+else-is_open w ↦ w.is_open.ensures.other w.if-is_open.false | else-not-is_last-2-via-else-not-is_last-2 w ↦ let x = w.if-not-is_last-2.false in absurd cc ] in (
+    let other : c.args.is_last ≡ false → (part : Part) → c.in_ok-account.account.end ≡ Open part → ⊥ = λ last. elim c.else-not-is_last-2.branch [ else-not-is_last-2-via-then-not-is_last-2+else-waits w ↦ w.waits.ensures.other w.if-waits.false | else-not-is_last-2-via-else-not-is_last-2 w ↦ let x = w.if-not-is_last-2.false in absurd cc ] in (
       omega (arith, l.invariant.0, e.most, ap length (take_rest bytes l.at), length-drop l.at bytes),
       e.task ∙ l.invariant.1,
       (λ last before. e.uncut (other last) (l.invariant.2 last before)),
@@ -50,11 +50,10 @@ loop-at-preserved c =
       (λ fault before. first_kept HEAD.now task l.self.seen c.item.new.self.seen _ [] l.text.items c.item.new.text.items added fault (l.invariant.4 fault before)),
     )
 
-pub returns-then-is_open-clause-short : goal.returns-then-is_open-clause-short
-returns-then-is_open-clause-short c =
+pub returns-then-waits-clause-short : goal.returns-then-waits-clause-short
+returns-then-waits-clause-short c =
     let l = c.loop-at in
-    let o = c.is_open.ensures.open c.if-is_open.true in
-    let a = rw o.1 at c.in_ok-account.ensures in
     let bytes = c.args.bytes.now in
-    let short = open_short l.self.task.kind (take (length bytes - l.at) (drop l.at bytes)) a.1.viable a.1.open_end in
-    omega (arith, short, l.invariant.0, ap length (take_rest bytes l.at), length-drop l.at bytes)
+    let rest = take (length bytes - l.at) (drop l.at bytes) in
+    let few : length rest < 1023 = elim (c.waits.ensures.waits c.if-waits.true) [ inl o ↦ let a = rw o.1 at c.in_ok-account.ensures in open_short l.self.task.kind rest a.1.viable a.1.open_end | inr few ↦ few ] in
+    omega (arith, few, l.invariant.0, ap length (take_rest bytes l.at), length-drop l.at bytes)

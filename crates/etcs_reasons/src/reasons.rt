@@ -67,12 +67,12 @@ pub fn write_not_admitted(var: Var, number: Option<u64>, out: &mut Text)
     }
 }
 
-/// Appends the least length, where there is one, and whether there are more.
+/// Appends the least length and whether there are more; or, where L_PACKET can't say any, that all are greater.
 fn write_at_least(lengths: &Lengths, least: Option<usize>, out: &mut Text) {
     match least {
         Some(least) if lengths.is_last(least) => write!(out, "{least} bits"),
         Some(least) => write!(out, "at least {least} bits"),
-        None => out.push("no length"),
+        None => write!(out, "more than {MOST_LENGTH} bits"),
     }
 }
 
@@ -249,7 +249,7 @@ fn write_no_fit(front: &Front, var: Var, number: u64, out: &mut Text)
         Some(next) => {
             let before = bits_before(front).saturating_add(var.width());
             let lengths = Lengths::new(next, before);
-            let near = lengths.around(front.length.min(MOST_LENGTH));
+            let near = lengths.around(front.length);
             write_nearest(&lengths, near, out);
         }
         None => out.push("no length"),

@@ -25,7 +25,7 @@ static inline const char *etcs_status_text(etcs_status status)
     case ETCS_EMPTY_LINE: return "the line is blank, or a comment";
     case ETCS_NO_DIGITS: return "the line has no digits";
     case ETCS_ODD_DIGITS: return "the number of digits is odd";
-    case ETCS_CLASH_POSITION: return "the position is behind the group's last";
+    case ETCS_CLASH_POSITION: return "the position is after the group's last";
     case ETCS_CLASH_DUPLICATE: return "the position has no such neighbour to be a duplicate of";
     case ETCS_CLASH_GROUP: return "the telegram is of another group";
     case ETCS_CLASH_TOTAL: return "the telegram counts other balises in the group";

@@ -1,4 +1,4 @@
-//! Vectors of messages that are built of their parts: a head, and the variables of a message's own after a word.
+//! Vectors of messages that are built of their parts: a head, and after a word the message's own variables.
 //!
 //! To the train the head is T_TRAIN, M_ACK, NID_LRBG, and then follow `plain NID`, `time NID T_TRAIN`, `emergency NID NID_EM`,
 //! `authorisation Q_SCALE D_SR`, `version M_VERSION`, `shifted Q_SCALE D_REF` or `orientation Q_ORIENTATION`. To the track it is
@@ -56,7 +56,7 @@ fn radio(case: &mut Case) -> Option<Entry> {
     Some(Entry::Message(made(case, head, body, packets, padding)?))
 }
 
-/// The number and the variables of its own of a message to the train.
+/// The number of a message to the train and its own variables.
 fn radio_body(case: &mut Case) -> Body {
     match case.word() {
         "plain" => Body::Plain { nid: case.byte() },
@@ -113,7 +113,7 @@ fn train(case: &mut Case) -> Option<Entry> {
     Some(Entry::Train(made(case, head, body, packets, padding)?))
 }
 
-/// The number and the variables of its own of a message to the track.
+/// The number of a message to the track and its own variables.
 fn train_body(case: &mut Case) -> TrainBody {
     match case.word() {
         "plain" => TrainBody::Plain { nid: case.byte() },

@@ -6,7 +6,7 @@ use Rattle.etcs_group.specs.declared.fault.GroupFault.{GroupFault}
 use Rattle.etcs_group.specs.declared.fault.GroupFault.TheVariants.{NotWhole, Memory}
 
 abbrev pub clash_text : Clash → List ℕ
-clash_text BadPosition = codes "the position is behind the group's last"
+clash_text BadPosition = codes "the position is after the group's last"
 clash_text BadDuplicate = codes "the position has no such neighbour to be a duplicate of"
 clash_text OtherGroup = codes "the telegram is of another group"
 clash_text OtherTotal = codes "the telegram counts other balises in the group"

@@ -44,7 +44,7 @@ impl fmt::Display for Clash {
 
     fn fmt<W: fmt::Write>(&self, f: &mut fmt::Formatter<W>) -> fmt::Result {
         f.write_str(match self {
-            Clash::BadPosition => "the position is behind the group's last",
+            Clash::BadPosition => "the position is after the group's last",
             Clash::BadDuplicate => "the position has no such neighbour to be a duplicate of",
             Clash::OtherGroup => "the telegram is of another group",
             Clash::OtherTotal => "the telegram counts other balises in the group",

@@ -48,7 +48,7 @@ pub fn from_value(alloc: Global, kind: Kind, value: &Value) -> Result<Entry, Jso
 }
 
 /// The item of the kind whose JSON the line is. No more is made of the line than an item may have: in all that was tried, a
-/// line of 1 MiB took at most some 4 MB.
+/// line of 1 MiB took at most some 6 MB.
 ///
 /// # Errors
 ///

@@ -237,7 +237,7 @@ impl<H: Head, B: Own<Front = H>> MessageRest<H, B> {
         self.keep(left, &bits_at(&byte, 7, 1))
     }
 
-    /// Takes a run of bits of a message that is kept, of which `left` are wanted, and says how many it was.
+    /// Takes a run of bits of a message that is kept, of which `left` are wanted, and returns how many they were.
     fn leap_data(
         &mut self,
         left: usize,
@@ -270,7 +270,7 @@ impl<H: Head, B: Own<Front = H>> MessageRest<H, B> {
         self.phase = after_bits(wanted, Phase::Padding(wanted));
     }
 
-    /// Takes the bits of PADDING that a piece has, of which `left` are wanted, and says how many it was.
+    /// Takes the bits of PADDING that a piece has, of which `left` are wanted, and returns how many they were.
     fn leap_padding(&mut self, left: usize, piece: &[u8], at: usize) -> usize
         requires phase { self.old.phase ≡ Phase.Padding left }
         requires inside { at < length (bits piece.now) }

@@ -96,8 +96,8 @@ impl<R: Rest> Feeder<R> {
         (feeder, fed)
     }
 
-    /// Takes the bits of a piece from the bit `at` on, up to the language's end, and says how many it was with those in
-    /// front.
+    /// Takes the bits of a piece from the bit `at` on, up to the language's end, and returns how many they were with those
+    /// in front.
     #[inline(always)]
     fn take(&mut self, piece: &[u8], at: usize) -> Result<usize, Stop>
         requires going { self.old.stop ≡ None }

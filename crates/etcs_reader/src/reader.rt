@@ -193,8 +193,8 @@ impl<R: Rest> Reader<R> {
         }
     }
 
-    /// Takes the bits of a piece from the bit `at` on, up to the language's end, and says how many it was with those in
-    /// front.
+    /// Takes the bits of a piece from the bit `at` on, up to the language's end, and returns how many they were with those
+    /// in front.
     ///
     /// # Errors
     ///

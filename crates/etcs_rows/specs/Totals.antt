@@ -7,7 +7,7 @@ use Rattle.etcs_rows.specs.declared.total.Added.TheVariants as added
 use Rattle.etcs_rows.specs.Progressions.{InProgression, TimesWithin, AtMost}
 use Rattle.etcs_rows.specs.Sums.{Plus}
 
--- the lengths of a group as often as it may are there, and 0 where there is none
+-- the lengths of a group as often as it may be there, and 0 where there is none
 abbrev pub InTimes : Option Times → ℕ → Type 0
 InTimes None m = m ≡ 0
 InTimes (Some t) m = TimesWithin t.group t.first t.last m

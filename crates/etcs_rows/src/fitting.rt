@@ -1,7 +1,8 @@
-//! Whether what is left of a row may take this many bits, by sums of lengths in equal steps.
+//! How many bits what is left of a row may take, by sums of lengths in equal steps: whether this many (`fits_at`,
+//! `fits_by_steps`), whether any between two numbers (`meets_by_steps`), and all sums (`kept_by_steps`, `around_first`).
 //!
-//! There are three ways, the cheapest first. `fits_at` takes one number, where all that waits was worked out when its
-//! group was opened. `fits_by_steps` and `meets_by_steps` walk over the groups that wait; where lengths aren't in equal
+//! There are two ways, the cheaper first. `fits_at` takes one number, where all that waits was worked out when its
+//! group was opened. The others walk over the groups that wait; where lengths aren't in equal
 //! steps, `choose_each` and `spread_each` try them one by one, as packets 12, 15, 41, 46, 68, 72 and 76 and the two
 //! position reports want. `None` says that there are too many for that, which no row of the tables has; then the sets
 //! of lengths decide. The walks give their sums to a taker, which looks for one number or keeps them all.

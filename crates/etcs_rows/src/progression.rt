@@ -74,7 +74,7 @@ impl Progression {
         Some(self.first + index * self.step)
     }
 
-    /// The least that isn't below a number, unless it is too great.
+    /// The least that isn't below a number, if any. `None` if it is too great for a `usize`.
     fn first_from(self, number: usize) -> Option<Option<usize>>
         ensures { IfSome result (λ n. IsFirst (λ m. InProgression self m × (number ≤ m)) n) }
     {

@@ -60,7 +60,7 @@ impl Taker for Sought {
 }
 
 /// How many sums are kept at most.
-const MOST_SUMS: usize = 16;
+const MOST_SUMS: usize = 8;
 
 /// All sums up to 8191.
 #[derive(Drop)]

@@ -17,8 +17,8 @@ pub struct Times {
     pub last: u64,
 }
 
-/// The sums of numbers in equal steps, of a group as often as it may are there, and of at most `slack` more. How often the
-/// group is is tried only at the end.
+/// The sums of numbers in equal steps, of a group as often as it may be there, and of at most `slack` more. How often it
+/// occurs is tried only at the end.
 #[derive(Clone, Copy)]
 pub struct Total {
     pub steps: Progression,
@@ -123,7 +123,7 @@ impl Total {
     }
 }
 
-/// Whether a number of the steps, a group as often as it may are there, and at most `slack` more make the number.
+/// Whether a number of the steps, a group as often as it may be there, and at most `slack` more make the number.
 fn any_times(sum: Progression, times: Times, slack: usize, number: usize) -> Option<bool>
     ensures { IfSome result (λ b. IsTrue b ↔ Plus (InProgression sum) (Plus (TimesWithin times.group times.first times.last) (AtMost slack)) number) }
 {

@@ -16,6 +16,9 @@ bytes: of each kind, as bytes, as digits or as JSON. Each command is run over it
 - The same bytes end alike as bytes, as one line of digits and as lines that are cut anywhere.
 - Accepted items with an input after them give the items, and then what the input gives.
 - Lines that have an item each, spelled as people do, are good lines of a log.
+- `log` with each of its options and `explain`, as text and as a page, write no control but LF, and write the same whether
+  they read a file or a pipe in pieces of any size. Both read random lines of a log; `explain` reads the input too.
+- The first fault of `explain` is that of `check`, of bytes, of JSON and of one line of digits.
 - If the bit at which an item is refused is turned, it is refused at a later bit or not at all, and so
   on: so some item begins with the bits before.
 
@@ -26,14 +29,18 @@ has wrong programs, each of which this has to find.
 """
 
 import collections
+import fcntl
 import os
 import random
 import re
+import select
 import subprocess
 import sys
 import tempfile
+import termios
 import threading
 import time
+from contextlib import suppress
 
 TOP = os.path.dirname(os.path.dirname(os.path.realpath(__file__)))
 CALL_SECONDS = 20
@@ -49,6 +56,14 @@ FAULTS = {
 SHEET_ITEM = re.compile(r"^(short|long|radio|train) ([0-9A-F]+) =(?:\n item 1 \w+ (\d+) bits$)?", re.MULTILINE)
 BIN_FAULTS = ["refused", "truncated"]
 FORM_FAULTS = {"bin": BIN_FAULTS, "hex": [*BIN_FAULTS, "bad hexadecimal"], "json": ["refused", "bad JSON"]}
+KINDS = ("short", "long", "radio", "train")
+CONTROL = re.compile(rb"[\x00-\x09\x0B-\x1F\x7F]")
+LOG_OPTIONS = ("", "--good", "--to hex", "--to json", "--summary", "--groups", "--to json --summary --groups")
+# What may be around the digits of a line: blanks, comments, signs of JSON and pages; then marks, controls, and no UTF-8.
+ODD = (
+    *(b"", b" \t", b"#", b" # seen", b" // A1", b" ; 99", b"0x", b"12:00:03,", b'{"a":"', b"<b>&", b"\\u0007"),
+    *(b"\xEF\xBB\xBF", b"\xE2\x80\xAE", b"\xC2\x85", b"\r", b"\0", b"\x0B\x0C", b"\x1B[31m", b"\x7F", b"\xE2\x80", b"\xFF"),
+)
 WAYS = [("bin", "json"), ("json", "bin"), ("json", "hex"), ("hex", "bin"), ("json", "json")]
 
 
@@ -62,6 +77,17 @@ def expect(right, what, words, given):
         raise Finding(f"{what}: {' '.join(words)} < {given.hex().upper()}")
 
 
+def write_pieces(pipe, given, size_of):
+    """Writes bytes into a pipe in pieces, each when the one before has been read, until nobody reads any more."""
+    closed, at = select.poll(), 0
+    closed.register(pipe, 0)
+    with suppress(BrokenPipeError), pipe:
+        while at < len(given):
+            at += pipe.write(given[at : at + size_of()])
+            while any(fcntl.ioctl(pipe, termios.FIONREAD, bytes(4))) and not closed.poll(0):
+                time.sleep(0)
+
+
 class Program:
     """The program, with the words that go before those of each call."""
 
@@ -69,15 +95,21 @@ class Program:
         self.words = words
         self.counts = collections.Counter()
 
-    def run(self, words, given):
-        """The status, output and faults of a call over these bytes, which has to end as each call must."""
+    def run(self, words, given, size_of=None):
+        """The status, output and faults of a call over these bytes, which has to end as each call must.
+
+        They come from a file, or through a pipe in pieces of the sizes that `size_of` gives.
+        """
         file = tempfile.TemporaryFile
         with file() as start, file() as output, file() as faults:
             start.write(given)
             start.seek(0)
-            call = subprocess.Popen([*self.words, *words], stdin=start, stdout=output, stderr=faults)
+            how = {"stdin": subprocess.PIPE if size_of else start, "stdout": output, "stderr": faults, "bufsize": 0}
+            call = subprocess.Popen([*self.words, *words], **how)
             clock = threading.Timer(CALL_SECONDS, call.kill)
             clock.start()
+            if size_of:
+                write_pieces(call.stdin, given, size_of)
             _, status, used = os.wait4(call.pid, 0)
             clock.cancel()
             call.returncode = os.waitstatus_to_exitcode(status)
@@ -219,6 +251,48 @@ class Trial:
             given[before // 8] ^= 0x80 >> before % 8
 
 
+class Saying:
+    """The calls that say in words what is wrong, `log` and `explain`."""
+
+    def __init__(self, program, pick, kind):
+        self.program, self.pick, self.kind = program, pick, kind
+
+    def run(self, form, given, lines):
+        """Runs them over an input, and over lines."""
+        self.log(lines)
+        self.explain("hex", lines, False)
+        self.explain("json", lines, True)
+        self.explain(form, given, form != "hex")
+        if form == "bin":
+            self.explain("hex", given[: MOST_DIGITS // 2].hex().encode(), True)
+
+    def answer(self, words, given):
+        """What a call answers, which has no controls, and is the same through a pipe."""
+        answer = self.program.run(words, given)
+        expect(not CONTROL.search(answer[1] + answer[2]), "a control is written", words, given)
+        # at most 2,000 pieces; how many are written depends on the program, so that their sizes have a seed of their own
+        sizes, least, most = random.Random(self.pick.random()), len(given) // 2000, self.pick.choice((1, 40, 5000))
+        piped = self.program.run(words, given, lambda: least + sizes.randrange(1, most + 1))
+        expect(piped == answer, "another answer through a pipe", words, given)
+        return answer
+
+    def log(self, lines):
+        """Whether `log` ends alike with any option, whatever kinds it looks for."""
+        kinds = self.pick.sample(KINDS, self.pick.randrange(1, 5))
+        words = ["log", "--kind", ",".join(kinds)]
+        status = self.program.run(words, lines)[0]
+        words += self.pick.choice(LOG_OPTIONS).split()
+        expect(self.answer(words, lines)[0] == status, f"a status other than {status}", words, lines)
+
+    def explain(self, form, given, is_checked):
+        """Whether `explain` has the first fault of `check`, where these are the same items."""
+        words = ["explain", "--kind", self.kind, "--from", form, "--to", self.pick.choice(("text", "html"))]
+        answer = self.answer(words, given)
+        if is_checked and not given.endswith(b"\r"):  # which is a character to `check` alone
+            wanted = self.program.run(["check", *words[1:5]], given)
+            expect(answer[::2] == wanted[::2], "another fault than check's", words, given)
+
+
 def spelled(pick, digits):
     """Digits of an item as people write them: in groups, with something around them."""
     size = pick.choice((2, 4, 8, 16, len(digits)))
@@ -298,6 +372,28 @@ class Inputs:
             text += self.pick.choice((b"\n", b"\r\n", b"", b"\n\n"))
         return changed_bytes(self.pick, text) if self.pick.random() < 0.25 else text
 
+    def lines(self, kind):
+        """Lines of a log."""
+        ends = (b"\n", b"\n", b"\r\n", b"\r", b"")
+        return b"".join(self.log_line(kind) + self.pick.choice(ends) for _ in range(self.pick.randrange(1, 7)))
+
+    def log_line(self, kind):
+        """A line with an item, mostly of the kind, and something around it; or something else that a log may have."""
+        pick, what = self.pick, self.pick.randrange(40)
+        item = self.item(kind if what % 4 else pick.choice(KINDS)) or b"\0"
+        if what == 0:
+            return pick.choice((b" ", b"0", b"A1", b"[", b"\xFF")) * pick.choice((5000, 70_000))
+        if what < 4:
+            return pick.randbytes(pick.randrange(60))
+        if what < 8:
+            return self.line(kind)
+        if what < 12:
+            return "".join(f"{it:08b}" for it in item)[: pick.choice((210, 216, 830, 832))].encode()
+        text = spelled(pick, item.hex()).encode()
+        if what < 30:
+            text = pick.choice(ODD) + text + pick.choice(ODD)
+        return changed_bytes(pick, text) if what < 20 else text
+
     def line(self, kind):
         """A line of JSON that the program writes for an item, as it is or changed."""
         words = ["convert", "--kind", kind, "--from", "bin", "--to", "json"]
@@ -313,10 +409,12 @@ def fuzz(program, pick, sheet, seconds, most=20):
     end, findings = time.monotonic() + seconds, 0
     inputs = Inputs(pick, program, sheet)
     while time.monotonic() < end and findings < most:
-        kind, form = pick.choice(("short", "long", "radio", "train")), pick.choice(("bin", "hex", "json"))
+        kind, form = pick.choice(KINDS), pick.choice(("bin", "hex", "json"))
         program.counts[f"inputs {kind} {form}"] += 1
         try:
-            Trial(program, kind, form, inputs.make(kind, form)).run(pick, inputs.make_whole(kind))
+            given = inputs.make(kind, form)
+            Trial(program, kind, form, given).run(pick, inputs.make_whole(kind))
+            Saying(program, pick, kind).run(form, given, inputs.lines(kind))
         except Finding as finding:
             findings += 1
             print(finding, flush=True)

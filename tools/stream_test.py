@@ -5,19 +5,24 @@
 
 PROGRAM is the built `etcs`. It is run over outputs of little room, inputs that can't be read, a million items and more,
 long lines, JSON that is deeply nested or not UTF-8, logs that aren't UTF-8, and with few addresses; its own JSON has to be
-read far sooner than the same with a blank; and pages have their words. Expected answers come from docs/FORMAT.md and from
-counting. Each answer that isn't as expected is written; the last line says how many there were. The status is 1 if one
-differs.
+read far sooner than the same with a blank; pages have their words, and what explains a refused item doesn't depend on how
+reads were cut. Expected answers come from docs/FORMAT.md and from counting. Each answer that isn't as expected is written; the
+last line says how many there were. The status is 1 if one differs.
 """
 
 import glob
 import os
 import resource
+import signal
 import subprocess
 import sys
 import tempfile
 import threading
 from concurrent.futures import ThreadPoolExecutor
+from itertools import groupby
+
+sys.dont_write_bytecode = True
+from fuzz import write_pieces
 
 TOP = os.path.dirname(os.path.dirname(os.path.realpath(__file__)))
 MOST = 1_048_576  # the bytes of the longest line of JSON
@@ -93,6 +98,19 @@ PAGES = (
     ("--kind radio", b"18034000000000080031280620", ("header of a message to the train", "Stop if in Staff Responsible")),
     ("--kind train", b"8400FF", ("header of a message to the track", "all ones")),
     ("--kind short --from json", b'{"<q>":1}', ('.["&lt;q&gt;"]: there is no such member here',)),
+)
+
+# a telegram, and one that is refused at bit 72
+GOOD = b"A113140C40FFC14027A12723184008C07FFFFFFFFFFFFFFFFFFFC0\n"
+BAD = b"A100040C412C4B104CACACACACACACACACACACACACACACACACAC80\n"
+
+# command lines that are run with few addresses, what they are given, and their status
+SAYING = ("log --kind short", "explain --kind short", "explain --kind short --to html")
+ADDRESSED = (
+    ("show --kind short", b"", 0),
+    ("help", b"", 0),
+    ("show", b"", 2),
+    *((words, given, status) for words in SAYING for given, status in ((GOOD, 0), (BAD, 1))),
 )
 
 
@@ -281,19 +299,58 @@ def check_written(program):
         program.check(what, (first, second, 3 * quick < slow), (0, 0, True))
 
 
+def piped(program, words, given, size):
+    """Returns the answer of a command line to bytes that come through a pipe, this many a write."""
+    with tempfile.TemporaryFile() as output, tempfile.TemporaryFile() as faults:
+        how = {"stdin": subprocess.PIPE, "stdout": output, "stderr": faults, "bufsize": 0}
+        run = subprocess.Popen([program.path, *words.split()], **how)
+        guard = threading.Timer(LIMIT, run.kill)
+        guard.start()
+        write_pieces(run.stdin, given, lambda: size)
+        status = run.wait()
+        guard.cancel()
+        output.seek(0)
+        faults.seek(0)
+        return status, output.read(), faults.read()
+
+
+def check_cuts(program):
+    """What is said about a refused item of bytes is the same, however many bytes after it each read gives."""
+    given = bytes.fromhex(BAD.decode()) + 16 * bytes(range(256))
+    for words in ("explain --kind short --from bin", "explain --kind short --from bin --to html"):
+        with tempfile.TemporaryFile() as source:
+            source.write(given)
+            source.seek(0)
+            wanted = program.call(words, stdin=source)
+        program.check(f"{words} of a file", wanted[::2], (1, b"etcs: item 1 refused at bit 72, L_PACKET\n"))
+        for size in (1, 28, 200, 1000):
+            program.check(f"{words}, {size} bytes a write", piped(program, words, given, size), wanted)
+
+
+def state_of(status, faults, answer):
+    """Returns how far a call with few addresses came: the loader ends with 127, and says what it has no room for."""
+    if (status, faults) == (3, b"etcs: out of memory\n"):
+        return "refused"
+    names = {answer: "answered", 127: "not loaded"}
+    return names.get(status, f"status {status}")
+
+
 def check_addresses(program):
     """With ever more addresses the program can't be loaded, then says that memory was refused, then answers."""
-    for words, given, answer in (("show --kind short", b"", 0), ("help", b"", 0), ("show", b"", 2)):
-        seen = []
-        for kilobytes in range(2048, 40960, 64):
+    for words, given, answer in ADDRESSED:
+        states = []
+        for kilobytes in range(2048, 40960, 32):
             limit = lambda: resource.setrlimit(resource.RLIMIT_AS, (1024 * kilobytes, 1024 * kilobytes))
             status, _, faults = program.call(words, given, preexec_fn=limit)
-            is_refused = (status, faults) == (3, b"etcs: out of memory\n")
-            state = "refused" if is_refused else "answered" if status == answer else "not loaded"
-            seen += [state] * (seen[-1:] != [state])
-            if state == "answered":
+            states.append(state_of(status, faults, answer))
+            if states[-8:] == ["answered"] * 8:
                 break
-        program.check(f"{words} with few addresses", tuple(seen[-2:]), ("refused", "answered"))
+        seen = [it for it, _ in groupby(states)]
+        # a program that can't even be mapped is ended by the kernel's signal, before the loader begins
+        if seen[0] == f"status {-signal.SIGSEGV}":
+            del seen[0]
+        what = f"{words} with few addresses, {given[:30]}"
+        program.check(what, tuple(seen), ("not loaded", "refused", "answered"))
 
 
 CHECKS = (
@@ -308,6 +365,7 @@ CHECKS = (
     check_endless_line,
     check_pages,
     check_written,
+    check_cuts,
     check_addresses,
 )
 

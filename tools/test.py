@@ -13,6 +13,7 @@ changed (tools/unproved.py): in about a minute and a half on 4 cores. Then all p
     schema       docs/etcs.schema.json against the tables, the vectors and what the program writes (tools/schema.py)
     documents    the commands and the quoted files of all documents (tools/doc_examples.py)
     script       the script `etcs` (tools/script_test.py)
+    ceilings     whether the most expensive inputs that are known stay below their ceilings (bench/ceilings)
     streams      streams that fail or have no end (tools/stream_test.py)
     chance       random inputs, for 10 seconds (tools/fuzz.py)
     found        whether these find programs that are wrong (tools/fuzz_test.py)
@@ -28,9 +29,10 @@ changed (tools/unproved.py): in about a minute and a half on 4 cores. Then all p
     edits        whether each wrong body can be applied (tools/wrong_bodies.py)
     dead         definitions, lemmas and inner items that nothing uses (tools/dead.py)
 
-If `./etcs build` has built the program and no source is newer, the parts that run `etcs` run the proved program too. A line
-for each part says whether it passed, which program it ran, and what it counted; if it failed, what it wrote follows. What
-needs a tool that isn't installed is skipped. The last line is `N passed, N failed`, with `, N skipped` if something was.
+If `./etcs build` has built the program and no source is newer, the parts that run `etcs` run the proved program too; the part
+`ceilings` runs that one alone, and only if valgrind is there. A line for each part says whether it passed, which program it
+ran, and what it counted; if it failed, what it wrote follows. What needs a tool that isn't installed is skipped. The last line
+is `N passed, N failed`, with `, N skipped` if something was.
 
 The status is 0 if all passed, 1 if a part failed or the sources are refused, and 70 if nothing could be tested.
 """
@@ -38,6 +40,7 @@ The status is 0 if all passed, 1 if a part failed or the sources are refused, an
 import os
 import re
 import resource
+import shutil
 import subprocess
 import sys
 import tempfile
@@ -63,6 +66,7 @@ PROGRAM_SCRIPTS = {
     "chance": ["fuzz.py", "--seconds", "10"],
     "found": ["fuzz_test.py"],
     "commands": ["vectors.py"],
+    "ceilings": ["../bench/ceilings"],
     "stack": ["vectors.py", "sh", "-c", 'ulimit -s $0 && exec "$@"'],
     "script": ["script_test.py"],
     "streams": ["stream_test.py"],
@@ -168,6 +172,9 @@ def jobs_of(rt, part):
             yield Job(f"{title_of(target)}, unproved", target, lambda target=target: crate_tests(rt, target))
     elif part in SCRIPTS:
         yield Job(part, None, lambda: script(*SCRIPTS[part]))
+    elif part == "ceilings":
+        if is_proved(proved) and shutil.which("valgrind"):
+            yield Job(f"{part}, proved program", None, lambda: script(*PROGRAM_SCRIPTS[part], proved))
     else:
         yield Job(f"{part}, unproved program", PROGRAM, lambda: script(*words_of(part, "unproved"), f"{made}/etcs"))
         if is_proved(proved):

@@ -266,7 +266,7 @@ static uint32_t take_char(const uint8_t **at, const uint8_t *end)
 /* Whether a terminal would obey a character: controls, and what changes the direction of writing. */
 static int is_control(uint32_t c)
 {
-    return c < 0x20 || (c >= 0x7F && c < 0xA0) || c == 0x200E || c == 0x200F || (c >= 0x202A && c <= 0x202E) || (c >= 0x2066 && c <= 0x2069);
+    return c < 0x20 || (c >= 0x7F && c < 0xA0) || c == 0x61C || c == 0x200E || c == 0x200F || (c >= 0x2028 && c <= 0x202E) || (c >= 0x2066 && c <= 0x2069);
 }
 
 static int is_sentence(const uint8_t *text, size_t len)

@@ -150,14 +150,14 @@ class Tests(unittest.TestCase):
         self.assertEqual((telegram["NID_BG"], link["D_LINK"], link["NID_C"]), (511, 1180, 99))
         self.assertEqual((link.all("Q_DIR"), "N_ITER" in link, "Q_FRONT" in link), ([], True, False))
         self.assertEqual((link.fields[1], link.fields.get("Q_FRONT", 7)), (("D_LINK", 1180), 7))
-        with self.assertRaises(KeyError):
+        with self.assertRaises(etcs.NoVariable):
             link["Q_FRONT"]
-        with self.assertRaises(KeyError):
+        with self.assertRaises(etcs.NoVariable):
             link["Q_FRONT"] = 1
         link["D_LINK"] = 900
         self.assertIn("  D_LINK 900\n", etcs.show(telegram))
         link.fields.append(("D_LINK", 1))
-        with self.assertRaises(KeyError):
+        with self.assertRaises(etcs.NoVariable):
             link["D_LINK"] = 2
 
     def test_pairs(self):
@@ -180,7 +180,7 @@ class Tests(unittest.TestCase):
         self.assertEqual(etcs.variables(telegram), etcs.variables(etcs.encode(telegram), "short"))
         self.assertEqual([it[:5:2] for it in etcs.variables(RADIO, "radio")][:2], [("NID_MESSAGE", "General message", 8), ("L_MESSAGE", "", 10)])
         self.assertEqual((etcs.meaning("D_LINK", 5), etcs.meaning("D_LINK", 12345, 0), etcs.meaning("D_REF", 65535, 2), etcs.meaning("T_TRAIN", 5)), ("", "1234.5 m", "-10 m", "0.05 s"))
-        with self.assertRaises(KeyError):
+        with self.assertRaises(etcs.NoVariable):
             link.meaning("Q_FRONT")
 
     def test_page(self):
@@ -200,8 +200,11 @@ class Tests(unittest.TestCase):
                 self.assertIn('srcdoc="&lt;!doctype html&gt;explain', item._repr_html_())
                 item.packets[0]["Q_SRSTOP"] = 2
                 self.assertIsNone(item._repr_html_())
-                with self.assertRaises(ValueError):
+                with self.assertRaises(etcs.BadArgument):
                     etcs.page(RADIO)
+                for wrong in ([item.to_dict()], [3], "radio"):
+                    with self.assertRaisesRegex(TypeError, "^a Telegram or a Message is wanted, not (dict|int|str)$"):
+                        etcs.page(wrong)
 
     def test_log(self):
         """Lines of FORMAT.md and COOKBOOK.md with what is said of them there; logs.py asks the program itself."""
@@ -218,8 +221,23 @@ class Tests(unittest.TestCase):
         self.assertEqual([it.kind for it in etcs.read_log(log, "radio,short")], ["short", "short", None, None, None, "radio"])
         self.assertEqual([(*it[:4], it.note) for it in pickle.loads(pickle.dumps(read))], [(*it[:4], it.note) for it in read])
         for wrong in ("tram", "", [], "short,"):
-            with self.assertRaises(ValueError):
+            with self.assertRaises(etcs.BadArgument):
                 list(etcs.read_log([], wrong))
+
+    def test_lines(self):
+        """A line is text or bytes, of 2**20 bytes at most; numbers are none, though bytes() takes them."""
+        for line in ("12:00 A1\r\n", b"12:00 A1\n", bytearray(b"12:00 A1"), memoryview(b"12:00 A1\r\n"), memoryview(b"12:00 A1").cast("c")):
+            self.assertEqual([(it.front, it.note) for it in etcs.read_log([line], "short")], [("12:00", "1 byte, a short telegram has 27")])
+        for wrong in ([65, 49], (65, 49), [], 3, 0, True, None, 1.5, range(3), [b"A1"], memoryview(b"A1A1").cast("I"), object()):
+            with self.assertRaisesRegex(TypeError, "memoryview of bytes is wanted, not"):
+                list(etcs.read_log([wrong], "short"))
+        with self.assertRaisesRegex(TypeError, "memoryview of bytes is wanted, not int$"):
+            list(etcs.read_log(b"A1", "short"))
+        whole, too_long = "524288 bytes, a short telegram has 27", "more than 1048576 characters"
+        for line, note in (("A1" * 2**19, whole), ("A1" * 2**19 + "\n", whole), ("A1" * 2**19 + "\r\n", whole), ("A1" * 2**19 + "1", too_long),
+                           ("A1" * 2**19 + "1\r\n", too_long), ("\u00e9" * (2**19 - 1) + "A1", "1 byte, a short telegram has 27"), ("\u00e9" * 2**19 + "1", too_long)):
+            for form in (line, line.encode(), memoryview(line.encode())):
+                self.assertEqual([it.note for it in etcs.read_log([form], "short")], [note])
 
     def test_groups(self):
         """The groups of the examples, with the words of examples/README.md and COOKBOOK.md."""
@@ -231,6 +249,12 @@ class Tests(unittest.TestCase):
         self.assertEqual(sum(it.clashes for it in found), 1)
         self.assertEqual(list(map(str, etcs.groups([etcs.decode(RADIO, "radio")]))), [])
         self.assertEqual((found[0].nid_c, list(found[0].telegrams), str(found[0])), (1, [1], "group 1 1 complete clashes 1"))
+        for wrong in (3, None, etcs.decode(RADIO, "radio"), {"kind": "short"}):
+            with self.assertRaisesRegex(TypeError, "^a Telegram is wanted, not "):
+                found[0].add(wrong)
+        for call in (etcs.Group(1, 1).add, lambda it: etcs.groups([it])):
+            with self.assertRaises(etcs.NoVariable):
+                call(etcs.Telegram("short", [], [], ""))
 
     def test_build(self):
         """The telegram of COOKBOOK.md, "A telegram of one's own", and others as long as FORMAT.md says."""
@@ -252,8 +276,16 @@ class Tests(unittest.TestCase):
         for words in (({"NID_MN": 1}, []), (named, [stop] * 7, "short"), (named, [stop] * 33), (named, [etcs.Packet(137, 1, [("Q_SR", 1)])])):
             with self.assertRaises(etcs.NotAnItem):
                 etcs.Telegram.build(*words)
-        with self.assertRaises(ValueError):
-            etcs.Telegram.build(named, [], "radio")
+        for wrong in ("radio", 3, ["short"]):
+            with self.assertRaises(etcs.BadArgument):
+                etcs.Telegram.build(named, [], wrong)
+        for wrong in (["NID_BG"], [("NID_BG", 600, 1)], [("NID_BG",)]):
+            with self.assertRaises(etcs.NotAnItem):
+                etcs.Telegram.build(wrong, [])
+        # a single packet is a list of its variables
+        for wrong in (stop, [stop.to_dict()], [None], "packets"):
+            with self.assertRaisesRegex(TypeError, "^a Packet is wanted, not "):
+                etcs.Telegram.build(named, wrong)
 
     def test_blank(self):
         """Each packet that COVERAGE.md has to begin with, in an item."""
@@ -284,8 +316,8 @@ class Tests(unittest.TestCase):
         self.assertEqual(etcs.decode(etcs.encode(etcs.Telegram.build({}, [packet])), "short").packets, [packet])
         self.assertEqual((etcs.blank(200), etcs.blank(7, "train")), (etcs.Packet(200, 1, data=""), etcs.Packet(7, data="")))
         self.assertIsNot(etcs.blank(16).fields, etcs.blank(16).fields)
-        for wrong in (-1, 256, "12", 1.5):
-            with self.assertRaises(ValueError):
+        for wrong in (-1, 256, "12", [12]):
+            with self.assertRaises(etcs.BadArgument):
                 etcs.blank(wrong)
 
     def test_fields(self):
@@ -304,6 +336,9 @@ class Tests(unittest.TestCase):
         for wrong in (found[1]._replace(number=300), found[1]._replace(number=-1), found[1]._replace(number=33, var=81), found[1]._replace(width=70)):
             with self.assertRaises(etcs.NotAnItem):
                 etcs.from_fields([found[0], wrong, *found[2:]], "short")
+        for wrong in (("Q_UPDOWN", 1), 3, None, found):
+            with self.assertRaises(etcs.NotAnItem):
+                etcs.from_fields([wrong, *found[1:]], "short")
         with self.assertRaises(etcs.Truncated):
             etcs.from_fields(found[:1], "short")
 
@@ -334,8 +369,6 @@ class Tests(unittest.TestCase):
             etcs.check(b"", "short")
         with self.assertRaises(etcs.EtcsError):
             etcs.decode(SHORT + b"\0", "short")
-        with self.assertRaises(ValueError):
-            etcs.decode(SHORT, "tram")
 
     def test_bytes(self):
         for form in (bytearray, memoryview, lambda data: memoryview(data).cast("c")):
@@ -352,14 +385,66 @@ class Tests(unittest.TestCase):
                 etcs.from_json(wrong)
             with self.assertRaises(TypeError):
                 etcs.encode(wrong)
-        with self.assertRaises(ValueError):
-            list(etcs.items(SHORT, "tram"))
+        released = memoryview(SHORT)
+        released.release()
+        with self.assertRaises(etcs.BadArgument):
+            etcs.check(released, "short")
+
+    def test_kinds(self):
+        """A kind that there isn't, in each call that takes one."""
+        calls = (lambda kind: etcs.check(SHORT, kind), lambda kind: etcs.decode(SHORT, kind), lambda kind: list(etcs.items(SHORT, kind)),
+                 lambda kind: etcs.fields(SHORT, kind), lambda kind: etcs.from_fields(etcs.fields(SHORT, "short"), kind), lambda kind: etcs.blank(12, kind),
+                 lambda kind: list(etcs.read_log([], [kind])), etcs.Reader, lambda kind: etcs.show(SHORT, kind), lambda kind: etcs.variables(SHORT, kind),
+                 lambda kind: etcs.page(SHORT, kind))
+        nested = ()
+        for _ in range(5000):
+            nested = (nested,)
+        for call in calls:
+            for wrong in ("tram", "", "Short", 2, ["short"], b"short", nested):
+                with self.assertRaisesRegex(etcs.BadArgument, "^kind .* is none of long, short, radio, train$"):
+                    call(wrong)
+        for call in calls[:8]:
+            with self.assertRaisesRegex(ValueError, "^kind None is none of long, short, radio, train$"):
+                call(None)
+        for call in (lambda: etcs.show(SHORT), lambda: etcs.variables(SHORT), lambda: etcs.page(SHORT), lambda: etcs.page([])):
+            with self.assertRaisesRegex(etcs.BadArgument, "^kind '' is none of long, short, radio, train$"):
+                call()
 
     def test_number(self):
         self.assertTrue(etcs.show(SHORT, "short", 2 ** 64 - 1).startswith("item 18446744073709551615 short 210 bits\n"))
-        for wrong in (-1, 2 ** 64):
-            with self.assertRaises(ValueError):
-                etcs.show(SHORT, "short", wrong)
+        limits = "is a whole number from 0 to"
+        for wrong, text in ((-1, "-1"), (2**64, "18446744073709551616"), (1.5, "1.5"), ("1", "'1'"), (None, "None"), (10**5000, "this int"), ([1] * 99, "this list")):
+            for call in (lambda: etcs.show(SHORT, "short", wrong), lambda: etcs.show(etcs.decode(SHORT, "short"), number=wrong)):
+                with self.assertRaises(etcs.BadArgument) as caught:
+                    call()
+                self.assertEqual(str(caught.exception), f"the number of an item {limits} 18446744073709551615, not {text}")
+            with self.assertRaises(etcs.BadArgument) as caught:
+                etcs.blank(wrong)
+            self.assertEqual(str(caught.exception), f"NID_PACKET {limits} 255, not {text}")
+        for wrong in (1.5, "5", None, [5]):
+            with self.assertRaises(etcs.BadArgument):
+                etcs.meaning("D_LINK", wrong, 1)
+            with self.assertRaises(etcs.BadArgument):
+                etcs.Packet(5, 1, [("D_LINK", wrong)]).meaning("D_LINK")
+        self.assertEqual([etcs.meaning("D_LINK", number, 1) for number in (5, -1, 2**64)], ["5 m", "", ""])
+        self.assertEqual([etcs.meaning("D_LINK", 5, scale) for scale in (1.0, 1.5, [1], -1, 3)], ["5 m", "", "", "", ""])
+
+    def test_own_errors(self):
+        """Each is an EtcsError and a ValueError; where a name is sought it is a KeyError too."""
+        for own in (etcs.Refused, etcs.Truncated, etcs.NotAnItem, etcs.BadArgument, etcs.NoVariable, etcs.BadLine, etcs.OtherKind):
+            self.assertTrue(issubclass(own, etcs.EtcsError) and issubclass(own, ValueError), own)
+            self.assertTrue(own.__name__ in etcs.__all__ and own.__module__ == "etcs", own)
+            self.assertEqual(issubclass(own, KeyError), own is etcs.NoVariable)
+        with self.assertRaises(etcs.NoVariable) as caught:
+            etcs.decode(SHORT, "short")["D_LINK"]
+        self.assertEqual((caught.exception.args, str(caught.exception)), (("D_LINK",), "'D_LINK'"))
+        self.assertEqual(pickle.loads(pickle.dumps(caught.exception)).args, ("D_LINK",))
+        for wrong in (["Q_SRSTOP"], [("Q_SRSTOP",)], [("Q_SRSTOP", 1, 2)], "Q"):
+            for call in (lambda: etcs.Packet(137, 1, wrong), lambda: etcs.Message(24, wrong), lambda: etcs.Message(24, (), wrong), lambda: etcs.Telegram("short", wrong, [], "")):
+                with self.assertRaises(etcs.NotAnItem):
+                    call()
+        with self.assertRaises(etcs.NotAnItem):
+            etcs.Packet(42, 1, [("NID_RADIO", [10**5000])]).to_dict()
 
     def test_json(self):
         """from_json answers as the library does."""
@@ -480,7 +565,7 @@ class Tests(unittest.TestCase):
             lambda: etcs.fields(SHORT, "short"), lambda: etcs.check(long, "long"), lambda: etcs.fields(long, "long"),
             lambda: etcs.check(kept, "radio"), lambda: self.reason_of(bytes.fromhex("0602C0")),
         ]
-        wanted, wrong, count = [call() for call in calls], [], [0]
+        wanted, wrong, count, deep = [call() for call in calls], [], [0], [0]
 
         def ask(begin):
             for place in range(begin, begin + len(calls)):
@@ -489,9 +574,13 @@ class Tests(unittest.TestCase):
 
         def answer(number, frame):
             count[0] += 1
+            if deep[0] == 8:  # on a slow machine handlers would interrupt one another without end
+                return
+            deep[0] += 1
             place = count[0] % len(calls)
             if calls[place]() != wanted[place]:
                 wrong.append(place)
+            deep[0] -= 1
 
         before = signal.signal(signal.SIGALRM, answer)
         try:

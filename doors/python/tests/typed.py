@@ -17,7 +17,7 @@ packet["Q_SRSTOP"] = 0
 built = etcs.Telegram.build({"NID_C": 98}, [packet, etcs.blank(16)], "short")
 meanings: List[str] = [packet.meaning("Q_SRSTOP"), *(it.meaning for it in etcs.variables(SHORT, "short"))]
 lines: List[etcs.LogLine] = list(etcs.read_log([SHORT.hex()], "short"))
-both: List[int] = [it.number for it in etcs.read_log([SHORT.hex().encode()], "long,short")]
+both: List[int] = [it.number for it in etcs.read_log([SHORT.hex().encode(), bytearray(b"A1")], "long,short")]
 complete: List[bool] = [it.is_complete for it in etcs.groups(lines)]
 
 
@@ -33,6 +33,8 @@ def wrong() -> None:
     etcs.decode(SHORT, "tram")  # type: ignore[call-overload]
     etcs.check(3, "short")  # type: ignore[arg-type]
     etcs.show([65], "short")  # type: ignore[arg-type]
+    etcs.read_log([[65, 49]], "short")  # type: ignore[list-item]
+    etcs.read_log([3], "short")  # type: ignore[list-item]
 
 
 assert (meanings[0], lines[0].item, complete) == ("stop in staff responsible", telegram, [True])

@@ -33,7 +33,9 @@ library's answer, which is proved; this module passes it on.
 
 The module keeps nothing between two calls, so threads may call it freely (and run in parallel, since ctypes releases
 the interpreter's lock), and so may a signal handler or a finalizer that runs inside a call; a Reader belongs to one
-of them at a time. Bytes are bytes, a bytearray or a memoryview of bytes; anything else raises a TypeError.
+of them at a time. Bytes are bytes, a bytearray or a memoryview of bytes; anything else raises a TypeError. A kind
+that there isn't, or a number that isn't whole or is out of range, raises BadArgument, an EtcsError as all errors of the
+module are.
 """
 
 from __future__ import annotations
@@ -46,7 +48,7 @@ from typing import Any, Dict, Generic, Iterable, Iterator, List, Optional, Tuple
 from . import _library
 from ._explained import Variable, explained, meaning
 from ._fields import fields_of, item_of
-from ._library import Data, EtcsError, Field, NotAnItem, Refused, Truncated, bytes_of
+from ._library import BadArgument, Data, EtcsError, Field, NotAnItem, NoVariable, Refused, Truncated, bytes_of
 from ._log import BadLine, Group, LogLine, OtherKind, groups, read_log
 from ._page import program, written_page
 from ._values import (
@@ -55,17 +57,17 @@ from ._values import (
 from ._variables import VARIABLES
 
 __all__ = [
-    "BadLine", "EtcsError", "Field", "Group", "Item", "KINDS", "Kind", "LogLine", "Message", "NotAnItem", "OtherKind",
-    "Packet", "Reader", "Refused", "Telegram", "Truncated", "VARIABLES", "Variable", "Variables", "blank", "check",
-    "decode", "encode", "fields", "from_dict", "from_fields", "from_json", "groups", "items", "meaning", "page",
-    "read_log", "show", "variables",
+    "BadArgument", "BadLine", "EtcsError", "Field", "Group", "Item", "KINDS", "Kind", "LogLine", "Message", "NoVariable",
+    "NotAnItem", "OtherKind", "Packet", "Reader", "Refused", "Telegram", "Truncated", "VARIABLES", "Variable", "Variables",
+    "blank", "check", "decode", "encode", "fields", "from_dict", "from_fields", "from_json", "groups", "items", "meaning",
+    "page", "read_log", "show", "variables",
 ]
 __version__ = "0.1.0"
 
 # their names in a report of a fault, and in what is pickled
 for _public in (
-    BadLine, EtcsError, Field, Group, LogLine, Message, NotAnItem, OtherKind, Packet, Refused, Telegram, Truncated, Variable,
-    Variables, blank, from_dict, groups, meaning, read_log,
+    BadArgument, BadLine, EtcsError, Field, Group, LogLine, Message, NoVariable, NotAnItem, OtherKind, Packet, Refused,
+    Telegram, Truncated, Variable, Variables, blank, from_dict, groups, meaning, read_log,
 ):
     _public.__module__ = "etcs"
 
@@ -169,7 +171,7 @@ def items(data: Data, kind: Kind) -> Iterator[Tuple[int, Item]]:
 
 def show(data: Union[Data, Item], kind: Optional[Kind] = None, number: int = 1) -> str:
     """The text of an item, or of the one at the front of bytes of the kind, as `etcs show` prints it. The text gives the
-    item by its number, from 0 to 2**64 - 1; another number raises a ValueError."""
+    item by its number, from 0 to 2**64 - 1; another raises BadArgument."""
     if isinstance(data, (Telegram, Message)):
         return _library.show(encode(data), data.kind, number)
     return _library.show(bytes_of(data), kind or "", number)
@@ -183,6 +185,8 @@ def page(data: Union[Data, Item, Iterable[Item]], kind: Optional[Kind] = None) -
         data = [data]
     if not isinstance(data, (bytes, bytearray, memoryview)):
         every = list(data)
+        for item in every:
+            _library.expect(item, "a Telegram or a Message", Telegram, Message)
         data, kind = b"".join(map(encode, every)), every[0].kind if every else kind
     _library.kind_number(kind or "")
     written = written_page(bytes_of(data), kind or "")

@@ -37,10 +37,11 @@ def meaning(name: str, number: int, scale: Optional[int] = None) -> str:
         ('11800 m', '140 km/h', 'end of profile')
     """
     var = _NUMBERS.get(name)
+    number = _library.whole(number, "the number of a variable")
     # which packet or message has a number depends on the kind
     if var is None or name in ("NID_PACKET", "NID_MESSAGE") or not 0 <= number < 2 ** 64:
         return ""
-    return _library.meaning("long", var, number, scale)
+    return _library.meaning("long", var, number, int(scale) if scale in (0, 1, 2) else None)
 
 
 def explained(sent: List[Field], kind: str) -> List[Variable]:

@@ -8,8 +8,8 @@ import threading
 from array import array
 from functools import lru_cache
 from itertools import accumulate, repeat
-from operator import attrgetter
-from typing import Any, List, NamedTuple, NoReturn, Optional, Tuple, Union
+from operator import attrgetter, index
+from typing import Any, List, Mapping, NamedTuple, NoReturn, Optional, Tuple, Union
 
 from ._variables import VARIABLES
 
@@ -41,7 +41,15 @@ class Field(NamedTuple):
 
 
 class EtcsError(ValueError):
-    """Bytes or values that are no item."""
+    """Bytes or values that are no item, or a wrong argument."""
+
+
+class BadArgument(EtcsError):
+    """A kind that there isn't, a number that isn't whole or is out of range, or a memoryview that is released."""
+
+
+class NoVariable(EtcsError, KeyError):
+    """There is no variable of this name, or there are several where one is set."""
 
 
 class Refused(EtcsError):
@@ -174,18 +182,49 @@ def bytes_of(data: Data) -> bytes:
     """The bytes of what is accepted as bytes, and of nothing else: bytes(3) would be three zeros."""
     if isinstance(data, bytes):
         return data
-    if isinstance(data, bytearray) or isinstance(data, memoryview) and data.format in ("B", "b", "c"):
-        return bytes(data)
-    what = f"memoryview of format {data.format!r}" if isinstance(data, memoryview) else type(data).__name__
+    try:
+        if isinstance(data, bytearray) or isinstance(data, memoryview) and data.format in ("B", "b", "c"):
+            return bytes(data)
+        what = f"memoryview of format {data.format!r}" if isinstance(data, memoryview) else type(data).__name__
+    except ValueError as fault:
+        raise BadArgument(f"no bytes: {fault}") from None
     hint = ": bytes.fromhex makes them of digits" if isinstance(data, str) else ""
     raise TypeError(f"bytes, a bytearray or a memoryview of bytes is wanted, not {what}{hint}")
 
 
-def kind_number(kind: str) -> int:
-    number = KINDS.get(kind)
+def expect(value: Any, words: str, *types: type) -> None:
+    """Raises a TypeError unless the value is of one of the types."""
+    if not isinstance(value, types):
+        raise TypeError(f"{words} is wanted, not {type(value).__name__}")
+
+
+def shown(value: Any) -> str:
+    """A value as a sentence has it: its type alone if its own text is long, or if it has none."""
+    try:
+        text = repr(value)
+    except (RecursionError, ValueError):  # it is nested too deep, or a number of thousands of digits
+        text = ""
+    return text if 0 < len(text) <= 80 else f"this {type(value).__name__}"
+
+
+def kind_number(kind: Any, kinds: Mapping[str, int] = KINDS) -> int:
+    """What one of the kinds stands for."""
+    number = kinds.get(kind) if isinstance(kind, str) else None
     if number is None:
-        raise ValueError(f"kind {kind!r} is none of {', '.join(KINDS)}")
+        raise BadArgument(f"kind {shown(kind)} is none of {', '.join(kinds)}")
     return number
+
+
+def whole(number: Any, what: str, most: Optional[int] = None) -> int:
+    """A whole number as an int; from 0 to `most`, if there is such a limit."""
+    try:
+        found: Optional[int] = int(index(number))
+    except TypeError:
+        found = None
+    if found is None or most is not None and not 0 <= found <= most:
+        limits = "" if most is None else f" from 0 to {most}"
+        raise BadArgument(f"{what} is a whole number{limits}, not {shown(number)}")
+    return found
 
 
 def _raise(status: int, answer: _Answer, kind: str, data: bytes, line: Optional[bytes] = None) -> NoReturn:
@@ -233,8 +272,7 @@ def check(data: bytes, kind: str) -> int:
 
 
 def show(data: bytes, kind: str, number: int) -> str:
-    if not 0 <= number < 2 ** 64:
-        raise ValueError(f"the number of an item has 64 bits and no sign: {number}")
+    number = whole(number, "the number of an item", 2 ** 64 - 1)
     status, answer, text = _call(_lib.etcs_show, kind_number(kind), number, data, len(data))
     if status:
         _raise(status, answer, kind, data)
@@ -292,13 +330,13 @@ def pack(sent: List[Field]) -> bytes:
     """Fields as the library takes them."""
     packed = array("Q", bytes(16 * len(sent)))
     if sent:
-        numbers, sent_vars, widths = zip(*map(_SENT, sent))
         rest = memoryview(packed).cast("B").cast("I")
         try:
+            numbers, sent_vars, widths = zip(*map(_SENT, sent))
             packed[::2] = array("Q", numbers)
             rest[2::4], rest[3::4] = memoryview(array("I", sent_vars)), memoryview(array("I", widths))
-        except (OverflowError, TypeError) as fault:
-            raise NotAnItem(f"no variable has this number: {fault}") from None
+        except (AttributeError, OverflowError, TypeError) as fault:
+            raise NotAnItem(f"no field is like this: {fault}") from None
     return packed.tobytes()
 
 

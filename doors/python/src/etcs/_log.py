@@ -6,7 +6,7 @@ from typing import Any, Dict, Iterable, Iterator, List, NamedTuple, Optional, Se
 
 from . import _library
 from ._fields import item_of
-from ._library import EtcsError, Refused
+from ._library import Data, EtcsError, Refused
 from ._values import Item, Kind, Telegram
 
 #: a longer line is bad
@@ -153,10 +153,10 @@ def _line(number: int, raw: bytes, kinds: Sequence[Kind]) -> Optional[LogLine]:
     return LogLine(number, front, None, None, _fault(digits, data, kinds))
 
 
-def read_log(lines: Iterable[Union[str, bytes]], kinds: Union[str, Iterable[Kind]]) -> Iterator[LogLine]:
+def read_log(lines: Iterable[Union[str, Data]], kinds: Union[str, Iterable[Kind]]) -> Iterator[LogLine]:
     """Reads lines as the program's `log` does, each by itself: yields an item or a fault for each, with its number and what is
     before its digits, and nothing for blank lines and comments. `kinds` is one kind or several, also with commas. The lines
-    are a file of text or of bytes, or a list.
+    are a file of text or of bytes, or a list; one that is neither text nor bytes raises a TypeError.
 
         >>> import etcs
         >>> log = ["12:00:03 A1 13 14 0C 40 FF C1 40 27 A1 27 23 18 40 08 C0 7F FF FF FF FF FF FF FF FF FF C0", "# noon", "12:00:04 A2"]
@@ -169,20 +169,18 @@ def read_log(lines: Iterable[Union[str, bytes]], kinds: Union[str, Iterable[Kind
     for kind in asked or [""]:
         _library.kind_number(kind)
     for number, line in enumerate(lines, 1):
-        if len(line) > _MOST_LINE // 4 and _length(line) > _MOST_LINE:
+        raw = line.encode("utf-8", "replace") if isinstance(line, str) else _library.bytes_of(line)
+        if _length(raw) > _MOST_LINE:
             yield LogLine(number, "", None, None, BadLine(f"more than {_MOST_LINE} characters"))
             continue
-        raw = line.encode("utf-8", "replace") if isinstance(line, str) else bytes(line)
         found = _line(number, raw.rstrip(b"\n"), asked)
         if found is not None:
             yield found
 
 
-def _length(line: Union[str, bytes]) -> int:
+def _length(raw: bytes) -> int:
     """How many bytes a line has before its end."""
-    raw = line.encode("utf-8", "replace") if isinstance(line, str) else bytes(line)
-    raw = raw[:-1] if raw[-1:] == b"\n" else raw
-    return len(raw[:-1] if raw[-1:] == b"\r" else raw)
+    return len(raw) - (2 if raw.endswith(b"\r\n") else 1 if raw.endswith((b"\n", b"\r")) else 0)
 
 
 # ---- Groups.
@@ -218,6 +216,7 @@ class Group:
 
     def add(self, telegram: Telegram) -> bool:
         """Holds a telegram of the group, or counts it as a clash; returns whether it is held."""
+        _library.expect(telegram, "a Telegram", Telegram)
         if self._clash(telegram):
             self.clashes += 1
             return False

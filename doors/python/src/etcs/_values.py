@@ -13,7 +13,7 @@ from typing import (
 from . import _library
 from ._blanks import HEADER, PACKETS, ROOM
 from ._explained import meaning
-from ._library import NotAnItem, columns
+from ._library import NotAnItem, NoVariable, columns, shown
 from ._page import frame_of
 from ._variables import VARIABLES, WIDTHS
 
@@ -46,7 +46,7 @@ class Variables(List[Tuple[str, int]]):
             for name, number in self:
                 if name == key:
                     return number
-            raise KeyError(key)
+            raise NoVariable(key)
         return super().__getitem__(key)
 
     @overload
@@ -61,9 +61,9 @@ class Variables(List[Tuple[str, int]]):
         if isinstance(key, str):
             places = [place for place, (name, _) in enumerate(self) if name == key]
             if not places:
-                raise KeyError(key)
+                raise NoVariable(key)
             if len(places) > 1:
-                raise KeyError(f"{key} comes {len(places)} times, at the places {places}")
+                raise NoVariable(f"{key} comes {len(places)} times, at the places {places}")
             key, number = places[0], (key, number)
         super().__setitem__(key, number)
 
@@ -87,7 +87,11 @@ class Variables(List[Tuple[str, int]]):
 def _as_variables(pairs: Pairs) -> Variables:
     if isinstance(pairs, Variables):
         return pairs
-    return Variables(pairs.items() if isinstance(pairs, Mapping) else pairs)
+    every = list(pairs.items() if isinstance(pairs, Mapping) else pairs)
+    try:
+        return Variables([(name, number) for name, number in every])
+    except ValueError as fault:
+        raise NotAnItem(f"a variable is a pair of its name and its number: {fault}") from None
 
 
 class Later:
@@ -164,7 +168,7 @@ def _meaning_in(fields: Variables, name: str) -> str:
             scale = number
         if each == name:
             return meaning(name, number, scale)
-    raise KeyError(name)
+    raise NoVariable(name)
 
 
 def _indented(tree: str) -> str:
@@ -228,7 +232,7 @@ class Packet(_Named):
 def _widths_of(fields: Variables) -> List[int]:
     unknown = [name for name, _ in fields if name not in VARIABLES]
     if unknown:
-        raise NotAnItem(f"there is no variable {unknown[0]}")
+        raise NotAnItem(f"there is no variable {shown(unknown[0])}")
     return [WIDTHS[VARIABLES.index(name)] for name, _ in fields]
 
 
@@ -258,15 +262,16 @@ class Telegram(_Made):
         packets, named = list(packets), dict(_as_variables(header))
         unknown = [name for name in named if name not in dict(HEADER)]
         if unknown:
-            raise NotAnItem(f"the header of a telegram has no variable {unknown[0]}")
+            raise NotAnItem(f"the header of a telegram has no variable {shown(unknown[0])}")
+        for packet in packets:
+            _library.expect(packet, "a Packet", Packet)
         bits = sum(packet._bits() for packet in packets)
         if kind is None:
             kind = "short" if bits <= ROOM["short"] else "long"
-        if kind not in ROOM:
-            raise ValueError(f"kind {kind!r} is none of {', '.join(ROOM)}")
-        if bits > ROOM[kind]:
-            raise NotAnItem(f"the packets have {bits} bits, and a {kind} telegram has room for {ROOM[kind]}")
-        return cls(kind, [(name, named.get(name, least)) for name, least in HEADER], packets, "1" * (ROOM[kind] - bits))
+        room = _library.kind_number(kind, ROOM)
+        if bits > room:
+            raise NotAnItem(f"the packets have {bits} bits, and a {kind} telegram has room for {room}")
+        return cls(kind, [(name, named.get(name, least)) for name, least in HEADER], packets, "1" * (room - bits))
 
     def __repr__(self) -> str:
         return _tree(f"{self.kind} telegram", self.header, self.packets, f"FILL {_digits(self.fill)}")
@@ -279,7 +284,7 @@ class Telegram(_Made):
 
     def meaning(self, name: str) -> str:
         """What the number of a variable of the header stands for."""
-        return meaning(name, self.header[name])
+        return _meaning_in(self.header, name)
 
     def _repr_html_(self) -> Optional[str]:
         """For notebooks: the page of `etcs.page`, where the program is at hand."""
@@ -344,11 +349,10 @@ def blank(nid: int, kind: Kind = "radio") -> Packet:
           L_SECTION = 500
     """
     _library.kind_number(kind)
+    nid = _library.whole(nid, "NID_PACKET", 255)
     known = PACKETS["track" if kind == "train" else "train"]
     if nid in known:
         return _packet(json.loads(known[nid]))
-    if type(nid) is not int or not 0 <= nid <= 255:
-        raise ValueError(f"NID_PACKET is a whole number up to 255, not {nid!r}")
     return Packet(nid, None if kind == "train" else 1, data="")
 
 
@@ -359,7 +363,7 @@ def _pairs(variables: Iterable[Tuple[str, int]]) -> List[List[Any]]:
 
 def _radio_digits(number: int) -> str:
     if type(number) is not int:
-        raise NotAnItem(f"NID_RADIO is a whole number, not {number!r}")
+        raise NotAnItem(f"NID_RADIO is a whole number, not {shown(number)}")
     return f"{number:016x}"
 
 
@@ -389,7 +393,7 @@ def _item(tree: Dict[str, Any]) -> Item:
 
 
 def _check_members(tree: Dict[str, Any], *members: str) -> None:
-    further = [repr(each) for each in tree if each not in members]
+    further = [shown(each) for each in tree if each not in members]
     if further:
         raise NotAnItem(f"a further member: {', '.join(further)}")
 

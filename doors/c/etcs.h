@@ -131,7 +131,7 @@ etcs_status etcs_to_json(etcs_kind kind, const uint8_t *bytes, size_t len, uint8
 etcs_status etcs_fields(etcs_kind kind, const uint8_t *bytes, size_t len, etcs_field *out, size_t room,
                         etcs_answer *answer);
 
-/* The bytes of the item whose JSON this is, at most 1,023.
+/* The bytes of the item whose JSON this is, at most 1,023. A line may have any length.
  *     ETCS_OK, ETCS_NO_ROOM  written
  *     ETCS_BAD_JSON          no item has this JSON; out is unchanged
  *     ETCS_REFUSED           it is older JSON, with bits of packets that are typed by now, and no item has these bits:
@@ -169,8 +169,8 @@ etcs_status etcs_meaning(etcs_kind kind, uint32_t var, uint64_t number, uint32_t
  *     ETCS_ODD_DIGITS        taken, which is how many digits it has, an odd number; out is unchanged */
 etcs_status etcs_line_bytes(const uint8_t *line, size_t len, uint8_t *out, size_t room, etcs_answer *answer);
 
-/* How many bytes are before the digits of a line, not counting blanks and tabs just before the digits; if it has no digits,
- * how many it has. They begin at the line's first byte, or after a byte order mark, EF BB BF, if it begins with one. */
+/* How many bytes are before the digits of a line, not counting blanks, tabs and CRs just before the digits; if it has no
+ * digits, how many it has. They begin at the line's first byte, or after a byte order mark, EF BB BF, if it begins with one. */
 size_t etcs_line_front(const uint8_t *line, size_t len);
 
 /* What telegrams of one balise group make together (SUBSET-026, 3.16.2.4), in whatever order they came. Each is held beside

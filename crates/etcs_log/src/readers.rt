@@ -1,11 +1,11 @@
 //! A reader of each kind.
 
-ghost use Rattle.std.specs.Prelude.{◌≡◌, IfOk};
-ghost use Rattle.etcs_text.specs.declared.entry.Kind.TheVariants.{Long, Short, Radio, Train};
+ghost use Rattle.std.specs.Prelude.{IfOk};
 ghost use Rattle.etcs_text.specs.Verdicts.{IsVerdict};
 
 use etcs_text::{Entry, Kind, SingleReader, Verdict};
 use std::alloc::{AllocError, Global};
+use std::marker::Model;
 
 /// Readers of all kinds. One takes no memory before it reads.
 #[derive(Drop)]
@@ -14,10 +14,17 @@ pub(crate) struct Readers {
     short: SingleReader,
     radio: SingleReader,
     train: SingleReader,
-    ghost is_long: { long ≡ Long },
-    ghost is_short: { short ≡ Short },
-    ghost is_radio: { radio ≡ Radio },
-    ghost is_train: { train ≡ Train },
+}
+
+impl Model for Readers {
+    ghost use Rattle.std.specs.Prelude.{◌≡◌, ⊤};
+    ghost use Rattle.etcs_text.specs.declared.entry.Kind.TheVariants.{Long, Short, Radio, Train};
+
+    ghost Value = { ⊤ };
+
+    ghost view = { λ r. tt };
+
+    ghost invariant = { λ r. (r.long ≡ Long) × (r.short ≡ Short) × (r.radio ≡ Radio) × (r.train ≡ Train) };
 }
 
 impl Readers {

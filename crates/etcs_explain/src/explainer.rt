@@ -1,6 +1,6 @@
 //! Parts of an input explained, one after another.
 
-ghost use Rattle.std.specs.Prelude.{◌≡◌, ◌+◌, ◌<◌, ◌≤◌, ◌++◌, ◌∷◌, ◌⊎◌, ℕ, List, [], true, false, Some, None, length, string_bytes, take, IfOk, IsTrue, OnErr, OnOk};
+ghost use Rattle.std.specs.Prelude.{◌≡◌, ◌+◌, ◌<◌, ◌≤◌, ◌++◌, ◌∷◌, ◌⊎◌, ◌↔◌, ℕ, List, [], true, false, Some, None, length, string_bytes, take, IfOk, IsTrue, OnErr, OnOk};
 ghost use Rattle.etcs_bits.specs.Bits.{bits};
 ghost use Rattle.etcs_vars.specs.Reading.{readings_of};
 ghost use Rattle.etcs_text.specs.Entries.{EntryReads};
@@ -429,6 +429,7 @@ fn long_fault(from: Form, line: u64) -> RunFault
 fn waits(from: Form, account: &Account, count: usize) -> bool
     ensures waits { IsTrue result → ((part : Part) × (account.now.end ≡ End.Open part)) ⊎ (count < 1023) }
     ensures whole { account.now.end ≡ End.Whole → result ≡ false }
+    ensures refused { (bit : ℕ) (part : Part) → account.now.end ≡ End.Refused bit part → IsTrue result ↔ ((from ≡ form.Bin) × (count < 1023)) }
     ensures other { result ≡ false → (part : Part) → account.now.end ≡ End.Open part → ⊥ }
 {
     match account.end {

@@ -233,6 +233,8 @@ class Tests(unittest.TestCase):
                 list(etcs.read_log([wrong], "short"))
         with self.assertRaisesRegex(TypeError, "memoryview of bytes is wanted, not int$"):
             list(etcs.read_log(b"A1", "short"))
+        with self.assertRaisesRegex(TypeError, "not a single text$"):
+            list(etcs.read_log("A1\nA2\n", "short"))
         whole, too_long = "524288 bytes, a short telegram has 27", "more than 1048576 characters"
         for line, note in (("A1" * 2**19, whole), ("A1" * 2**19 + "\n", whole), ("A1" * 2**19 + "\r\n", whole), ("A1" * 2**19 + "1", too_long),
                            ("A1" * 2**19 + "1\r\n", too_long), ("\u00e9" * (2**19 - 1) + "A1", "1 byte, a short telegram has 27"), ("\u00e9" * 2**19 + "1", too_long)):

@@ -156,7 +156,7 @@ def _line(number: int, raw: bytes, kinds: Sequence[Kind]) -> Optional[LogLine]:
 def read_log(lines: Iterable[Union[str, Data]], kinds: Union[str, Iterable[Kind]]) -> Iterator[LogLine]:
     """Reads lines as the program's `log` does, each by itself: yields an item or a fault for each, with its number and what is
     before its digits, and nothing for blank lines and comments. `kinds` is one kind or several, also with commas. The lines
-    are a file of text or of bytes, or a list; one that is neither text nor bytes raises a TypeError.
+    are a file of text or of bytes, or a list; one that is neither text nor bytes raises a TypeError, and so does a single text.
 
         >>> import etcs
         >>> log = ["12:00:03 A1 13 14 0C 40 FF C1 40 27 A1 27 23 18 40 08 C0 7F FF FF FF FF FF FF FF FF FF C0", "# noon", "12:00:04 A2"]
@@ -168,6 +168,8 @@ def read_log(lines: Iterable[Union[str, Data]], kinds: Union[str, Iterable[Kind]
     asked: Any = tuple(kinds.split(",") if isinstance(kinds, str) else kinds)
     for kind in asked or [""]:
         _library.kind_number(kind)
+    if isinstance(lines, str):
+        raise TypeError("lines are wanted, a file or a list, not a single text")
     for number, line in enumerate(lines, 1):
         raw = line.encode("utf-8", "replace") if isinstance(line, str) else _library.bytes_of(line)
         if _length(raw) > _MOST_LINE:

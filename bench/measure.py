@@ -3,23 +3,23 @@
 
     bench/measure.py [--kinds short,long,radio,train] [--forms bin,hex,json,C,Python]
                      [--commands check,show,bin,hex,json] [--items N] [--edits N] [--seed N] [--jobs N]
-                     [--doors FOLDER] [--write | --check] [PROGRAM]
+                     [--bindings FOLDER] [--write | --check] [PROGRAM]
 
 PROGRAM is `etcs`, by default the one that `./etcs build` has built. The plain decoder is
 bench/plain/plain.rs, which rustc builds here. The commands are `check`, `show` and `convert` to a form. A
 count is callgrind's over N items (2,000) less that over an empty input, divided by N: it hardly varies from
 run to run.
 
-The forms C and Python are the doors of the library, each of which checks items in memory beside a walker of
-bench/walkers.py. FOLDER has libetcs.a and libetcs.so.1, and is by default that of `doors/build`. If they
-aren't there and no form is named, the doors are left out. A count is that of checking all items twice less
+The forms C and Python are the bindings of the library, each of which checks items in memory beside a walker of
+bench/walkers.py. FOLDER has libetcs.a and libetcs.so.1, and is by default that of `bindings/build`. If they
+aren't there and no form is named, the bindings are left out. A count is that of checking all items twice less
 that of checking them once, divided by N.
 
 Every answer of both is compared with the mix's own bytes, digits, JSON and lines of `check`, and the
 program's text of `show` with the plain decoder's. An answer that differs is named, and isn't counted. If JSON
 is measured, both read N lines of each kind (1,000) that bench/edits.py has changed: if the plain decoder
 accepts a line, the program has to give the same answer, and if it refuses one, the program has to refuse
-it too or to write another line. A door and its walker have to answer alike to N changed items.
+it too or to write another line. A binding and its walker have to answer alike to N changed items.
 
 The table is written a row at a time. With --write it is put into bench/README.md as well, unless an answer
 differs, with the commit and the versions of rustc and the kit. With --check nothing is put there: a row
@@ -39,7 +39,7 @@ import sys
 from concurrent.futures import ThreadPoolExecutor
 
 sys.dont_write_bytecode = True
-import doors
+import bindings
 import edits
 import mix
 
@@ -49,7 +49,7 @@ README = os.path.join(HERE, "README.md")
 PROGRAM = os.path.join(TOP, "crates", "etcs", "out", "etcs")
 CACHE = os.environ.get("XDG_CACHE_HOME") or os.path.expanduser("~/.cache")
 FOLDER = os.path.abspath(os.environ.get("BENCH") or os.path.join(CACHE, "etcs_bench"))
-DOORS = ["C", "Python"]
+BINDINGS = ["C", "Python"]
 COMMANDS = {
     "check": ["check"],
     "show": ["show"],
@@ -86,7 +86,7 @@ def at_least(least):
     def count(text):
         number = int(text)
         if number < least:
-            raise argparse.ArgumentTypeError(f"at least {least} is wanted")
+            raise argparse.ArgumentTypeError(f"must be at least {least}")
         return number
 
     return count
@@ -96,22 +96,22 @@ def parsed():
     """The words of the command line, lists as lists of their known names."""
     words = argparse.ArgumentParser(description=__doc__, formatter_class=argparse.RawDescriptionHelpFormatter)
     words.add_argument("program", nargs="?", default=PROGRAM)
-    lists = {"--kinds": mix.KINDS, "--forms": [*mix.FORMS, *DOORS], "--commands": list(COMMANDS)}
+    lists = {"--kinds": mix.KINDS, "--forms": [*mix.FORMS, *BINDINGS], "--commands": list(COMMANDS)}
     for option, known in lists.items():
         words.add_argument(option, type=names_of(known))
     words.add_argument("--items", type=at_least(1), default=mix.ITEMS)
     words.add_argument("--edits", type=at_least(0), default=edits.LINES)
     words.add_argument("--seed", type=int, default=mix.SEED)
     words.add_argument("--jobs", type=at_least(1), default=1)
-    words.add_argument("--doors", default=doors.LIBRARIES)
+    words.add_argument("--bindings", default=bindings.LIBRARIES)
     written = words.add_mutually_exclusive_group()
     written.add_argument("--write", action="store_true")
     written.add_argument("--check", action="store_true")
     given = words.parse_args()
     if given.write and (given.kinds or given.forms or given.commands):
         words.error("--write wants the whole table")
-    if not given.forms and not os.path.exists(os.path.join(given.doors, "libetcs.a")):
-        print(f"{given.doors} has no libetcs.a: the doors are left out", file=sys.stderr)
+    if not given.forms and not os.path.exists(os.path.join(given.bindings, "libetcs.a")):
+        print(f"{given.bindings} has no libetcs.a: the bindings are left out", file=sys.stderr)
         lists["--forms"] = mix.FORMS
     given.kinds = given.kinds or lists["--kinds"]
     given.forms = given.forms or lists["--forms"]
@@ -178,8 +178,8 @@ class Kind:
         self.drawn = mix.items(name, words.items, words.seed)
         self.edited = edits.lines(name, words.edits, words.seed) if "json" in words.forms else []
         self.given = {form: mix.written(form, self.drawn) for form in mix.FORMS}
-        self.given["items"] = doors.records([item for item, _ in self.drawn])
-        self.given["changed"] = doors.records(edits.items(name, words.edits, words.seed))
+        self.given["items"] = bindings.records([item for item, _ in self.drawn])
+        self.given["changed"] = bindings.records(edits.items(name, words.edits, words.seed))
         self.sources = {part: os.path.join(FOLDER, f"{name}.{part}") for part in self.given}
         for part, source in self.sources.items():
             with open(source, "wb") as file:
@@ -254,19 +254,19 @@ class Kind:
 
 def measured(words, kinds, pool):
     """Yields the rows with both counts, each of which is nothing if an answer differs."""
-    rows, at_doors = [], {}
-    if set(DOORS) & set(words.forms):
+    rows, at_bindings = [], {}
+    if set(BINDINGS) & set(words.forms):
         try:
-            at_doors = doors.programs(words.doors, FOLDER)
+            at_bindings = bindings.programs(words.bindings, FOLDER)
         except (OSError, subprocess.CalledProcessError) as fault:
-            raise Unrunnable(f"the doors: {fault}") from fault
+            raise Unrunnable(f"the bindings: {fault}") from fault
     for kind in kinds:
         for form in words.forms:
             for command in words.commands:
                 if form in mix.FORMS:
                     rows.append(([kind.name, form, command], pool.submit(kind.count, command, form)))
                 elif command == "check":
-                    rows.append(([kind.name, form, command], pool.submit(kind.count_in_memory, at_doors[form])))
+                    rows.append(([kind.name, form, command], pool.submit(kind.count_in_memory, at_bindings[form])))
     for names, counts in rows:
         yield [*names, *counts.result()]
 
@@ -294,12 +294,12 @@ def drawn(words):
 def about(words):
     """The line before the table: what was measured, and with what."""
     commit = said(["git", "rev-parse", "--short=8", "HEAD"]).strip()
-    if said(["git", "status", "--porcelain", "crates", "doors", "bench/*.py", "bench/*.c", "bench/plain"]):
+    if said(["git", "status", "--porcelain", "crates", "bindings", "bench/*.py", "bench/*.c", "bench/plain"]):
         commit += " with changes"
     rustc = " ".join(said(["rustc", "--version"]).split()[:2])
     kit = said([shutil.which("rt") or "/opt/rattle/bin/rt", "--version"]).split()[0]
     named = [] if words.program == PROGRAM else ["a program"]
-    named += [] if words.doors == doors.LIBRARIES else ["a library"]
+    named += [] if words.bindings == bindings.LIBRARIES else ["a library"]
     of = f", of {' and '.join(named)} named on the command line" if named else ""
     return f"Instructions an item, measured at {commit}{of}, over {drawn(words)}, with {rustc} and {kit}:\n"
 

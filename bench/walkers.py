@@ -1,10 +1,10 @@
 #!/usr/bin/env python3
-"""Walkers over items in memory, which check them and make no values of them: the doors of the library are measured
+"""Walkers over items in memory, which check them and make no values of them: the bindings of the library are measured
 beside them.
 
     bench/walkers.py
 
-writes the walker in C, which has the call `etcs_check` of doors/c/etcs.h, calls no library, and for a refused item
+writes the walker in C, which has the call `etcs_check` of bindings/c/etcs.h, calls no library, and for a refused item
 gives neither bit nor variable. It may read 64 bytes past an item. `taken` walks in Python.
 
 Both are made from the rows of mix.py and from the numbers that plain/variables.rs admits. A variable that admits every

@@ -1,0 +1,402 @@
+"""The calls of etcs.h by ctypes: bytes in, bytes and numbers out, statuses as exceptions."""
+
+from __future__ import annotations
+
+import ctypes
+import os
+import threading
+from array import array
+from functools import lru_cache
+from itertools import accumulate, repeat
+from operator import attrgetter, index
+from typing import Any, List, Mapping, NamedTuple, NoReturn, Optional, Tuple, Union
+
+from ._variables import VARIABLES
+
+#: the kinds by their numbers in the library
+KINDS = {"long": 1, "short": 2, "radio": 3, "train": 4}
+
+_OK, _MORE, _REFUSED, _NO_ROOM, _NO_MEMORY, _UNKNOWN_KIND, _BAD_JSON, _BAD_FIELDS = range(8)
+#: why a line of hexadecimal gives no bytes
+EMPTY_LINE, NO_DIGITS, ODD_DIGITS = 8, 9, 10
+_SENT = attrgetter("number", "var", "width")
+
+#: no item has more bytes
+_LONGEST = 1023
+
+#: what is accepted as bytes
+Data = Union[bytes, bytearray, memoryview]
+
+
+class Field(NamedTuple):
+    """A variable as it is sent."""
+
+    name: str
+    number: int
+    #: the bit where it begins, from 0, and how many bits it takes
+    bit: int
+    width: int
+    #: which variable, by its place in VARIABLES
+    var: int
+
+
+class EtcsError(ValueError):
+    """Bytes or values that aren't an item, or a wrong argument."""
+
+
+class BadArgument(EtcsError):
+    """An unknown kind, a number that isn't whole or is out of range, or a memoryview that was released."""
+
+
+class NoVariable(EtcsError, KeyError):
+    """There is no variable of this name, or one is set by a name that occurs several times."""
+
+
+class Refused(EtcsError):
+    """No item of the kind continues with the bit `bit` (from 0), which the variable `variable` holds.
+
+    `fields` and `reason` are computed when they are read, so a refusal costs nothing that isn't used.
+
+        >>> import etcs
+        >>> try:
+        ...     etcs.decode(bytes.fromhex("0602C0"), "radio")
+        ... except etcs.Refused as fault:
+        ...     print(fault.bit, fault.variable, fault.fields[0].name, fault.fields[0].number)
+        ...     print(fault.reason)
+        17 L_MESSAGE NID_MESSAGE 6
+        message 6 has 10 or 13 to 1023 bytes, not 11
+    """
+
+    #: from a Reader: the items before it, and which item this one is
+    items: Optional[List[Any]] = None
+    item: Optional[int] = None
+
+    def __init__(self, bit: int, variable: str, kind: str = "", data: bytes = b"", line: Optional[bytes] = None) -> None:
+        super().__init__(bit, variable)
+        self.bit, self.variable = bit, variable
+        self._kind, self._data, self._line = kind, data, line
+
+    @property
+    def fields(self) -> List[Field]:
+        """Variables before the one that holds the bit, as `etcs.fields` returns them; none for JSON in which stored bits
+        are refused."""
+        return [] if self._line is not None or not self._kind else fields_before(self._data, self._kind)
+
+    @property
+    def reason(self) -> str:
+        """Why the bit is refused, a sentence without a capital or a full stop. The wording may change between versions."""
+        if not self._kind:
+            return ""
+        return explain(self._data, self._kind) if self._line is None else explain_json(self._line, self._kind)
+
+    def __str__(self) -> str:
+        return f"refused at bit {self.bit}, {self.variable}"
+
+
+class Truncated(EtcsError):
+    """The bytes begin an item and end inside it."""
+
+    def __init__(self, bits: int) -> None:
+        super().__init__(bits)
+        self.bits = bits
+
+    def __str__(self) -> str:
+        return f"truncated after {self.bits} bits"
+
+
+class NotAnItem(EtcsError):
+    """No item of the kind has these values.
+
+    `reason` is the reason, for a tree or JSON with the path of the first part that is wrong. It is computed when it is read,
+    or when the exception is printed.
+
+        >>> import etcs
+        >>> message = etcs.decode(bytes.fromhex("18034000000000080031280620"), "radio")
+        >>> message.packets[0]["Q_SRSTOP"] = 2
+        >>> try:
+        ...     etcs.encode(message)
+        ... except etcs.NotAnItem as fault:
+        ...     print(fault.reason)
+        .packets[0].fields[0]: Q_SRSTOP admits 0 and 1, not 2
+    """
+
+    def __init__(self, text: str, kind: str = "", line: Optional[bytes] = None) -> None:
+        super().__init__(text)
+        self._text, self._kind, self._line = text, kind, line
+
+    @property
+    def reason(self) -> str:
+        """The reason, a sentence without a capital or a full stop. The wording may change between versions."""
+        return self._text if self._line is None else explain_json(self._line, self._kind)
+
+    def __str__(self) -> str:
+        return self._text if self._line is None else f"{self._text}: {self.reason}"
+
+
+class _Answer(ctypes.Structure):
+    _fields_ = [("taken", ctypes.c_size_t), ("written", ctypes.c_size_t), ("bit", ctypes.c_size_t), ("var", ctypes.c_char * 32)]
+
+
+def _load() -> ctypes.CDLL:
+    here = os.path.dirname(os.path.abspath(__file__))
+    for path in (os.environ.get("ETCS_LIBRARY"), os.path.join(here, "libetcs.so.1"), os.path.join(here, "..", "..", "..", "out", "libetcs.so.1")):
+        if path and os.path.exists(path):
+            return ctypes.CDLL(path)
+    return ctypes.CDLL("libetcs.so.1")
+
+
+_lib = _load()
+_bytes, _size, _number, _answer, _out = ctypes.c_char_p, ctypes.c_size_t, ctypes.c_uint32, ctypes.POINTER(_Answer), ctypes.c_void_p
+for _name, _types in {
+    "etcs_check": [_number, _bytes, _size, _answer],
+    "etcs_show": [_number, ctypes.c_uint64, _bytes, _size, _out, _size, _answer],
+    "etcs_to_json": [_number, _bytes, _size, _out, _size, _answer],
+    "etcs_from_json": [_number, _bytes, _size, _out, _size, _answer],
+    "etcs_fields": [_number, _bytes, _size, _out, _size, _answer],
+    "etcs_from_fields": [_number, _bytes, _size, _out, _size, _answer],
+    "etcs_explain": [_number, _bytes, _size, _out, _size, _answer],
+    "etcs_fields_before": [_number, _bytes, _size, _out, _size, _answer],
+    "etcs_explain_json": [_number, _bytes, _size, _out, _size, _answer],
+    "etcs_meaning": [_number, _number, ctypes.c_uint64, _number, _out, _size, _answer],
+    "etcs_line_bytes": [_bytes, _size, _out, _size, _answer],
+    "etcs_line_front": [_bytes, _size],
+    "etcs_assemble": [_out, _size, _out, _answer],
+    "etcs_version": [_out, _size, _answer],
+}.items():
+    getattr(_lib, _name).argtypes = _types
+    getattr(_lib, _name).restype = _size if _name == "etcs_line_front" else _number
+
+
+class _Buffers(threading.local):
+    """A thread's buffers that no call is using."""
+
+    def __init__(self) -> None:
+        self.free: List[ctypes.Array[ctypes.c_char]] = []
+
+
+_buffers = _Buffers()
+
+
+def bytes_of(data: Data) -> bytes:
+    """The bytes of an argument that is accepted as bytes. Nothing else is: bytes(3) would be three zeros."""
+    if type(data) is bytes:
+        return data
+    try:
+        if isinstance(data, (bytes, bytearray)) or isinstance(data, memoryview) and data.format in ("B", "b", "c"):
+            return bytes(memoryview(data))  # of a subclass, which may have a length of its own, the bytes themselves
+        what = f"memoryview of format {data.format!r}" if isinstance(data, memoryview) else type(data).__name__
+    except ValueError as fault:
+        raise BadArgument(f"no bytes: {fault}") from None
+    hint = ": bytes.fromhex makes them of digits" if isinstance(data, str) else ""
+    raise TypeError(f"expected bytes, a bytearray or a memoryview of bytes, not {what}{hint}")
+
+
+def expect(value: Any, words: str, *types: type) -> None:
+    """Raises a TypeError unless the value is of one of the types."""
+    if not isinstance(value, types):
+        raise TypeError(f"expected {words}, not {type(value).__name__}")
+
+
+def shown(value: Any) -> str:
+    """A value as it is shown in a sentence: only its type if its text is long, or if it has none."""
+    try:
+        text = repr(value)
+    except (RecursionError, ValueError):  # it is nested too deep, or a number of thousands of digits
+        text = ""
+    return text if 0 < len(text) <= 80 else f"this {type(value).__name__}"
+
+
+def kind_number(kind: Any, kinds: Mapping[str, int] = KINDS) -> int:
+    """The number of a kind."""
+    number = kinds.get(kind) if isinstance(kind, str) else None
+    if number is None:
+        raise BadArgument(f"kind {shown(kind)} is none of {', '.join(kinds)}")
+    return number
+
+
+def whole(number: Any, what: str, most: Optional[int] = None) -> int:
+    """A whole number as an int; from 0 to `most`, if there is such a limit."""
+    try:
+        found: Optional[int] = int(index(number))
+    except TypeError:
+        found = None
+    if found is None or most is not None and not 0 <= found <= most:
+        limits = "" if most is None else f" from 0 to {most}"
+        raise BadArgument(f"{what} is a whole number{limits}, not {shown(number)}")
+    return found
+
+
+def _raise(status: int, answer: _Answer, kind: str, data: bytes, line: Optional[bytes] = None) -> NoReturn:
+    """Raises the exception for a status, about bytes of a kind or about a line of JSON."""
+    if status == _MORE:
+        raise Truncated(8 * len(data))
+    if status == _REFUSED:
+        raise Refused(answer.bit, answer.var.decode(), kind, data[:_LONGEST], line)
+    if status == _NO_MEMORY:
+        raise MemoryError("libetcs")
+    if status == _BAD_JSON:
+        raise NotAnItem("no item of the kind has this tree", kind, line)
+    if status == _BAD_FIELDS:
+        raise NotAnItem("no item of the kind has these fields")
+    raise RuntimeError(f"unexpected status {status} from libetcs")
+
+
+def _call(call: Any, *before: Any, wide: int = 1, done: Tuple[int, ...] = (_OK,)) -> Tuple[int, _Answer, bytes]:
+    """A call's status and answer, and what it wrote, in parts of `wide` bytes, if the status is one of `done`; it is called
+    once more if the buffer has no room.
+
+    Answer and buffer belong to this call alone until it returns, so that a signal handler or a finalizer may call meanwhile.
+    """
+    answer, free = _Answer(), _buffers.free
+    try:
+        buffer = free.pop()
+    except IndexError:
+        buffer = ctypes.create_string_buffer(16384)
+    status = call(*before, buffer, len(buffer) // wide, answer)
+    if status == _NO_ROOM:
+        buffer = ctypes.create_string_buffer(answer.written * wide)
+        status = call(*before, buffer, len(buffer) // wide, answer)
+    written = ctypes.string_at(buffer, answer.written * wide) if status in done else b""
+    if not free:
+        free.append(buffer)
+    return status, answer, written
+
+
+def check(data: bytes, kind: str) -> int:
+    answer = _Answer()
+    status = _lib.etcs_check(kind_number(kind), data, len(data), answer)
+    if status:
+        _raise(status, answer, kind, data)
+    return answer.taken  # type: ignore[no-any-return]
+
+
+def show(data: bytes, kind: str, number: int) -> str:
+    number = whole(number, "the number of an item", 2 ** 64 - 1)
+    status, answer, text = _call(_lib.etcs_show, kind_number(kind), number, data, len(data))
+    if status:
+        _raise(status, answer, kind, data)
+    return text.decode("ascii")
+
+
+def to_json(data: bytes, kind: str) -> Tuple[bytes, int]:
+    status, answer, line = _call(_lib.etcs_to_json, kind_number(kind), data, len(data))
+    if status:
+        _raise(status, answer, kind, data)
+    return line, answer.taken
+
+
+def from_json(line: bytes, kind: str) -> bytes:
+    if kind not in KINDS:
+        raise NotAnItem(f"the member kind is none of {', '.join(KINDS)}")
+    status, answer, data = _call(_lib.etcs_from_json, KINDS[kind], line, len(line))
+    if status:
+        _raise(status, answer, kind, b"", line)
+    return data
+
+
+def fields(data: bytes, kind: str) -> Tuple[bytes, int]:
+    """The fields of the item at the front, 16 bytes each, and how many bytes the item takes."""
+    status, answer, sent = _call(_lib.etcs_fields, kind_number(kind), data, len(data), wide=16)
+    if status:
+        _raise(status, answer, kind, data)
+    return sent, answer.taken
+
+
+def columns(sent: bytes) -> Tuple[List[int], List[int], List[int]]:
+    """Numbers, variables and widths of fields."""
+    view = memoryview(sent)
+    rest = view.cast("I")
+    return view.cast("Q")[::2].tolist(), rest[2::4].tolist(), rest[3::4].tolist()
+
+
+def placed(sent: bytes) -> List[Field]:
+    """Fields with the bits where they begin."""
+    numbers, sent_vars, widths = columns(sent)
+    rows = zip(map(VARIABLES.__getitem__, sent_vars), numbers, accumulate([0, *widths]), widths, sent_vars)
+    # the same as Field(*row) for each, without a Python call for each
+    return list(map(tuple.__new__, repeat(Field), rows))  # type: ignore[arg-type]
+
+
+def _whole_bytes(packed: bytes) -> bytes:
+    """The bits of fields that have their widths, up to the last whole byte."""
+    bits = number = 0
+    for each, _, width in zip(*columns(packed)):
+        number, bits = number << width | each, bits + width
+    return (number >> bits % 8).to_bytes(bits // 8, "big")
+
+
+def pack(sent: List[Field]) -> bytes:
+    """Fields as the library reads them."""
+    packed = array("Q", bytes(16 * len(sent)))
+    if sent:
+        rest = memoryview(packed).cast("B").cast("I")
+        try:
+            numbers, sent_vars, widths = zip(*map(_SENT, sent))
+            packed[::2] = array("Q", numbers)
+            rest[2::4], rest[3::4] = memoryview(array("I", sent_vars)), memoryview(array("I", widths))
+        except (AttributeError, OverflowError, TypeError) as fault:
+            raise NotAnItem(f"not a field: {fault}") from None
+    return packed.tobytes()
+
+
+def from_fields(packed: bytes, kind: str) -> bytes:
+    status, answer, data = _call(_lib.etcs_from_fields, kind_number(kind), packed, len(packed) // 16)
+    if status == _MORE:
+        raise Truncated(sum(columns(packed)[2]))
+    if status:
+        _raise(status, answer, kind, _whole_bytes(packed) if status == _REFUSED else b"")
+    return data
+
+
+def if_item(packed: bytes, kind: str) -> Optional[bytes]:
+    """The bytes of the item with these fields, or None for whatever reason."""
+    status, _, data = _call(_lib.etcs_from_fields, kind_number(kind), packed, len(packed) // 16)
+    return None if status else data
+
+
+def explain(data: bytes, kind: str) -> str:
+    """Why a bit of the bytes is refused; "" if none is."""
+    status, answer, text = _call(_lib.etcs_explain, kind_number(kind), data, len(data), done=(_REFUSED,))
+    if status not in (_OK, _MORE, _REFUSED):
+        _raise(status, answer, kind, data)
+    return text.decode()
+
+
+def fields_before(data: bytes, kind: str) -> List[Field]:
+    """The fields before a refused bit; none if no bit is refused."""
+    status, answer, sent = _call(_lib.etcs_fields_before, kind_number(kind), data, len(data), wide=16, done=(_REFUSED,))
+    if status not in (_OK, _MORE, _REFUSED):
+        _raise(status, answer, kind, data)
+    return placed(sent)
+
+
+def explain_json(line: bytes, kind: str) -> str:
+    """Why a line isn't the JSON of an item; "" if it is."""
+    status, answer, text = _call(_lib.etcs_explain_json, kind_number(kind), line, len(line), done=(_REFUSED, _BAD_JSON))
+    if status not in (_OK, _REFUSED, _BAD_JSON):
+        _raise(status, answer, kind, b"", line)
+    return text.decode()
+
+
+@lru_cache(maxsize=8192)
+def meaning(kind: str, var: int, number: int, scale: Optional[int]) -> str:
+    """What a number of a variable of an item of the kind means; "" if it has no meaning."""
+    status, answer, text = _call(_lib.etcs_meaning, KINDS[kind], var, number, scale if scale in (0, 1, 2) else 3)
+    if status:
+        _raise(status, answer, kind, b"")
+    return text.decode("ascii")
+
+
+def line_bytes(line: bytes) -> Tuple[int, bytes, int]:
+    """0 and the bytes of the digits of a line; or why there are none, and the number of digits if it is odd."""
+    status, answer, data = _call(_lib.etcs_line_bytes, line, len(line))
+    if status not in (_OK, EMPTY_LINE, NO_DIGITS, ODD_DIGITS):
+        _raise(status, answer, "", b"")
+    return status, data, answer.taken
+
+
+def line_front(line: bytes) -> bytes:
+    """The text before the digits of a line."""
+    start = 3 if line.startswith(b"\xef\xbb\xbf") else 0
+    count: int = _lib.etcs_line_front(line, len(line))
+    return line[start:start + count]

@@ -8,11 +8,17 @@ RT is the path of `rt`, and CRATE the folder of the crate. With a verb it does w
 it is called in, as tools/rt does. Progress goes to standard error, and what rt writes about a crate to its
 out/build.log. The status is 0 if the crate is built.
 
-Two runs of `rt` can't run at the same time here: each locks its crate's folder and those of all libraries below it
-until it ends, and every crate rests on the lowest one. `rt all` locks all of them once and works in parallel, but with one
-job for each crate, and most crates here rest on one another. So this is one run over the module that `rt` itself is made
-of: it locks once, as `rt all` does, and makes for each crate the call that `rt lib` or `rt run` makes. What is proved, and
-what is kept in out/, is the same. Two things differ.
+A build proves each crate from nothing, as `rt ci` does: over the statements of the libraries below it, without their
+proofs, which are more than nine tenths of what there is to load. What is proved is kept as `rt ci` keeps it, so that each of the two
+takes over what the other has proved of the same files. Nothing is kept of a part of a crate. That is for those who change
+proofs: where `tools/rt check` and `tools/rt lib` have kept their work of all libraries, a build continues from that.
+
+The rest of this is about builds of that kind, and about `tools/rt`. Two runs of `rt` can't run at the same time
+here: each locks its crate's folder and those of all libraries below it until it ends, and every crate rests on the
+lowest one. `rt all` locks all of them once and works in parallel, but with one job for each crate, and most crates here
+rest on one another. So this is one run over the module that `rt` itself is made of: it locks once, as `rt all` does, and
+makes for each crate the call that `rt lib` or `rt run` makes. What is proved, and what is kept in out/, is the same. Two
+things differ.
 
 Checksums: to see what changed, rt computes the checksums of a crate's files and those of all libraries below it, each time
 that it looks at one of them: a thousand times for the upper crates here. In this run each is computed once for each look.
@@ -29,6 +35,7 @@ library of 145 seconds took 112 with two jobs, and 109 with four, at 181 and 190
 
 import contextlib
 import copy
+import hashlib
 import os
 import signal
 import subprocess
@@ -48,6 +55,7 @@ AT_ONCE_KEPT, MEMORY_KEPT = 4, 3_000_000_000
 # What judges the repository, and so is left to rt itself, unchanged.
 JUDGES = ("ci", "verdict", "selftest")
 START = time.monotonic()
+TOP = os.path.dirname(os.path.dirname(os.path.realpath(__file__)))
 LOOK = threading.local()
 
 
@@ -253,18 +261,118 @@ def build_top(crate, flags):
     return True
 
 
+class Statements:
+    """A build over statements: what rt ci does with some crates, but for their tests, edits and runs."""
+
+    def __init__(self, rt, crates):
+        self.rt, self.crates, self.kept, self.count, self.lock = rt, crates, rt.Kept(crates), 0, threading.Lock()
+
+    def note_of(self, crate):
+        return f"{crate.folder}/out/proved"
+
+    def is_there(self, crate, key):
+        """Returns whether the crate is built here, of the same files over the same libraries, and as it was left."""
+        with contextlib.suppress(OSError), open(self.note_of(crate), encoding="ascii") as it:
+            said = it.read().split()
+            if said[:1] == [key] and (made := self.kept.made(crate, False)) and self.kept.is_whole(crate, False, made):
+                self.kept.is_built(crate)
+                return said[1:] == [self.sum_of(crate)]
+        return False
+
+    def sum_of(self, crate):
+        """Returns the sum of what the proof made."""
+        files = [f"{crate.folder}/out/{it}" for it in self.kept.made(crate, False)]
+        return hashlib.sha256(repr([self.rt.rtlib.sum_of(it) for it in files]).encode()).hexdigest()
+
+    def prove(self, crate, jobs):
+        """Proves a crate or takes it over, and returns whether it is proved."""
+        key, begun = self.kept.key(crate), time.monotonic()
+        crate = copy.copy(crate)
+        with self.kept.in_turn(crate, False, key), open(log_of(crate.folder), "w", encoding="utf-8") as crate.out:
+            is_new = not self.is_there(crate, key) and not self.kept.give(crate, False, key)
+            if is_new:
+                say(f"proving {crate.name}")
+                if crate.ci(["--jobs", str(jobs)], False):
+                    return False
+            self.kept.is_built(crate)
+            if is_new:
+                self.kept.keep(crate, False, key)
+        with open(self.note_of(crate), "w", encoding="ascii") as it:
+            it.write(f"{key} {self.sum_of(crate)}")
+        with self.lock:
+            self.count += 1
+            if is_new:
+                say(f"proved {crate.name}, {self.count} of {len(self.crates)} crates ({since(begun)}, {since(START)} in all)")
+        return True
+
+    def task(self, crate):
+        def call(given, jobs):
+            below = all(given[it.name, "proof"] for it in crate.below())
+            is_proved = below and self.prove(crate, jobs)
+            if below and not is_proved:
+                give_up_on(crate.folder)
+            return is_proved
+
+        return [(it.name, "proof") for it in crate.below()], crate.count(rb"\n"), self.rt.need(crate), call
+
+    def build(self):
+        """Proves all crates, and returns whether that went well."""
+        given = self.rt.in_lanes({(it.name, "proof"): self.task(it) for it in self.crates})
+        self.kept.shrink()
+        return all(given.values())
+
+
+def build_over_statements(rt, name):
+    """Builds a program or a static library over the statements of the libraries below it, and returns whether that went well."""
+    rt.Crate.cuts_libraries = True
+    os.chdir(TOP)
+    rt.Crate.allowed = rt.handles_of(TOP)
+    crate = next(it for it in rt.crates_of(TOP) if it.name == name)
+    below = sorted(crate.below(), key=lambda it: len(it.below()))
+    held = rt.rtlib.lock([*below, crate])
+    made = Statements(rt, [*below, *([] if crate.is_static else [crate])])
+    is_well = made.build() and (not crate.is_static or archive_over_statements(made, crate))
+    for it in held:
+        os.close(it)
+    return is_well
+
+
+def archive_over_statements(made, crate):
+    """Proves and compiles a static library, unless it is there, and returns whether that went well."""
+    archive, note = f"{crate.folder}/out/lib{crate.name}.a", f"{crate.folder}/out/lib{crate.name}.stamp"
+    stamp = made.kept.key(crate)
+    with contextlib.suppress(OSError), open(note, encoding="ascii") as it:
+        if it.read() == stamp and os.path.isfile(archive):
+            return True
+        os.remove(note)
+    say(f"proving and compiling the static library {crate.name}")
+    begun = time.monotonic()
+    with open(log_of(crate.folder), "w", encoding="utf-8") as crate.out:
+        words = [*crate.words(["--jobs", "1"], keeps=False), "--toolchain", f"{made.rt.KIT}/toolchain", "--backend", "llvm"]
+        status = crate.prove(["build", *words, "-o", f"out/lib{crate.name}.a"])
+    if status:
+        give_up_on(crate.folder)
+        return False
+    with open(note, "w", encoding="ascii") as it:
+        it.write(stamp)
+    say(f"the static library is proved and built ({since(begun)}, {since(START)} in all)")
+    return True
+
+
 def build(rt, folder):
     """Builds the crate, after the libraries below it, and returns whether all went well."""
     rtlib = rt.rtlib
     # as in rt: what it started ends with it
     rtlib.guarded()
-    # as rt does, it begins with what other checkouts on this machine kept
-    rt.share_work(is_alone=True)
     crate = rtlib.Crate(folder, rtlib.root_above(folder), {})
     rt.read_files(crate)
     if crate.makes_rlib():
         rtlib.stop(f"{crate.name} is neither a program nor a static library")
     below = crate.below()
+    if not all(it.has_kept() for it in below):
+        return build_over_statements(rt, crate.name)
+    # as rt does, it begins with what other checkouts on this machine kept
+    rt.share_work(is_alone=True)
     crate.held = rtlib.lock([*below, crate])
     for it in [*below, crate]:
         rtlib.stop_on_links(it.folder)

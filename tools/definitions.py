@@ -14,7 +14,7 @@ file and line, a name and how many lines it has without comments; the last one, 
 counts. The status is 1 if a name isn't found, if a contract rests on a lemma (it lies in specs/laws or proofs, or is
 neither `abbrev` nor `unfoldable` nor a type), or if there are more than N definitions.
 
---page writes the parts of docs/READ-TO-BELIEVE.md between `<!-- definitions: FILE .. -->`, `<!-- quoted: FILE .. -->`,
+--page writes the parts of docs/AUDIT.md between `<!-- definitions: FILE .. -->`, `<!-- quoted: FILE .. -->`,
 `<!-- clauses: CALL .. -->` or `<!-- counts: CALL .. -->` and `<!-- end -->`: where the headline's definitions in these files
 of crates/ are, or their text too, the clauses of these calls, and how many definitions each rests on. Each definition has
 to be in one part, the clauses of each call of the headline in another, and no type of it may be the caller's to give. With
@@ -31,9 +31,10 @@ from itertools import chain
 
 TOP = os.path.dirname(os.path.dirname(os.path.realpath(__file__)))
 HEADLINE = """
-    etcs_telegram::TelegramReader::feed etcs_telegram::TelegramReader::take etcs_telegram::Telegram::encode_into
-    etcs_radio::MessageReader::feed etcs_radio::MessageReader::take etcs_radio::Message::encode
-    etcs_train::TrainReader::feed etcs_train::TrainReader::take etcs_train::TrainMessage::encode
+    etcs_telegram::TelegramReader::new etcs_telegram::TelegramReader::feed etcs_telegram::TelegramReader::take
+    etcs_telegram::Telegram::encode_into
+    etcs_radio::MessageReader::new etcs_radio::MessageReader::feed etcs_radio::MessageReader::take etcs_radio::Message::encode
+    etcs_train::TrainReader::new etcs_train::TrainReader::feed etcs_train::TrainReader::take etcs_train::TrainMessage::encode
 """.split()
 LANGUAGES = ["telegram.specs.Telegrams.TelegramLanguage", "messages.specs.Messages.MessageLanguage", "vars.specs.Reading.IsOutcome"]
 LANGUAGES = [f"Rattle.etcs_{it}" for it in LANGUAGES]
@@ -239,7 +240,7 @@ def code_item(crate, name):
 
 def parameters_of(head):
     """Yields the names of the types and constants that the first line of an `impl` or a function is over."""
-    found, depth, text = re.match(r"(?:pub(?:\(crate\))? )?(?:impl|(?:const )?fn \w+)<", head), 1, ""
+    found, depth, text = re.match(r"(?:pub(?:\(crate\))? )?(?:impl|(?:const |extern \"C\" )?fn \w+)<", head), 1, ""
     for it in head[found.end() :] if found else "":
         depth += {"<": 1, ">": -1}.get(it, 0)
         if depth == 0:
@@ -291,7 +292,7 @@ def function_of(call):
     crate, *path, name = call.split("::")
     owner = path.pop() if path and path[-1][0].isupper() else None
     (crate, owner), _ = alias_of(crate, owner)
-    function = rf"(?:pub(?:\(crate\))? )?(?:const )?fn {name}\b"
+    function = rf"(?:pub(?:\(crate\))? )?(?:const |extern \"C\" )?fn {name}\b"
     found = [
         (code, first, end, at, owner)
         for code in code_of(crate)
@@ -377,7 +378,7 @@ class Reached:
 
 # ---- The page.
 
-PAGE = f"{TOP}/docs/READ-TO-BELIEVE.md"
+PAGE = f"{TOP}/docs/AUDIT.md"
 PART = re.compile(r"(<!-- (definitions|quoted|clauses|counts): ([^>]*?) -->\n)(.*?)(<!-- end -->)", re.S)
 
 
@@ -462,11 +463,11 @@ def write_page(check):
     faults += [f"{it} is in two parts" for it in sorted({*named}) if named.count(it) > 1]
     new = PART.sub(part, old)
     if check and new != old:
-        faults.append("docs/READ-TO-BELIEVE.md has parted from the sources: run tools/definitions.py --page")
+        faults.append("docs/AUDIT.md has parted from the sources: run tools/definitions.py --page")
     elif new != old:
         open(PAGE, "w", encoding="utf-8").write(new)
     sys.stderr.writelines(f"{it}\n" for it in faults)
-    print(f"{len(found)} definitions and {len(PART.findall(old))} parts of docs/READ-TO-BELIEVE.md" + ("" if faults else ", no difference"))
+    print(f"{len(found)} definitions and {len(PART.findall(old))} parts of docs/AUDIT.md" + ("" if faults else ", no difference"))
     return 1 if faults else 0
 
 

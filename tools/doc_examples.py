@@ -46,6 +46,7 @@ LINES = re.compile(r"<!-- lines: ([^\n]*?) -->\n```\w*\n(.*?)^```\n", re.S | re.
 SKELETONS = re.compile(r"skeletons of packets to the (train|track) -->\n```json\n(.*?)^```\n", re.S | re.M)
 CONSOLE = re.compile(r"^```console\n(.*?)\n```$", re.S | re.M)
 END = "-- the end of a command --"
+LIMIT = 120  # seconds for a block of commands
 TOOLS = ("cc", "jq", "jsonschema", "parallel", "perl", "python3", "xxd")  # what commands need that not every machine has
 
 
@@ -200,7 +201,7 @@ def written(block, folder):
     """Returns what each command of a block writes."""
     script = "".join(f"{it}\n__s=$?; printf '%s\\n' '{END}'; (exit $__s)\n" for it, _ in commands(block))
     done = subprocess.run(
-        ["bash", "-c", script], cwd=folder, stdin=subprocess.DEVNULL, stdout=subprocess.PIPE, stderr=subprocess.STDOUT, timeout=120
+        ["bash", "-c", script], cwd=folder, stdin=subprocess.DEVNULL, stdout=subprocess.PIPE, stderr=subprocess.STDOUT, timeout=LIMIT
     )
     return done.stdout.decode("utf-8", "replace").split(END + "\n")
 
@@ -243,7 +244,11 @@ def differences(text, path, program):
         for name in ("docs", "examples"):
             os.symlink(f"{TOP}/{name}", f"{folder}/{name}")
         for found in CONSOLE.finditer(text):
-            outputs = written(found[1], folder)
+            try:
+                outputs = written(found[1], folder)
+            except subprocess.TimeoutExpired:
+                yield f"{path}:{line_of(text, found)} took more than {LIMIT} s"
+                continue
             if tools_missing(found[1]):
                 continue
             for (command, wanted), output in zip(commands(found[1]), outputs):
@@ -293,7 +298,12 @@ def row_differences(text, path, program):
     for name, given, answer in re.findall(r"^\| `(\w+\.\w+)` \| (.*?) \| (.*) \|$", text, re.M):
         command = given.strip("`") if "etcs" in given else f"./etcs show --kind {given} < examples/{name}"
         command += " --from json" * name.endswith(".json")
-        done = subprocess.run(["bash", "-c", command.replace("./etcs", shlex.quote(program))], cwd=TOP, capture_output=True, timeout=120)
+        command = command.replace("./etcs", shlex.quote(program))
+        try:
+            done = subprocess.run(["bash", "-c", command], cwd=TOP, capture_output=True, timeout=LIMIT)
+        except subprocess.TimeoutExpired:
+            yield f"{path}: {name} took more than {LIMIT} s"
+            continue
         status, fault = re.search(r"status (\d)$", answer)[1], re.search(r"`(etcs: [^`]*)`", answer)
         if str(done.returncode) != status or done.stderr.decode() != (fault[1] + "\n" if fault else ""):
             yield f"{path}: {name} answers {done.returncode}\n{done.stderr.decode()}"

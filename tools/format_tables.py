@@ -1,5 +1,5 @@
 #!/usr/bin/env python3
-"""Writes the tables of docs/FORMAT.md, docs/COVERAGE.md and docs/USING.md that come from the sources.
+"""Writes the tables of docs/FORMAT.md, docs/SUPPORTED.md, docs/USING.md and docs/ARCHITECTURE.md that come from the sources.
 
     tools/format_tables.py [--check]
 
@@ -16,10 +16,11 @@ import textwrap
 
 sys.dont_write_bytecode = True
 import sources
-from sources import FRAMES, MOST_LENGTH, TESTS, TOP, Many, One, When, crates_below, message_names, messages, packet_names, packets, variable, variables
+from guarantees import intro
+from sources import FRAMES, MOST_LENGTH, TESTS, TOP, Many, One, When, crates, crates_below, message_names, messages, packet_names, packets, variable, variables
 
 KEPT = "\u00a0"  # a blank at which no line is broken
-DOCUMENTS = ["docs/FORMAT.md", "docs/COVERAGE.md", "docs/USING.md"]
+DOCUMENTS = ["docs/FORMAT.md", "docs/SUPPORTED.md", "docs/USING.md", "docs/ARCHITECTURE.md"]
 PART = re.compile(r"(<!-- made by tools/format_tables.py: ([\w ]+) -->\n)(.*?)(<!-- end -->)", re.S)
 
 # What the line of a variable says about its unit.
@@ -255,6 +256,11 @@ def table_of_crates():
     return lines
 
 
+def what_crates_are():
+    """Returns the crates of crates.txt, each with the first paragraph of its lib.rt or main.rt."""
+    return ["| crate | what it is |", "|---|---|", *(f"| `{it}` | {intro(it)} |" for it in crates())]
+
+
 PARTS = {
     "variables": table_of_variables,
     "packets to the train": lambda: packet_blocks("train"),
@@ -268,6 +274,7 @@ PARTS = {
     "skeletons of packets to the train": lambda: skeletons("train"),
     "skeletons of packets to the track": lambda: skeletons("track"),
     "crates": table_of_crates,
+    "what crates are": what_crates_are,
 }
 
 

@@ -1,5 +1,5 @@
 #!/usr/bin/env python3
-"""Writes docs/help.txt: what the program writes for words that ask for help, for its version or for nothing.
+"""Writes share/help.txt: what the program writes for words that ask for help, for its version or for nothing.
 
     tools/help_texts.py [--check]
 
@@ -12,15 +12,16 @@ import os
 import sys
 
 sys.dont_write_bytecode = True
+sys.path.append(os.path.join(os.path.dirname(os.path.dirname(os.path.realpath(__file__))), "tests"))
 from vectors import vectors_of
 
 TOP = os.path.dirname(os.path.dirname(os.path.realpath(__file__)))
 STDIN = f"{TOP}/crates/etcs_vectors/stdin"
-FILE = f"{TOP}/docs/help.txt"
+FILE = f"{TOP}/share/help.txt"
 # What a line of command lines begins with; no line of a text begins so.
 MARK = "== "
 HEAD = f"""\
-What the program answers to words that ask for help, for its version or for nothing. A line `{MARK}STATUS: LINE, LINE ..` has
+The output for command lines that ask for help, for the version or for nothing. A line `{MARK}STATUS: LINE, LINE ..` has
 command lines that are answered alike, and the text follows: to standard output where the status is 0, else to standard
 error. tools/help_texts.py writes this file from crates/etcs_vectors/stdin.
 """
@@ -52,7 +53,7 @@ def main(words):
         return 0
     with open(FILE, encoding="utf-8", newline="") as file:
         is_same = file.read() == text
-    print("docs/help.txt: no difference" if is_same else "docs/help.txt has parted from the vectors: run tools/help_texts.py")
+    print("share/help.txt: no difference" if is_same else "share/help.txt has parted from the vectors: run tools/help_texts.py")
     return 0 if is_same else 1
 
 

@@ -3,8 +3,8 @@
 
     tools/manual.py [--check]
 
-man/ has a page for `etcs` and one for each command, completions/ a file each for bash, zsh and fish. The texts are those of the
-vectors `help`, as in docs/help.txt. With --check nothing is written, and the status is 1 if a file differs or is superfluous.
+share/man/ has a page for `etcs` and one for each command, share/completions/ a file each for bash, zsh and fish. The texts are those of the
+vectors `help`, as in share/help.txt. With --check nothing is written, and the status is 1 if a file differs or is superfluous.
 """
 
 import os
@@ -13,6 +13,7 @@ import sys
 from collections import namedtuple
 
 sys.dont_write_bytecode = True
+sys.path.append(os.path.join(os.path.dirname(os.path.dirname(os.path.realpath(__file__))), "tests"))
 from help_texts import STDIN, TOP
 from vectors import vectors_of
 
@@ -126,7 +127,7 @@ def pages(version, whole, commands):
     names = ["etcs", *(f"etcs-{it}" for it in commands)]
     for name, said in zip(names, [whole, *commands.values()]):
         text = page(name, version, said, [it for it in names if it != name])
-        yield f"man/{name}.1", f'.\\" Written by tools/manual.py from the help of etcs.\n{text}'
+        yield f"share/man/{name}.1", f'.\\" Written by tools/manual.py from the help of etcs.\n{text}'
 
 
 # ---- Completions.
@@ -248,7 +249,7 @@ def files():
     """Returns the text of each file."""
     version, whole, commands = read()
     made = dict(pages(version, whole, commands))
-    made |= {f"completions/{name}": text(whole, commands) for name, text in (("etcs.bash", bash), ("_etcs", zsh), ("etcs.fish", fish))}
+    made |= {f"share/completions/{name}": text(whole, commands) for name, text in (("etcs.bash", bash), ("_etcs", zsh), ("etcs.fish", fish))}
     return made
 
 
@@ -262,7 +263,7 @@ def parted(made):
             is_same = False
         if not is_same:
             yield path
-    yield from (f"{folder}/{it}" for folder in ("man", "completions") for it in os.listdir(f"{TOP}/{folder}") if f"{folder}/{it}" not in made)
+    yield from (f"{folder}/{it}" for folder in ("share/man", "share/completions") for it in os.listdir(f"{TOP}/{folder}") if f"{folder}/{it}" not in made)
 
 
 def main(words):

@@ -3,11 +3,12 @@
 
     tools/picture.py [--check] PROGRAM
 
-PROGRAM writes the page, whose script draws in a browser without a window, as tools/page.py has it (Debian's chromium, or the
+PROGRAM writes the page, whose script draws in a browser without a window, as tests/page.py has it (Debian's chromium, or the
 one that BROWSER names). With --check it compares, and writes nothing. The status is 0, 1 if the picture differs, and 2
 if there is no browser.
 """
 
+import os
 import pathlib
 import re
 import shutil
@@ -15,6 +16,7 @@ import sys
 import tempfile
 
 sys.dont_write_bytecode = True
+sys.path.append(os.path.join(os.path.dirname(os.path.dirname(os.path.realpath(__file__))), "tests"))
 from page import BROWSER, EXAMPLES, Browser, written
 
 PICTURE = EXAMPLES.parent / "docs/line_ahead.svg"

@@ -11,12 +11,14 @@ it writes for the items of all vectors has to be valid too. This needs python3-j
 """
 
 import json
+import os
 import re
 import subprocess
 import sys
 from collections import Counter
 
 sys.dont_write_bytecode = True
+sys.path.append(os.path.join(os.path.dirname(os.path.dirname(os.path.realpath(__file__))), "tests"))
 import vectors
 from sources import FRAMES, MOST_LENGTH, TESTS, TOP, Many, One, When, message_names, messages, numbers_of, packet_names, packets, source, variable, variables
 
@@ -29,6 +31,7 @@ HEADERS = {
 KINDS = {"short": "train", "long": "train", "radio": "train", "train": "track"}
 ROOM = {"short": 152, "long": 772}  # bits of packets and FILL
 MOST_BITS = 8184  # of a message
+LIMIT = 60  # seconds for a call of the program
 KEPT_BITS = "kept bits of a typed packet"
 CARRIED = (49, 57, 58, 63, 68, 80, 131)  # typed packets to the train that may be kept as bits
 DESCRIPTION = (
@@ -347,7 +350,10 @@ def lines_of_program(program, sheet):
     for number, kind, digits, expected in vectors.vectors_of(sheet):
         if kind in KINDS and expected.startswith("item 1 "):
             words = [program, "convert", "--kind", kind, "--to", "json"]
-            done = subprocess.run(words, input=digits.encode(), capture_output=True, timeout=60)
+            try:
+                done = subprocess.run(words, input=digits.encode(), capture_output=True, timeout=LIMIT)
+            except subprocess.TimeoutExpired:
+                sys.exit(f"crates/etcs_vectors/stdin:{number} took more than {LIMIT} s")
             yield number, kind, done.stdout.removesuffix(b"\n"), True
 
 

@@ -7,11 +7,13 @@
 
 # How like two texts are, from 0 to 1.
 function likeness(word, name,    reach, common, other, differing, taken, i, j) {
+    # of so many letters none is similar enough, whichever they are
+    if (length(word) > 10 * length(name)) return 0
     reach = int((length(word) > length(name) ? length(word) : length(name)) / 2) - 1
     if (reach < 0) reach = 0
     for (i = 1; i <= length(word); i++)
-        for (j = i - reach; j <= i + reach; j++)
-            if (j >= 1 && j <= length(name) && !(j in taken) && substr(word, i, 1) == substr(name, j, 1)) {
+        for (j = i > reach ? i - reach : 1; j <= i + reach && j <= length(name); j++)
+            if (!(j in taken) && substr(word, i, 1) == substr(name, j, 1)) {
                 taken[j]
                 common = common substr(word, i, 1)
                 break

@@ -125,6 +125,7 @@ LOOK = r"""(() => {
   for (const at of document.querySelectorAll('svg'))
     if (at.getAttribute('role') !== 'img' || !at.querySelector('title')) note('a drawing without a text', at);
   if (!document.documentElement.lang || !document.title) wrong.add('no language or title');
+  if (!/^etcs \d+\.\d+\.\d+( unproved)?$/.test(document.querySelector('footer')?.textContent)) wrong.add('no version at the foot');
   return [...wrong];
 })()"""
 

@@ -1,12 +1,13 @@
 #!/usr/bin/env python3
 """Runs a program over the vectors that a command line can answer.
 
-    tools/vectors.py [--kinds KIND,KIND] [--seconds N] [--jobs N] PROGRAM [WORD ..]
+    tests/vectors.py [--kinds KIND,KIND] [--seconds N] [--jobs N] PROGRAM [WORD ..]
 
 PROGRAM is `etcs`, or another codec with its command line; the WORDs go before those of each vector, as
-in `tools/vectors.py python3 my_wrapper.py`. The vectors are those of crates/etcs_vectors/stdin, and two
-of a kind `padded`, whose lines are too long for that file; docs/VECTORS.md has their form. Kinds that
-are only about the library's calls are passed over. Each vector that isn't answered as expected is
+in `tests/vectors.py python3 my_wrapper.py`. The vectors are those of crates/etcs_vectors/stdin, and two
+of a kind `padded`, whose lines are too long for that file; docs/TEST-VECTORS.md has their form. Kinds that
+are only about the library's calls are passed over. If PROGRAM says in its version that it is unproved, its version is expected so.
+Each vector that isn't answered as expected is
 written with what was answered, and at the end how many there were of each kind. A call has N seconds
 (60), and N jobs make calls in parallel, by default one for each core. The status is 0 if none differs,
 1 if one does, and 2 if the words here are wrong or the program can't be run.
@@ -26,6 +27,8 @@ PADDED = (
     ("padded", f"1048576 etcs check --kind radio --from json < {KEPT}", "0\nitem 1 ok 24 bits"),
     ("padded", f"1048577 etcs check --kind radio --from json < {KEPT}", "1\netcs: line 1: bad JSON"),
 )
+# The version in a text, which a program that isn't proved writes with a mark.
+VERSION = re.compile(r"^( ?etcs [\d.]+)( \()", re.M)
 OK_LINE = re.compile(rb"item 1 ok (\d+) bits\n")
 
 
@@ -61,6 +64,19 @@ def vectors_of(text):
             vector = [number, kind, words, expected.removeprefix(" ")]
     if vector:
         yield tuple(vector)
+
+
+def as_unproved(text):
+    """Returns a text with the version as a program writes it that isn't proved."""
+    return VERSION.sub(r"\1 unproved\2", text)
+
+
+def is_unproved(program):
+    """Returns whether the version that the program writes says so."""
+    try:
+        return b" unproved (" in program.run(["--version"], b"")[1]
+    except subprocess.TimeoutExpired:
+        return False
 
 
 def text_bytes(text):
@@ -275,7 +291,10 @@ def main(words):
     with open(f"{top}/crates/etcs_vectors/stdin", encoding="utf-8", newline="") as sheet:
         vectors = [it for it in (*vectors_of(sheet.read()), *((0, *it) for it in PADDED)) if it[1] in kinds]
     try:
-        return 0 if check(Program(words, seconds), vectors, kinds, jobs) else 1
+        program = Program(words, seconds)
+        if is_unproved(program):
+            vectors = [(*rest, as_unproved(expected)) for *rest, expected in vectors]
+        return 0 if check(program, vectors, kinds, jobs) else 1
     except OSError as error:
         print(f"{words[0]}: {error.strerror}", file=sys.stderr)
         return 2

@@ -1,40 +1,41 @@
 #!/usr/bin/env python3
 """Tests all that can be tested without a proof.
 
-    tools/test.py RT [PART ..]
+    tests/test.py RT [PART ..]
 
 RT is the path of `rt`. The programs that the parts run are built first, without a proof, if they are missing or a source
 changed (tools/unproved.py): in about a minute and a half on 4 cores. Then all parts, or those named, run in parallel:
 
-    vectors      every vector, by `etcs_vectors`, and how many there are of each kind
-    commands     the vectors that a command line can answer, by `etcs` (tools/vectors.py)
-    stack        the same with 64 KB of stack, or 160 if the program is unproved, since its functions are inlined otherwise
-    sentences    whether each sentence of `explain` and `log` is in a vector (tools/sentences.py)
-    schema       docs/etcs.schema.json against the tables, the vectors and what the program writes (tools/schema.py)
-    documents    the commands and the quoted files of all documents (tools/doc_examples.py)
-    script       the script `etcs` (tools/script_test.py)
-    ceilings     whether the most expensive inputs that are known stay below their ceilings (bench/ceilings)
-    streams      streams that fail or have no end (tools/stream_test.py)
-    chance       random inputs, for 10 seconds (tools/fuzz.py)
-    found        whether these find programs that are wrong (tools/fuzz_test.py)
-    tests        the tests of the crates whose names end with `_tests`
-    definitions  docs/READ-TO-BELIEVE.md against the definitions (tools/definitions.py)
-    hidden       whether that finds a definition that the page hides (tools/definitions_test.py)
-    names        the names of docs/DEFINITIONS.md against the definitions and clauses (tools/definition_names.py)
-    proved       whether docs/PROVED.md has a row for each call with a contract (tools/proved.py)
-    tables       the tables of documents against the sources (tools/format_tables.py)
-    help         the texts of help against the vectors (tools/help_texts.py)
-    manual       the manual and the completions against them (tools/manual.py)
-    completions  what bash, zsh and fish propose (tools/completion_test.py)
-    edits        whether each wrong body can be applied (tools/wrong_bodies.py)
-    dead         definitions, lemmas and inner items that nothing uses (tools/dead.py)
+    vectors        every vector, by `etcs_vectors`, and how many there are of each kind
+    commands       the vectors that a command line can answer, by `etcs` (tests/vectors.py)
+    stack          the same with 64 KB of stack, or 160 if the program is unproved, since its functions are inlined otherwise
+    sentences      whether each sentence of `explain` and `log` is in a vector (tests/sentences.py)
+    schema         docs/etcs.schema.json against the tables, the vectors and what the program writes (tools/schema.py)
+    documents      the commands and the quoted files of all documents (tools/doc_examples.py)
+    script         the script `etcs` (tests/script_test.py)
+    worst-cases    whether the most expensive inputs that are known stay below their limits (bench/check_worst_cases)
+    streams        streams that fail or have no end (tests/stream_test.py)
+    fuzz           random inputs, for 10 seconds (tests/fuzz.py)
+    fuzz-selftest  whether these find programs that are wrong (tests/fuzz_test.py)
+    tests          the tests of the crates whose names end with `_tests`
+    audit          docs/AUDIT.md against the definitions (tools/definitions.py)
+    audit-selftest whether that finds a definition that the page hides (tests/definitions_test.py)
+    guarantees     docs/GUARANTEES.md and docs/GLOSSARY.md against the docstrings, clauses and comments of the sources, and
+                   whether each of these calls and definitions has any (tools/guarantees.py)
+    tables         the tables of documents against the sources (tools/format_tables.py)
+    help           the texts of help against the vectors (tools/help_texts.py)
+    manual         the manual and the completions against them (tools/manual.py)
+    completions    what bash, zsh and fish propose (tests/completion_test.py)
+    mutants        whether each mutant can be applied (tools/mutants.py)
+    unused         definitions, lemmas and inner items that nothing uses (tools/unused.py)
 
 If `./etcs build` has built the program and no source is newer, the parts that run `etcs` run the proved program too; the part
-`ceilings` runs that one alone, and only if valgrind is there. A line for each part says whether it passed, which program it
+`worst-cases` runs that one alone, and only if valgrind is there. A line for each part says whether it passed, which program it
 ran, and what it counted; if it failed, what it wrote follows. What needs a tool that isn't installed is skipped. The last line
 is `N passed, N failed`, with `, N skipped` if something was.
 
-The status is 0 if all passed, 1 if a part failed or the sources are refused, and 70 if nothing could be tested.
+The status is 0 if all passed, 1 if a part failed or the sources are refused, 2 for a usage error, and 70 if nothing could be
+tested.
 """
 
 import os
@@ -50,11 +51,14 @@ from collections import Counter, namedtuple
 from concurrent.futures import ThreadPoolExecutor, as_completed
 
 sys.dont_write_bytecode = True
+sys.path.append(os.path.join(os.path.dirname(os.path.dirname(os.path.realpath(__file__))), "tools"))
 import unproved
 from build import say
 from sources import TOP, crates, crates_below
+from vectors import as_unproved
 from unproved import PROGRAM, REFUSED, UNBUILT, NotBuilt, folder_of, kit_of, locked, room_noted, tests_of, title_of
 
+WRONG = 2  # the status of a usage error
 PASSED, FAILED, SKIPPED = "passed", "FAILED", "skipped"
 LIMIT = 600  # seconds for a part
 LINES = 40  # that are written for a part that failed
@@ -63,28 +67,27 @@ FREE_SPACE = 16_000_000  # that temporary files of the parts take at most
 STACKS = {"unproved": 160, "proved": 64}  # in KB
 # The longest first, since as many run at a time as there are cores.
 PROGRAM_SCRIPTS = {
-    "chance": ["fuzz.py", "--seconds", "10"],
-    "found": ["fuzz_test.py"],
-    "commands": ["vectors.py"],
-    "ceilings": ["../bench/ceilings"],
-    "stack": ["vectors.py", "sh", "-c", 'ulimit -s $0 && exec "$@"'],
-    "script": ["script_test.py"],
-    "streams": ["stream_test.py"],
-    "documents": ["doc_examples.py", "--check"],
-    "schema": ["schema.py", "--check"],
-    "sentences": ["sentences.py"],
+    "fuzz": ["tests/fuzz.py", "--seconds", "10"],
+    "fuzz-selftest": ["tests/fuzz_test.py"],
+    "commands": ["tests/vectors.py"],
+    "worst-cases": ["bench/check_worst_cases"],
+    "stack": ["tests/vectors.py", "sh", "-c", 'ulimit -s $0 && exec "$@"'],
+    "script": ["tests/script_test.py"],
+    "streams": ["tests/stream_test.py"],
+    "documents": ["tools/doc_examples.py", "--check"],
+    "schema": ["tools/schema.py", "--check"],
+    "sentences": ["tests/sentences.py"],
 }
 SCRIPTS = {
-    "hidden": ["definitions_test.py"],
-    "definitions": ["definitions.py", "--page", "--check"],
-    "names": ["definition_names.py"],
-    "proved": ["proved.py", "--check"],
-    "tables": ["format_tables.py", "--check"],
-    "help": ["help_texts.py", "--check"],
-    "manual": ["manual.py", "--check"],
-    "completions": ["completion_test.py"],
-    "edits": ["wrong_bodies.py", "--check"],
-    "dead": ["dead.py"],
+    "audit-selftest": ["tests/definitions_test.py"],
+    "audit": ["tools/definitions.py", "--page", "--check"],
+    "guarantees": ["tools/guarantees.py", "--check"],
+    "tables": ["tools/format_tables.py", "--check"],
+    "help": ["tools/help_texts.py", "--check"],
+    "manual": ["tools/manual.py", "--check"],
+    "completions": ["tests/completion_test.py"],
+    "mutants": ["tools/mutants.py", "--check"],
+    "unused": ["tools/unused.py"],
 }
 ASKED = {**PROGRAM_SCRIPTS, **SCRIPTS}
 PARTS = [*PROGRAM_SCRIPTS, "vectors", "tests", *SCRIPTS]
@@ -101,8 +104,8 @@ Job = namedtuple("Job", "label target call")
 
 
 def script(name, *words):
-    """Runs a script of tools/."""
-    status, said = unproved.run([sys.executable, f"{TOP}/tools/{name}", *words], LIMIT, cwd=TOP)
+    """Runs a script of this repository."""
+    status, said = unproved.run([sys.executable, f"{TOP}/{name}", *words], LIMIT, cwd=TOP)
     return status == 0, said
 
 
@@ -127,7 +130,7 @@ def counts_of(said):
 def vectors(program):
     """Runs all vectors, a share on each core, and compares how many there are of each kind with what the gate wants."""
     with open(f"{TOP}/crates/etcs_vectors/stdin", encoding="utf-8", newline="") as file:
-        shares = shares_of(file.read(), len(os.sched_getaffinity(0)))
+        shares = shares_of(as_unproved(file.read()), len(os.sched_getaffinity(0)))
     with open(f"{TOP}/crates/etcs_vectors/stdout", encoding="utf-8") as file:
         wanted = Counter(counts_of(file.read())[1])
     with ThreadPoolExecutor(len(shares)) as pool:
@@ -172,7 +175,7 @@ def jobs_of(rt, part):
             yield Job(f"{title_of(target)}, unproved", target, lambda target=target: crate_tests(rt, target))
     elif part in SCRIPTS:
         yield Job(part, None, lambda: script(*SCRIPTS[part]))
-    elif part == "ceilings":
+    elif part == "worst-cases":
         if is_proved(proved) and shutil.which("valgrind"):
             yield Job(f"{part}, proved program", None, lambda: script(*PROGRAM_SCRIPTS[part], proved))
     else:
@@ -288,11 +291,12 @@ def test(rt, parts):
 def main(words):
     if not words or {"-h", "--help"} & {*words}:
         print(__doc__)
-        return 0 if words else UNBUILT
+        return 0 if words else WRONG
     rt, parts = words[0], words[1:] or PARTS
+    if unknown := [it for it in parts if it not in PARTS]:
+        say(f"not tested: there is no part {unknown[0]}: the parts are {', '.join(PARTS)}")
+        return WRONG
     try:
-        if unknown := [it for it in parts if it not in PARTS]:
-            raise NotBuilt(UNBUILT, f"there is no part {unknown[0]}: the parts are {', '.join(PARTS)}")
         if not os.access(rt, os.X_OK):
             raise NotBuilt(UNBUILT, f"there is no rt at {rt}")
         return test(rt, parts)

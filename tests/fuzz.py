@@ -1,7 +1,7 @@
 #!/usr/bin/env python3
 """Runs the program over random inputs, and checks what needs no second codec.
 
-    tools/fuzz.py [--seconds N] [--seed N] [PROGRAM [WORD ..]]
+    tests/fuzz.py [--seconds N] [--seed N] [PROGRAM [WORD ..]]
 
 PROGRAM is `etcs`, by default the one that `./etcs build` has built; the WORDs go before those of each
 call. An input is a sequence of items of crates/etcs_vectors/stdin, some of them changed or cut, or random
@@ -24,7 +24,7 @@ bytes: of each kind, as bytes, as digits or as JSON. Each command is run over it
 
 It ends after N seconds (60) or 20 findings. Each is written with its call and the input in hexadecimal;
 at the end are the counts, and the seed that gives the same inputs again. The status is 0 if nothing was
-found, 1 if something was, and 2 if the words are wrong or the program can't be run. tools/fuzz_test.py
+found, 1 if something was, and 2 if the words are wrong or the program can't be run. tests/fuzz_test.py
 has wrong programs, each of which this has to find.
 """
 

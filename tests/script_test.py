@@ -1,18 +1,23 @@
 #!/usr/bin/env python3
 """Tries the script `etcs`, without a proof or a build.
 
-    tools/script_test.py PROGRAM
+    tests/script_test.py PROGRAM
 
-PROGRAM is the built `etcs`. In a folder whose name has a blank, with the script, doors/install, a file in each crate and
-stand-ins for `rt`, tools/build.py, tools/unproved.py, tools/test.py and doors/build, it checks which words are answered
-without the program and that they are answered as by PROGRAM, which sources make a built program old, both ways of a first
-look, what is said at a terminal, and how `build`, `install` and `test` end, well and badly: with a full disk, odd names of
-folders, and variables that others set. The gate doesn't run it: run it when the script, doors/install, doors/build, crates.txt
+PROGRAM is the built `etcs`. In a folder whose name has a blank, with the script, bindings/install, a file in each crate and
+stand-ins for `rt`, tools/build.py, tools/unproved.py, tests/test.py, bindings/build and bindings/unproved_library.py, it checks
+which words are answered without the program and that they are answered as by PROGRAM, which sources make a built program old,
+both ways of a trial build, what is said at a terminal, and how `build`, `install`, `uninstall` and `test` end, well and badly:
+with a full disk, odd names of folders, forged sums, and variables that others set. If PROGRAM is unproved, a copy that doesn't say
+so is the stand-in for the proved one. The gate doesn't run it: run it when the script, bindings/install, bindings/build, crates.txt
 or a text of the program changes. The status is 1 if something isn't as it should be.
 """
 
+import fcntl
+import glob
+import hashlib
 import os
 import pty
+import re
 import resource
 import shutil
 import signal
@@ -20,20 +25,25 @@ import subprocess
 import sys
 import tempfile
 import time
+import zipfile
 from concurrent.futures import ThreadPoolExecutor
 from contextlib import suppress
 
 TOP = os.path.dirname(os.path.dirname(os.path.realpath(__file__)))
+sys.dont_write_bytecode = True
+sys.path.append(f"{TOP}/tools")
+import unproved
+
 LIMIT = 100  # seconds for a call, on a machine that is shared
 SOURCES, BUILT, CHANGED = 1_000_000_000, 1_000_000_100, 1_000_000_200
 OUT, MARK, UNPROVED = "crates/etcs/out/etcs", "crates/etcs/out/building", "crates/etcs/out/unproved/etcs"
-# What the script and doors/install call, except python3.
+# What the script and bindings/install call, except python3.
 TOOLS = (
-    "awk cat cp cut date dirname find flock git grep head install ln ls mkdir mktemp mv readlink rm rmdir sed sh sha256sum sleep sort tail"
+    "awk cat cp cut date dirname find flock git grep head install kill ln ls mkdir mktemp mv readlink rm rmdir sed sh sha256sum sleep sort tail"
     " touch tr wc xargs"
 ).split()
 RT = """#!/bin/sh
-echo tried
+case $3 in explain) echo '<footer>etcs 1.2.3</footer>' ;; *) echo tried ;; esac
 printf 'checked: ended status=0\\nrun=ended status=0 runners=1 proved=no\\n' >&2
 """
 # What the stand-ins begin with: a line of their words in the file `calls`, and the folder as $top or TOP.
@@ -47,6 +57,10 @@ print(os.path.basename(__file__), *sys.argv[1:], file=open(TOP + "/calls", "a"))
 def make(path):
     os.makedirs(os.path.dirname(f"{TOP}/{path}"), exist_ok=True)
     shutil.copy(f"{TOP}/program", f"{TOP}/{path}")
+def make_library(folder):
+    os.makedirs(f"{TOP}/{folder}", exist_ok=True)
+    for name in ("libetcs.a", "libetcs.so.1"):
+        open(f"{TOP}/{folder}/{name}", "wb").write(b"\\0 unproved\\0")
 if "--check" in sys.argv:
     sys.exit(not os.path.exists(TOP + "/same"))
 """
@@ -60,7 +74,13 @@ echo >> "$0.calls"
 if [ $(wc -l < "$0.calls") -eq {} ]; then echo "${{0##*/}}: No space left on device" >&2; exit 1; fi
 exec {} "$@"
 """
-# What doors/build calls: the first makes the file that it names, the second the one after -o.
+# A tool that kills what calls it at its call number $2.
+KILLS = """#!/bin/sh
+echo >> "$0.calls"
+if [ $(wc -l < "$0.calls") -eq {} ]; then kill -9 $PPID; exit 1; fi
+exec {} "$@"
+"""
+# What bindings/build calls: the first makes the file that it names, the second the one after -o.
 AR = """#!/bin/sh
 case $1 in rcsD) echo library > "$2" ;; esac
 """
@@ -68,7 +88,9 @@ CC = """#!/bin/sh
 while [ "$1" != -o ]; do shift; done
 echo library > "$2"
 """
-LIBRARY = 'mkdir -p "$top/doors/out"; touch "$top/doors/out/libetcs.a" "$top/doors/out/libetcs.so.1"\n'
+LIBRARY = 'mkdir -p "$top/bindings/out"; touch "$top/bindings/out/libetcs.a" "$top/bindings/out/libetcs.so.1"\n'
+# What the script does itself.
+OWN = ("build", "install", "uninstall", "test")
 COMMANDS = ("show", "check", "convert", "group", "log", "explain")
 SHORT = b"A0007F802000FFFFFFFFFFFFFFFFFFFFFFFFFFFFFFFFFFFFFFFFC0\n"
 CHECK = ["check", "--kind", "short"]
@@ -78,7 +100,10 @@ WRONG = (
     [""], ["", "show"], ["show "], [" check"], ["a b", "c"], ["it's"], ['"log"'], ["gro\\up"], ["\\"], ["%s"], ["100%"], ["a\nb"], ["$x"],
     ["`log`"], ["*"], ["show, etcs show"], ["help show"], ["-"], ["-x"], ["-xh"], ["-v", "show"], ["--kind", "short"], ["--kind=short"],
     ["--a b"], ["--\\n", "%d"], ["help", "shwo"], ["help", ""], ["help", "-x"], ["help", "--help"], ["help", "shwo", "show"], ["biuld"],
+    ["A" * 10_000], ["show" * 17], ["show" + "w" * 66], ["show" + "w" * 67], ["convert" + "x" * 60],
 )  # fmt: skip
+# Words after `install` that name no folder.
+NO_FOLDER = ([], [""], ["-x"], ["--prefix"], ["--prefix", "-x"], ["--prefix", ""], ["a", "b"], ["--prefix=a", "b"])
 # Words that only the program answers.
 LEFT = (
     ["show"], CHECK, ["help", "show", "x"], ["help", "help", "x"], ["é"], ["shwo", "é"], ["--hlep"], ["--kind", "short", "show"],
@@ -96,13 +121,14 @@ class Room:
     """A folder with the script, and what the script was found to do wrong."""
 
     def __init__(self, folder, program):
-        self.folder, self.program, self.faults = folder, os.path.realpath(program), []
-        for name in ("completions", "crates.txt", "docs", "doors", "examples", "man", "tools/similar.awk"):
+        self.folder, self.program, self.faults = folder, f"{folder}/program", []
+        for name in ("crates.txt", "docs", "bindings", "examples", "share", "tools/similar.awk"):
             if os.path.isdir(f"{TOP}/{name}"):
                 shutil.copytree(f"{TOP}/{name}", f"{folder}/{name}", ignore=shutil.ignore_patterns("out"))
             else:
                 self.copy(f"{TOP}/{name}", f"{folder}/{name}")
-        self.copy(self.program, f"{folder}/program")
+        with open(program, "rb") as file:
+            self.write("program", file.read().replace(b" unproved (", b"-in.proof (", 1))
         for line in open(f"{TOP}/crates.txt", encoding="utf-8"):
             if ":" in line and not line.startswith("#"):
                 self.touch(f"crates/{line.split(':')[0].split()[0]}/src/lib.rt", SOURCES)
@@ -117,8 +143,9 @@ class Room:
         self.write("python/python3", f'#!/bin/sh\nexec "{sys.executable}" "$@"\n')
         self.write("tools/build.py", PYTHON + MAKES)
         self.write("tools/unproved.py", PYTHON + f"make({UNPROVED!r})\n")
-        self.write("tools/test.py", PYTHON + "sys.exit(len(sys.argv))\n")
-        self.write("doors/build", SHELL + LIBRARY)
+        self.write("tests/test.py", PYTHON + "sys.exit(len(sys.argv))\n")
+        self.write("bindings/build", SHELL + LIBRARY)
+        self.write("bindings/unproved_library.py", PYTHON + "make_library('bindings/out/unproved')\n")
 
     @staticmethod
     def copy(source, to):
@@ -128,8 +155,8 @@ class Room:
     def write(self, path, text):
         """Writes a program."""
         os.makedirs(os.path.dirname(f"{self.folder}/{path}"), exist_ok=True)
-        with open(f"{self.folder}/{path}", "w", encoding="utf-8") as file:
-            file.write(text)
+        with open(f"{self.folder}/{path}", "wb") as file:
+            file.write(text if isinstance(text, bytes) else text.encode())
         os.chmod(f"{self.folder}/{path}", 0o755)
 
     def touch(self, path, at):
@@ -190,12 +217,16 @@ def without_own(text, script):
     """Returns a text without the lines that the script adds to the program's help; nothing if they aren't there."""
     text, *own = text.decode().rsplit("\n\n", 1)
     names = [it.removeprefix(f"{script} ").split()[0] for it in own[0].splitlines()] if own else []
-    return f"{text}\n".encode() if names == ["build", "install", "test"] else b""
+    return f"{text}\n".encode() if names == [*OWN] else b""
 
 
 def check_help(room):
-    """Words that ask for help, the version or nothing are answered as by the program, with three lines more where they ask for all commands."""
-    asked = [["-V"], ["--version"], ["help", "help"], ["help", "-h"]]
+    """Words that ask for help, the version or nothing are answered as by the program, with lines more where they ask for all commands."""
+    version = open(f"{TOP}/share/help.txt", encoding="utf-8").read().split("== 0: etcs --version, etcs -V\n")[1].split("\n")[0]
+    for words in (["-V"], ["--version"]):
+        answer = room.answer(words, tools=["path"])
+        room.check(answer == (0, version.replace(" (", " unproved (").encode() + b"\n", b""), f"{words}: not built: {answer}")
+    asked = [["help", "help"], ["help", "-h"]]
     for command in COMMANDS:
         asked += [[command, "-h"], [command, "--help"], ["help", command]]
     for is_built in (False, True):
@@ -206,12 +237,13 @@ def check_help(room):
             status, output, faults = room.answer(words, tools=["path"])
             answer = [status, *(without_own(it, f"{room.folder}/etcs") if it else it for it in (output, faults))]
             room.check(answer == [*room.answer_of_program(words)], f"{words}: not as the program")
-        for word in ("build", "install", "test"):
+        for word in OWN:
             for words in ([word, "-h"], [word, "--help"], ["help", word]):
                 status, output, faults = room.answer(words, tools=["path"])
                 usage = f"Usage: {room.folder}/etcs {word}".encode()
                 room.check((status, faults) == (0, b"") and output.startswith(usage), f"{words}: no usage")
         room.build()
+        asked += [["-V"], ["--version"]]
 
 
 def check_words(room):
@@ -221,7 +253,7 @@ def check_words(room):
         room.check(answer == room.answer_of_program(words), f"{words}: not as the program: {answer}")
     for words in LEFT:
         status, output, faults = room.answer(words, tools=["path"])
-        room.check((status, output) == (71, b"") and b"no first look: rt is" in faults, f"{words}: not left to the program")
+        room.check((status, output) == (71, b"") and b"trial build not possible: rt is" in faults, f"{words}: not left to the program")
 
 
 def check_age(room):
@@ -244,7 +276,7 @@ def check_age(room):
 
 
 def check_look(room):
-    """A first look builds the unproved program once, and again if a source is newer; it says so, and answers as the program does."""
+    """A trial build builds the unproved program once, and again if a source is newer; it says so, and answers as the program does."""
     for words, given in ((CHECK, SHORT), (CHECK, b"A0"), (["show"], b""), (["--hlep"], b"")):
         status, output, faults = room.answer_of_program(words, given)
         for lines in (2, 1):
@@ -277,19 +309,21 @@ def check_same(room):
 def check_try(room):
     """If no unproved program can be built, `rt try` answers; if the sources are refused nothing does."""
     tried = (0, b"tried\n")
-    room.check(room.answer(CHECK, tools=("bin", "path"))[:2] == tried, "no python3: no first look")
+    room.check(room.answer(CHECK, tools=("bin", "path"))[:2] == tried, "no python3: no trial build")
     room.write("tools/unproved.py", PYTHON + "sys.exit(70)\n")
     answer = room.answer(CHECK)
     room.check(answer[:2] == tried and b"rt tries" in answer[2], f"nothing unproved can be built: {answer}")
+    page = room.answer(["explain", "--kind", "short", "--to", "html"])[1]
+    room.check(page == b"<footer>etcs 1.2.3 unproved</footer>\n", f"the foot of a page that rt tries: {page}")
     room.write("tools/unproved.py", PYTHON + "sys.exit(1)\n")
-    room.check_end(CHECK, 71, "first look: no answer, as the lines above say")
+    room.check_end(CHECK, 71, "trial build failed, see above")
     room.calls()
     room.write("tools/unproved.py", PYTHON + "time.sleep(60)\n")
     started = room.start(CHECK)
     wait_for(lambda: room.calls())
     started.send_signal(signal.SIGTERM)
     _, faults = started.communicate(timeout=LIMIT)
-    room.check(started.returncode == 71 and faults.endswith(b"etcs: first look: it was ended\n"), f"ended: {faults}")
+    room.check(started.returncode == 71 and faults.endswith(b"etcs: trial build: it was ended\n"), f"ended: {faults}")
 
 
 def check_terminal(room):
@@ -315,13 +349,13 @@ def check_terminal(room):
 
 
 def check_faults(room):
-    """What stops `build`, `install`, `test` and a first look has its line, before anything is announced."""
+    """What stops `build`, `install`, `test` and a trial build has its line, before anything is announced."""
     where = '(README.md, "What it needs")'
     for words, done, status in (
         (["build"], "not built", 70),
         (["install", "to"], "not installed", 70),
         (["test"], "not tested", 70),
-        (CHECK, "no first look", 71),
+        (CHECK, "trial build not possible", 71),
     ):
         line = f"{done}: rt is neither on PATH nor at /nowhere {where}"
         answer = room.answer(words, tools=("python", "path"))
@@ -329,18 +363,15 @@ def check_faults(room):
         if status == 70:
             room.check_end(words, 70, f"{done}: there is no python3 on PATH {where}", tools=("bin", "path"))
     for words, fault in (
-        (["build", "now"], b"build takes no further words"),
-        (["install"], b"install takes a folder"),
-        (["install", ""], b"install takes a folder"),
-        (["install", "-x"], b"install takes a folder"),
-        (["install", "--prefix"], b"install takes a folder"),
-        (["install", "--prefix", "-x"], b"install --prefix takes a folder"),
-        (["install", "a", "b"], b"install takes a folder"),
+        (["build", "now"], b"build takes no arguments"),
+        *(([word, *words], f"{word} takes a folder".encode()) for word in ("install", "uninstall") for words in NO_FOLDER),
+        (["uninstall", "--unproved", "a"], b"uninstall takes a folder"),
     ):
-        status, output, faults = room.answer(words)
-        lines = faults.split(b"\n")
-        room.check((status, output, lines[0]) == (70, b"", b"etcs: " + fault) and b"Usage: " in lines[1], f"{words}: {faults}")
-    room.check(room.answer(["test", "a b", "-c"])[0] == 4, "test: not the words and the status of tools/test.py")
+        for tools in (("bin", "python", "path"), ("path",)):
+            status, output, faults = room.answer(words, tools=tools)
+            lines = faults.split(b"\n")
+            room.check((status, output, lines[0]) == (2, b"", b"etcs: " + fault) and b"Usage: " in lines[1], f"{words}: {faults}")
+    room.check(room.answer(["test", "a b", "-c"])[0] == 4, "test: not the words and the status of tests/test.py")
     room.check(room.calls() == ["test.py"], "something was begun")
 
 
@@ -453,14 +484,193 @@ def check_install(room):
             room.write("usr/local/bin/other", "kept")
         status, output, faults = room.answer(["install", *words])
         found = files_of(f"{room.folder}/{where}")
-        texts = {f"{docs}/{it}.md" for it in ("DOORS", "FORMAT", "COVERAGE", "COOKBOOK")}
+        texts = {f"{docs}/{it}.md" for it in ("BINDINGS", "FORMAT", "SUPPORTED", "COOKBOOK")}
         room.check(status == 0 and not (wanted | texts) - found.keys(), f"install {words}: {status} {faults}")
         named = {os.path.relpath(it, f"{room.folder}/{where}") for it in output.decode().splitlines()}
         room.check(named == found.keys() - {"bin/other"}, f"install {words}: named {named ^ found.keys()}")
         room.check(sums_hold(f"{room.folder}/{where}", sums), f"install {words}: sums")
         room.check(found.get("bin/other", b"kept") == b"kept", f"install {words}: another's file")
+        check_links(room, f"{room.folder}/{where}")
         calls = ["build.py", "build"] if where != "in to" else ["build.py", "build.py", "build"]
         room.check(room.calls() == calls, f"install {words}: built at the wrong time")
+
+
+def check_links(room, folder):
+    """Each link of an installed document to a file leads to one."""
+    for here, _, names in os.walk(folder):
+        for name in [it for it in names if it.endswith(".md")]:
+            with open(f"{here}/{name}", encoding="utf-8") as file:
+                links = re.findall(r"\]\(([^)#:]+)(?:#[^)]*)?\)", file.read())
+            room.check(all(os.path.exists(f"{here}/{it}") for it in links), f"{here}/{name}: of the links {links} one is dead")
+
+
+def check_unproved(room):
+    """Nothing unproved is installed unless that is asked for; then it is built first, and all that has a version says so."""
+    room.write("unproved", "#!/bin/sh\necho 'etcs 0 unproved (kit)'\n")
+    room.build()
+    room.answer(["install", "earlier"])
+    for words, fault in (
+        (["to", f"{room.folder}/unproved"], "unproved is unproved: --unproved installs it"),
+        (["to"], "bindings/out/libetcs.a is unproved: --unproved installs what is"),
+    ):
+        status, output, faults = room.answer(words, script="bindings/install")
+        room.check((status, output, faults) == (1, b"", f"bindings/install: {room.folder}/{fault}\n".encode()), f"bindings/install {words}: {faults}")
+        room.check(not room.is_there("to"), f"bindings/install {words}: something is written")
+        room.write("bindings/out/libetcs.a", " unproved\0")
+    os.remove(f"{room.folder}/bindings/out/libetcs.a")
+    answer = room.answer(["to", f"{room.folder}/unproved"], script="bindings/install")
+    room.check(b"unproved is unproved" in answer[2], f"bindings/install without a library: {answer}")
+    room.write("tools/unproved.py", PYTHON + f"make({UNPROVED!r})\nos.replace(TOP + '/unproved', TOP + '/{UNPROVED}')\n")
+    room.calls()
+    for words, where, whole in ((["--unproved", "to it"], "to it", ""), (["--prefix=usr", "--unproved"], "usr", "share/doc/etcs/")):
+        room.write("unproved", "#!/bin/sh\necho 'etcs 0 unproved (kit)'\n")
+        status, _, faults = room.answer(["install", *words])
+        room.check(status == 0 and room.calls() == ["unproved.py", "unproved_library.py"], f"install {words}: {faults}")
+        found = files_of(f"{room.folder}/{where}")
+        wheels = [it for it in found if it.endswith(".whl") and "+unproved-" in it]
+        lines = found.get(f"{whole}VERSION", b"").splitlines()
+        room.check(len(wheels) == 1 and lines[0].endswith(b" unproved") and b" unproved (" in lines[1], f"install {words}: not marked: {lines}")
+        room.check(b"an unproved build" in found.get("lib/pkgconfig/etcs.pc", b""), f"install {words}: pkg-config")
+        room.check(sums_hold(f"{room.folder}/{where}", f"{whole}SHA256SUMS"), f"install {words}: sums")
+    room.write("tools/unproved.py", PYTHON + f"make({UNPROVED!r})\n")
+    room.write("bindings/unproved_library.py", PYTHON + "sys.exit(1)\n")
+    room.check_end(["install", "--unproved", "other"], 70, "not installed: no library was built, as the lines above say")
+    room.write("tools/unproved.py", PYTHON + "sys.exit(1)\n")
+    room.check_end(["install", "--unproved", "other"], 70, "not installed: no program was built, as the lines above say")
+    room.check(not room.is_there("other"), "install --unproved: a folder is left")
+
+
+def check_marks(room):
+    """Each version in the sources is one that tools/unproved.py marks; a file without one, or with two, isn't marked."""
+    with open(f"{TOP}/bindings/python/pyproject.toml", encoding="utf-8") as file:
+        version = re.search('^version = "(.*)"$', file.read(), re.M)[1]
+    sources = {os.path.relpath(it, f"{TOP}/crates"): open(it, encoding="utf-8").read() for it in glob.glob(f"{TOP}/crates/*/src/**/*.rt", recursive=True)}
+    having = {name for name, text in sources.items() if version in text}
+    room.check(having == {*unproved.VERSIONS}, f"{version} is in {having}")
+    for name, pattern in unproved.VERSIONS.items():
+        text = sources[name]
+        room.check(unproved.marked(text, pattern, name).count(version + unproved.MARK) == 1, f"{name}: no mark")
+        for wrong in (text.replace(version, "none"), text + text):
+            with suppress(unproved.NotBuilt):
+                unproved.marked(wrong, pattern, name)
+                room.check(False, f"{name}: marked without one version")
+
+
+def check_usage(room):
+    """The scripts for the library say how they are used, and refuse other words."""
+    for name in ("build", "test"):
+        room.copy(f"{TOP}/bindings/{name}", f"{room.folder}/bindings/{name}")
+    for name, wrong in (("build", ["now"]), ("build", ["again", "x"]), ("test", ["-x"]), ("install", []), ("install", ["-x"]), ("install", ["--uninstall", "a", "b"])):
+        for words, status in ((["--help"], 0), (["-h"], 0), (wrong, 2)):
+            answer = room.answer(words, script=f"bindings/{name}")
+            usage, other = (answer[1], answer[2]) if status == 0 else (answer[2].split(b"\n", 1)[-1], answer[1])
+            room.check(answer[0] == status and usage.startswith(f"Usage: bindings/{name}".encode()) and not other, f"bindings/{name} {words}: {answer}")
+    room.check(room.calls() == [], "bindings/build or test: something was begun")
+
+
+def check_commit(room):
+    """VERSION has the commit of this repository, and says whether files differ from it; that of no other one."""
+    def git(*words, folder=room.folder):
+        done = subprocess.run(["git", "-c", "user.name=x", "-c", "user.email=x", *words], cwd=folder, capture_output=True, text=True)
+        return done.stdout.strip()
+
+    def commits(inner, **env):
+        count = len(os.listdir(outside))
+        status, _, faults = inner.answer(["install", f"{outside}/{count}"], env=env)
+        room.check(status == 0, f"install in a repository: {faults}")
+        with open(f"{outside}/{count}/VERSION", encoding="utf-8") as version:
+            return re.findall("^commit (.*)$", version.read(), re.M)
+
+    room.write(".gitignore", "calls\nout/\nvendored/\nothers/\noutside/\n")
+    outside = f"{room.folder}/outside"
+    os.makedirs(outside)
+    room.write("others/it", "")
+    room.build()
+    room.check(commits(room) == [], "a commit without a repository")
+    for folder in (room.folder, f"{room.folder}/others"):
+        git("init", "-q", folder=folder)
+        git("add", ".", folder=folder)
+        git("commit", "-q", "-m", "x", folder=folder)
+    head = git("rev-parse", "HEAD")
+    other = f"{room.folder}/others"
+    room.check(commits(room) == [head], f"not the commit {head}")
+    env = {"GIT_DIR": f"{other}/.git", "GIT_WORK_TREE": other, "GIT_INDEX_FILE": f"{other}/.git/index"}
+    room.check(commits(room, **env) == [head], "the commit of GIT_DIR")
+    room.answer(["install", "dist"])
+    room.answer(["uninstall", "dist"])
+    room.answer(["install", "dist"])
+    with open(f"{room.folder}/dist/VERSION", encoding="utf-8") as version:
+        room.check(f"commit {head}\n" in version.read(), "the folder itself makes it dirty")
+    room.check(commits(room) == [f"{head}-dirty"], "a new file isn't said")
+    room.answer(["uninstall", "dist"])
+    room.write("crates.txt", open(f"{TOP}/crates.txt", encoding="utf-8").read() + "# changed\n")
+    room.check(commits(room) == [f"{head}-dirty"], "a changed file isn't said")
+    inner = Room(f"{room.folder}/vendored", room.program)
+    inner.build()
+    room.check(commits(inner) == [] == commits(inner, **env), "the commit of a repository around it")
+    room.faults += inner.faults
+
+
+def check_killed(room):
+    """What an installation that was killed left is replaced or removed by the next one."""
+    room.build()
+    room.answer(["install", "--prefix", "used"])
+    for tool, number in (("ln", 1), ("mv", 1), ("mv", 2), ("mv", 30)):
+        for words in (["--prefix", "used"], ["--prefix", f"new {tool} {number}"]):
+            room.write("used/lib/libetcs.a", "of an earlier version")
+            old = hashlib.sha256(b"of an earlier version").hexdigest()
+            path = f"{room.folder}/used/share/doc/etcs/SHA256SUMS"
+            with open(path, encoding="ascii") as sums:
+                text = re.sub(r".{64}(?=  \./lib/libetcs\.a\n)", old, sums.read())
+            room.write("used/share/doc/etcs/SHA256SUMS", text)
+            room.write(f"bin/{tool}", KILLS.format(number, shutil.which(tool)))
+            room.check(room.answer(["install", *words])[0] == 70, f"install {words}: not killed at {tool} {number}")
+            os.remove(f"{room.folder}/bin/{tool}")
+            os.remove(f"{room.folder}/bin/{tool}.calls")
+            left = [it for it in os.listdir(f"{room.folder}/{words[1]}") if it.startswith(".etcs-")]
+            room.check(len(left) == 1, f"install {words}, killed at {tool} {number}: {left}")
+            status, _, faults = room.answer(["install", *words])
+            room.check(status == 0, f"install {words} after one that was killed at {tool} {number}: {faults}")
+            left = [it for it in os.listdir(f"{room.folder}/{words[1]}") if it.startswith(".")]
+            room.check(not left, f"install {words} after one that was killed at {tool} {number}: {left}")
+            room.check(sums_hold(f"{room.folder}/{words[1]}", "share/doc/etcs/SHA256SUMS"), f"install {words}: sums")
+    # folders of others, and of one that runs
+    for name in (".etcs-others", ".etcs-abcdef"):
+        room.write(f"used/{name}/it", "")
+    os.makedirs(f"{room.folder}/used/.etcs-locked/.kept")
+    lock = os.open(f"{room.folder}/used/.etcs-locked", os.O_RDONLY)
+    fcntl.flock(lock, fcntl.LOCK_EX)
+    room.answer(["install", "--prefix", "used"])
+    left = sorted(it for it in os.listdir(f"{room.folder}/used") if it.startswith("."))
+    room.check(left == [".etcs-abcdef", ".etcs-locked", ".etcs-others"], f"install: removed more than what is left: {left}")
+    os.close(lock)
+
+
+def check_uninstall(room):
+    """What an installation wrote is removed, with folders that are empty then, and nothing that was changed since or that others wrote."""
+    room.build()
+    for words, sums in ((["to"], "SHA256SUMS"), (["--prefix", "usr"], "share/doc/etcs/SHA256SUMS")):
+        where = words[-1]
+        room.answer(["install", *words])
+        named = {*files_of(f"{room.folder}/{where}")}
+        status, output, faults = room.answer(["uninstall", *words], tools=["path"])
+        room.check((status, faults) == (0, f"etcs: uninstalled: {where}\n".encode()), f"uninstall {words}: {faults}")
+        room.check({os.path.relpath(it, f"{room.folder}/{where}") for it in output.decode().splitlines()} == named, f"uninstall {words}: {output}")
+        left = sorted(os.listdir(f"{room.folder}/{where}")) if room.is_there(where) else []
+        room.check(left == ([] if where == "to" else ["bin", "include", "lib", "share"]), f"uninstall {words}: left {left}")
+        room.check(not any(names for _, _, names in os.walk(f"{room.folder}/{where}")), f"uninstall {words}: files are left")
+        status, output, faults = room.answer(["uninstall", *words])
+        said = f"bindings/install: no installation is there: {room.folder}/{where}/{sums} lists none"
+        room.check((status, output, said in faults.decode()) == (70, b"", True), f"uninstall {words} again: {status} {faults}")
+        room.answer(["install", *words])
+        room.write(f"{where}/bin/other", "kept")
+        room.write(f"{where}/include/etcs.h", "changed")
+        os.remove(f"{room.folder}/{where}/lib/libetcs.a")
+        status, output, faults = room.answer(["uninstall", *words])
+        said = f"bindings/install: left, since it isn't what was installed: {room.folder}/{where}/include/etcs.h"
+        room.check((status, faults.decode().splitlines()[0]) == (0, said), f"uninstall {words}: {faults}")
+        found = files_of(f"{room.folder}/{where}")
+        room.check(found == {"bin/other": b"kept", "include/etcs.h": b"changed"}, f"uninstall {words}: left {found.keys()}")
 
 
 def check_piped(room):
@@ -477,22 +687,37 @@ def check_piped(room):
 
 
 def check_replaced(room):
-    """What an earlier installation below a prefix wrote is replaced, or removed if a new one doesn't have it."""
+    """What an earlier installation below a prefix wrote is replaced, or removed if a new one doesn't have it; nothing else, whatever its
+    sums say."""
     room.build()
     room.answer(["install", "--prefix", "to"])
-    room.write("to/share/etcs/earlier", "")
-    room.write("to/share/etcs/other", "")
+    for path in ("earlier", "other", "changed", "a b", "a", "b", "*", ".hidden"):
+        room.write(f"to/share/etcs/{path}", "")
+    room.write("victim", "")
+    room.write("out of it/victim", "")
+    os.symlink("../out of it", f"{room.folder}/to/link")
+    os.symlink("../out of it/victim", f"{room.folder}/to/linked")
+    os.symlink("share/etcs", f"{room.folder}/to/inside")
+    empty = hashlib.sha256(b"").hexdigest()
+    forged = ["./../victim", "../victim", f"{room.folder}/victim", f"./{room.folder}/victim", "./link/victim", "./linked", "./share/../../victim"]
+    forged += ["./share/etcs/a b", "./share/etcs/*", "./share/etcs/./other", "./share//etcs/other", "./share/etcs/", "./share", "share/etcs/other", "."]
     with open(f"{room.folder}/to/share/doc/etcs/SHA256SUMS", "a", encoding="ascii") as sums:
-        sums.write(f"{'0' * 64}  ./share/etcs/earlier\n")
+        sums.write(f"{empty}  ./share/etcs/earlier\n{empty}  ./share/etcs/.hidden\n{'0' * 64}  ./share/etcs/changed\n")
+        sums.write("".join(f"{empty}  {it}\n{empty} *{it}\n\\{empty}  {it}\n" for it in forged) + "no sum\n\xff\n".encode("ascii", "ignore").decode())
+    before = files_of(room.folder)
     status, _, faults = room.answer(["install", "--prefix", "to"])
-    room.check(status == 0 and not room.is_there("to/share/etcs/earlier"), f"install again: an earlier file is left: {faults}")
-    room.check(room.is_there("to/share/etcs/other"), "install again: another's file is gone")
+    gone = {it for it in before if it not in files_of(room.folder)}
+    room.check(status == 0 and gone == {"to/share/etcs/earlier", "to/share/etcs/.hidden"}, f"install again: gone are {gone}: {faults}")
+    room.check(b"left, since it isn't what was installed" in faults, f"install again: nothing is said of what is left: {faults}")
+    room.write("to/bin/etcs", "of the user's own")
+    line = f"not installed: {room.folder}/to/bin/etcs is there, and no installation of this wrote it as it is"
+    room.check_end(["install", "--prefix", "to"], 70, line)
 
 
 def check_refused(room):
     """If something is in the way of an installation, it is named before anything is proved, and nothing is written."""
     room.write("full/in", "")
-    other = "is there, and no installation of this wrote it"
+    other = "is there, and no installation of this wrote it as it is"
     room.write("taken/bin/etcs", "another's")
     room.write("linked/real", "")
     os.makedirs(f"{room.folder}/linked/lib")
@@ -516,7 +741,7 @@ def check_refused(room):
     os.rename(f"{room.folder}/own/lib/libetcs.a", f"{room.folder}/own/real")
     os.symlink("../real", f"{room.folder}/own/lib/libetcs.a")
     room.check_end(["install", "--prefix", "own"], 70, f"not installed: {room.folder}/own/lib/libetcs.a {other}")
-    room.write("doors/build", SHELL + "exit 3\n")
+    room.write("bindings/build", SHELL + "exit 3\n")
     room.check_end(["install", "to"], 70, "not installed: no library was built, as the lines above say")
     room.check(not room.is_there("to"), "install: a folder is left")
 
@@ -528,6 +753,8 @@ def check_no_room(room):
     room.write("earlier/lib/other", "kept")
     for tool, numbers in (("install", (9,)), ("sha256sum", (1,)), ("mkdir", (3, 40)), ("mv", (2, 40))):
         for words in (["in/to"], ["--prefix", "earlier"], ["--prefix", "other/prefix"]):
+            if (tool, words[-1]) == ("sha256sum", "earlier"):
+                continue  # there it is needed to see what is in the way
             for number in numbers:
                 room.write(f"bin/{tool}", NO_ROOM.format(number, shutil.which(tool)))
                 before = files_of(room.folder)
@@ -535,24 +762,28 @@ def check_no_room(room):
                 os.remove(f"{room.folder}/bin/{tool}")
                 with suppress(FileNotFoundError):
                     os.remove(f"{room.folder}/bin/{tool}.calls")
-                for other in ("calls", f"bin/{tool}", *(f"doors/out/{it}" for it in ("libetcs.a", "libetcs.so.1"))):
+                for other in ("calls", f"bin/{tool}", *(f"bindings/out/{it}" for it in ("libetcs.a", "libetcs.so.1"))):
                     before.pop(other, None)
-                after = {path: text for path, text in files_of(room.folder).items() if path in before or not path.startswith(("calls", "doors/out"))}
+                after = {path: text for path, text in files_of(room.folder).items() if path in before or not path.startswith(("calls", "bindings/out"))}
                 room.check(after == before, f"install {words}: a full disk at {tool} {number}: {after.keys() ^ before.keys()}")
                 left = [it for it in ("in", "other") if room.is_there(it)]
                 room.check(not left, f"install {words}: a full disk at {tool} {number}: folders are left")
     # a real one, of the size of a file alone
     limit = lambda: (heed_signals(), resource.setrlimit(resource.RLIMIT_FSIZE, (100_000, 100_000)))
-    done = subprocess.run([f"{room.folder}/doors/install", "small"], cwd=room.folder, capture_output=True, preexec_fn=limit)
-    said = done.stderr.endswith(b"doors/install: nothing was installed, and all is as it was\n")
+    done = subprocess.run([f"{room.folder}/bindings/install", "small"], cwd=room.folder, capture_output=True, preexec_fn=limit)
+    said = done.stderr.endswith(b"bindings/install: nothing was installed, and all is as it was\n")
     room.check(done.returncode and said and not room.is_there("small"), f"install: a file too large: {done.stderr}")
 
 
 def check_environment(room):
-    """Variables that others set for themselves change nothing: CDPATH, CC with options, TMPDIR of another user."""
+    """Variables that others set for themselves change nothing: CDPATH, CC with options, a library for Python, TMPDIR of another user."""
     room.build()
-    env = {"CDPATH": ".:/", "CC": "cc -m64", "OBJCOPY": "objcopy --verbose"}
-    status, _, faults = room.answer(["install", "dist"], env=env)
+    room.write("modules/zipfile.py", "raise ImportError\n")
+    env = {"CDPATH": ".:/", "CC": "cc -m64", "OBJCOPY": "objcopy --verbose", "ETCS_LIBRARY": "/bin/true", "ETCS_PROGRAM": "/bin/true"}
+    status, _, faults = room.answer(["install", "dist"], env={**env, "PYTHONPATH": f"{room.folder}/modules"})
+    wheels = glob.glob(f"{room.folder}/dist/python/*.whl")
+    with zipfile.ZipFile(wheels[0]) as parts, open(f"{room.folder}/dist/lib/libetcs.so.1", "rb") as library:
+        room.check(parts.read("etcs/libetcs.so.1") == library.read(), "install with ETCS_LIBRARY: another library in the wheel")
     room.check(status == 0 and room.is_there("dist/bin/etcs") and sums_hold(f"{room.folder}/dist", "SHA256SUMS"), f"install with CDPATH: {faults}")
     room.check_end(["install", "to"], 70, "not installed: there is no nowhere, with which the library is linked", env={"CC": "nowhere -m64"})
     os.remove(f"{room.folder}/{OUT}")
@@ -565,20 +796,20 @@ def check_environment(room):
 
 
 def check_library(room):
-    """doors/build finds its folder by any name, and leaves a whole library or none."""
-    room.copy(f"{TOP}/doors/build", f"{room.folder}/doors/build")
+    """bindings/build finds its folder by any name, and leaves a whole library or none."""
+    room.copy(f"{TOP}/bindings/build", f"{room.folder}/bindings/build")
     for name, text in (("rt", "#!/bin/sh\necho /kit/START\n"), ("ar", AR), ("cc", CC)):
         room.write(f"bin/{name}", text)
-    wanted = {"doors/out/libetcs.a", "doors/out/libetcs.so", "doors/out/libetcs.so.1"}
-    for script in ("doors/build", "./doors/build", "./doors/../doors/build"):
+    wanted = {"bindings/out/libetcs.a", "bindings/out/libetcs.so", "bindings/out/libetcs.so.1"}
+    for script in ("bindings/build", "./bindings/build", "./bindings/../bindings/build"):
         done = room.answer([], script=script, env={"CDPATH": ".", "CC": "cc -m64"})
-        found = {it for it in files_of(room.folder) if it.startswith("doors/out/")}
+        found = {it for it in files_of(room.folder) if it.startswith("bindings/out/")}
         room.check(done[0] == 0 and found == wanted, f"{script}: {found} {done}")
     for tool in ("ar", "cc", "objcopy"):
         kept = open(f"{room.folder}/bin/{tool}", encoding="utf-8").read()
         room.write(f"bin/{tool}", CC.replace("library", "half") + "exit 1\n" if tool == "cc" else "#!/bin/sh\nexit 1\n")
-        done = room.answer([], script="./doors/build")
-        room.check(done[0] and not {it for it in files_of(room.folder) if it.startswith("doors/out/")}, f"doors/build, {tool}: a part is left")
+        done = room.answer([], script="./bindings/build")
+        room.check(done[0] and not {it for it in files_of(room.folder) if it.startswith("bindings/out/")}, f"bindings/build, {tool}: a part is left")
         room.write(f"bin/{tool}", kept)
 
 
@@ -618,7 +849,7 @@ def check_bench(room):
 CHECKS = (
     check_help, check_words, check_age, check_look, check_same, check_try, check_terminal, check_faults, check_build, check_ended,
     check_two, check_unwritable, check_install, check_refused, check_no_room, check_environment, check_library, check_names,
-    check_bench, check_piped, check_replaced,
+    check_bench, check_piped, check_replaced, check_unproved, check_usage, check_marks, check_commit, check_killed, check_uninstall,
 )  # fmt: skip
 
 
@@ -626,7 +857,10 @@ def faults_of(check, program):
     """Returns what a check finds in a folder of its own."""
     with tempfile.TemporaryDirectory(prefix="etcs script ") as folder:
         room = Room(os.path.realpath(folder), program)
-        check(room)
+        try:
+            check(room)
+        except subprocess.TimeoutExpired:
+            room.faults.append(f"{check.__name__}: a call took more than {LIMIT} s")
         return room.faults
 
 

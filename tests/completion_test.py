@@ -1,7 +1,7 @@
 #!/usr/bin/env python3
-"""Asks bash, zsh and fish what they propose with the files of completions/.
+"""Asks bash, zsh and fish what they propose with the files of share/completions/.
 
-    tools/completion_test.py
+    tests/completion_test.py
 
 Each installed shell is asked at the same places of command lines, and has to propose exactly the words that are expected,
 which come from the program's help. A shell that isn't installed is named. The status is 1 if one proposes other words.
@@ -12,6 +12,7 @@ import os
 import pty
 import re
 import select
+import shlex
 import shutil
 import subprocess
 import sys
@@ -67,7 +68,7 @@ end-asking () { print DO''NE }; zle -N end-asking; bindkey '^G' end-asking
 
 def bash(line):
     """Returns the words that bash proposes."""
-    done = subprocess.run(["bash", "-c", BASH, "bash", f"{TOP}/completions/etcs.bash", line], capture_output=True, text=True, check=True)
+    done = subprocess.run(["bash", "-c", BASH, "bash", f"{TOP}/share/completions/etcs.bash", line], capture_output=True, text=True, check=True)
     return done.stdout.split()
 
 
@@ -75,7 +76,7 @@ def fish(line):
     """Returns the words that fish proposes."""
     ask = 'source $argv[1]; complete "-C$argv[2]"'
     with tempfile.TemporaryDirectory() as home:
-        words = ["fish", "-N", "-c", ask, f"{TOP}/completions/etcs.fish", line]
+        words = ["fish", "-N", "-c", ask, f"{TOP}/share/completions/etcs.fish", line]
         done = subprocess.run(words, capture_output=True, text=True, env={**os.environ, "HOME": home})
     return [it.split("\t")[0].split("=")[-1] for it in done.stdout.splitlines()]
 
@@ -88,7 +89,7 @@ def zsh(line):
         take = lambda: fcntl.ioctl(0, termios.TIOCSCTTY, 0)
         shell = subprocess.Popen(["zsh", "-f", "-i"], start_new_session=True, preexec_fn=take, **how)
         os.close(end)
-        os.write(terminal, (ZSH % (f"{TOP}/completions", f"{home}/dump")).encode() + b"print RE''ADY\n")
+        os.write(terminal, (ZSH % (shlex.quote(f"{TOP}/share/completions"), shlex.quote(f"{home}/dump"))).encode() + b"print RE''ADY\n")
         read_until(terminal, "READY")
         # a terminal whose line mode gives neither Tab nor Ctrl-G a meaning
         os.write(terminal, line.encode() + b"\t\x07")

@@ -1,9 +1,9 @@
 #!/usr/bin/env python3
-"""Tries tools/fuzz.py with programs that are wrong.
+"""Tries tests/fuzz.py with programs that are wrong.
 
-    tools/fuzz_test.py [PROGRAM [WORD ..]]
+    tests/fuzz_test.py [PROGRAM [WORD ..]]
 
-PROGRAM is `etcs`, as for tools/fuzz.py. From it are made programs that answer wrongly: two alike in each command, one that
+PROGRAM is `etcs`, as for tests/fuzz.py. From it are made programs that answer wrongly: two alike in each command, one that
 never accepts an item, and one that ends an item at each line; and two in `explain`, which takes the first piece of a pipe
 for all of it, or writes a tab as it is. Each has to be found wrong within 30 seconds, and PROGRAM itself must not be. The
 status is 0 if that is so, 1 if it isn't, and 2 if the words are wrong or the program can't be run.

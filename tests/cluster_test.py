@@ -2,7 +2,7 @@
 """cluster_test.py PROGRAM [PYTHON]: reads a log by examples/log_cluster.py on a cluster of three workers on this machine, of
 which one is killed in the middle, and compares items, bad lines, counts and groups with those of PROGRAM's `log`.
 
-PYTHON (/usr/bin/python3) has Dask: `apt-get install python3-distributed`. The library for C is that of doors/out, or the one
+PYTHON (/usr/bin/python3) has Dask: `apt-get install python3-distributed`. The library for C is that of bindings/out, or the one
 that ETCS_LIBRARY names. A line says what was compared; the status is 0, or 1 if something differs, 2 without Dask.
 """
 
@@ -37,7 +37,7 @@ def log(room):
 
 def start(room, python):
     """Starts a scheduler and three workers, and returns them with the scheduler's address."""
-    env = {**os.environ, "PYTHONPATH": f"{TOP}/doors/python/src", "PYTHONDONTWRITEBYTECODE": "1"}
+    env = {**os.environ, "PYTHONPATH": f"{TOP}/bindings/python/src", "PYTHONDONTWRITEBYTECODE": "1"}
     quiet = {"stdout": subprocess.DEVNULL, "stderr": subprocess.DEVNULL, "env": env, "cwd": room}
     found = room / "scheduler.json"
     words = [python, "-m", "distributed.cli.dask_scheduler", "--host", "127.0.0.1", "--port", "0", "--no-dashboard", "--scheduler-file", found]

@@ -1,7 +1,7 @@
 #!/usr/bin/env python3
 """Tries a program over streams that a vector can't give it: that fail, that are long, or that don't end.
 
-    tools/stream_test.py PROGRAM
+    tests/stream_test.py PROGRAM
 
 PROGRAM is the built `etcs`. It is run over outputs of little room, inputs that can't be read, a million items and more,
 long lines, JSON that is deeply nested or not UTF-8, logs that aren't UTF-8, and with few addresses; its own JSON has to be
@@ -13,6 +13,7 @@ last line says how many there were. The status is 1 if one differs.
 import glob
 import os
 import resource
+import shlex
 import signal
 import subprocess
 import sys
@@ -97,7 +98,7 @@ PAGES = (
     ("--kind short", b"9000", ("Why: M_VERSION admits 32 and 33, not 16", "Often: a telegram of version 1.0 or 1.1")),
     ("--kind radio", b"18034000000000080031280620", ("header of a message to the train", "Stop if in Staff Responsible")),
     ("--kind train", b"8400FF", ("header of a message to the track", "all ones")),
-    ("--kind short --from json", b'{"<q>":1}', ('.["&lt;q&gt;"]: there is no such member here',)),
+    ("--kind short --from json", b'{"<q>":1}', ('.["&lt;q&gt;"]: unexpected member',)),
 )
 
 # a telegram, and one that is refused at bit 72
@@ -226,12 +227,12 @@ def check_bytes(program):
 
 def check_long_lines(program):
     """What `log` and `explain` say about lines that no vector has, and that the next line is read."""
-    too_long = "more than 1,048,576 bytes, which no line has"
+    too_long = "line longer than 1,048,576 bytes"
     for words, count, said, fault in (
-        ("log --kind radio", MOST + 1, "more than 1048576 characters", b""),
+        ("log --kind radio", MOST + 1, "line longer than 1,048,576 characters", b""),
         ("explain --kind radio", MOST + 1, too_long, b"etcs: line 1: bad hexadecimal at 1048576\n"),
         ("explain --kind radio --from json", MOST + 1, too_long, b"etcs: line 1: bad JSON\n"),
-        ("explain --kind radio --from json", 65_537, "65537 bytes, of which at most 65,536 are looked into", b"etcs: line 1: bad JSON\n"),
+        ("explain --kind radio --from json", 65_537, "65537 bytes: the reason is only looked for in up to 65,536", b"etcs: line 1: bad JSON\n"),
     ):
         status, output, faults = program.call(words, b" " * count + b"\n!\n")
         lines = output.decode().split("\n")
@@ -249,10 +250,11 @@ def check_fronts(program):
 
 
 def check_pages(program):
-    """A page has its words, and no part of the input raw."""
+    """A page has its words, and no part of the input raw; its foot says the version, without the kit's line."""
+    foot = f"<footer>{program.call('--version')[1].decode().split(' (')[0]}</footer>"
     for words, given, said in PAGES:
         page = program.call(f"explain --to html {words}", given)[1].decode()
-        program.check(f"a page of {given[:30]}", [it for it in (*said, "</script>") if it not in page], [])
+        program.check(f"a page of {given[:30]}", [it for it in (*said, foot, "</script>") if it not in page], [])
         program.check(f"a page of {given[:30]}, raw", [it for it in ("<&>", "<q>") if it in page], [])
 
 
@@ -370,12 +372,20 @@ CHECKS = (
 )
 
 
+def run_check(check, program):
+    """Makes a check, and notes a call in it that takes too long."""
+    try:
+        check(program)
+    except subprocess.TimeoutExpired as fault:
+        program.check(f"{check.__name__}: {shlex.join(map(str, fault.cmd[1:]))}", ("no end in", fault.timeout), ("an end",))
+
+
 def main(words):
     if len(words) != 1 or words[0].startswith("-"):
         sys.exit(__doc__)
     program = Program(words[0])
     with ThreadPoolExecutor(os.cpu_count()) as pool:
-        list(pool.map(lambda check: check(program), CHECKS))
+        list(pool.map(lambda check: run_check(check, program), CHECKS))
     print("\n".join(program.faults) or "all streams are as they should be")
     print(f"{program.count} answers, {len(program.faults)} wrong")
     return 1 if program.faults else 0

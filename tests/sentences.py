@@ -1,9 +1,9 @@
 #!/usr/bin/env python3
 """Finds the sentences of the program that no vector has.
 
-    tools/sentences.py [--list] PROGRAM [WORD ..]
+    tests/sentences.py [--list] PROGRAM [WORD ..]
 
-PROGRAM is `etcs`; the WORDs go before those of each vector, as for tools/vectors.py. The sentences are the string literals of
+PROGRAM is `etcs`; the WORDs go before those of each vector, as for tests/vectors.py. The sentences are the string literals of
 crates/etcs_reasons, crates/etcs_explain and crates/etcs_log that have a word and no markup: what `explain` and `log` say, except
 for a few that are listed below, each with the reason. The vectors of crates/etcs_vectors/stdin that run these commands are
 answered once. Then a word of each sentence is changed in what the program wrote, wherever the sentence's fixed words are; what is
@@ -22,6 +22,7 @@ from collections import namedtuple
 from concurrent.futures import ThreadPoolExecutor
 
 sys.dont_write_bytecode = True
+sys.path.append(os.path.join(os.path.dirname(os.path.dirname(os.path.realpath(__file__))), "tools"))
 import vectors
 from sources import TOP, source
 
@@ -29,8 +30,9 @@ CRATES = ("etcs_reasons", "etcs_explain", "etcs_log")
 COMMANDS = ("explain", "log")
 
 # Literals that need no vector, and why.
-PAGES = "is in pages alone, of which tools/stream_test.py has the words"
-LONG = "is said of a longer line than the vectors have, and tools/stream_test.py gives one"
+PAGES = "is in pages alone, of which tests/stream_test.py has the words"
+LONG = "is written for a longer line than the vectors have, and tests/stream_test.py gives one"
+BYTES = "is written for bytes that aren't UTF-8, and the vector that has them expects digits"
 NEVER = "isn't written, since rows and tests have no such case"
 PART = "is a part of a longer sentence that has its place"
 EXCEPTIONS = {
@@ -42,9 +44,10 @@ EXCEPTIONS = {
     ", version {}.{}": PAGES,
     ", 1 packet": PAGES,
     ", {packets} packets": PAGES,
-    "more than {MOST_LINE} characters": LONG,
-    "more than 1,048,576 bytes, which no line has": LONG,
-    " bytes, of which at most 65,536 are looked into": LONG,
+    "line longer than 1,048,576 characters": LONG,
+    "line longer than 1,048,576 bytes": LONG,
+    " bytes: the reason is only looked for in up to 65,536": LONG,
+    "byte {byte:02X}": BYTES,
     "no length": NEVER,
     "this number doesn't fit": NEVER,
     "no item of the kind has this JSON": NEVER,
@@ -53,7 +56,7 @@ EXCEPTIONS = {
     "message": PART,
     "byte": PART,
 }
-# What pages are made of: tools/page.py opens them.
+# What pages are made of: tests/page.py opens them.
 MARKUP_FILE = "page.rt"
 MARKUP = re.compile(r"<|&\w+;| class=")
 

@@ -1,14 +1,14 @@
 #!/usr/bin/env python3
 """Finds what nothing uses: definitions and lemmas, and what crates re-export to those above.
 
-    tools/dead.py
+    tools/unused.py
 
 A definition or lemma of specs/ or proofs/ is used if the code or an answer to a goal names it, or one that is used
 does. Those after a line `-- example`, and those of files whose names end with Examples.antt, count as used.
 
 A public item of a module `inner` is used if the code of another crate names it, or a macro that others use; what only its
-own crate uses needn't be there. One of `laws` is used if any code names it, or docs/PROVED.md: such a law is a
-promise. An item that such a module re-exports is used if it is used there.
+own crate uses needn't be there. One of `laws` is used if any code names it, or if it is a promise to users: a function with
+an `ensures` in a crate whose lib.rt makes `laws` public. An item that such a module re-exports is used if it is used there.
 
 Each line is the place and the name of one that isn't used. The status is 1 if there is one that EXCEPTIONS doesn't name,
 or if EXCEPTIONS names anything else.
@@ -255,22 +255,22 @@ def inside(code, at, here):
     return [*here, *(it[1] for it in found)]
 
 
-def doors():
+def exports():
     """Returns the items of `inner` and `laws` by their paths; what each re-exports; and the paths that code names, each with the crates."""
     found, hands_on, users = {}, {}, {}
     for crate, path, text in files(".rt", "src"):
         here, code, names = modules_of(crate, path), without_comments(text), {}
         place = lambda at: f"crates/{crate}/{path}:{code.count(NEWLINE, 0, at) + 1}"
-        is_door = here[1:2] in (["inner"], ["laws"])
+        is_export = here[1:2] in (["inner"], ["laws"])
         for at, is_public, full, name in uses_of(code, here):
             names[name] = full
-            if is_door and is_public:
+            if is_export and is_public:
                 own = (*inside(code, at, here), name)
                 found[own], hands_on[own] = place(at), tuple(full)
             else:
                 # what another public module re-exports belongs to the crate's surface
                 users.setdefault(tuple(full), set()).add("" if is_public else crate)
-        for it in PUBLIC.finditer(code if is_door else ""):
+        for it in PUBLIC.finditer(code if is_export else ""):
             found[(*inside(code, it.start(), here), it[1])] = place(it.start())
         for it in re.finditer(r"(?<![\w:])(\$?\w+)((?:::\w+)+)", code):
             rest = it[2].split("::")[1:]
@@ -281,15 +281,22 @@ def doors():
     return found, hands_on, users
 
 
-def dead_doors():
+def promises():
+    """Returns the functions with an `ensures` in public modules `laws`, by their paths."""
+    law = re.compile(r"^pub fn (\w+)[^\n]*\n(?:[ )][^\n]*\n)*?    ensures ", re.M)
+    sources = [*files(".rt", "src")]
+    public = {crate for crate, path, text in sources if path == "src/lib.rt" and re.search(r"^pub mod laws;", text, re.M)}
+    laws = ((crate, path, text) for crate, path, text in sources if crate in public and path.startswith("src/laws"))
+    return {(*modules_of(crate, path), name) for crate, path, text in laws for name in law.findall(text)}
+
+
+def unused_exports():
     """Yields the place and the name of each item of `inner` and `laws` that nothing uses."""
-    found, hands_on, users = doors()
-    with open(f"{TOP}/docs/PROVED.md", encoding="utf-8") as file:
-        promised = set(re.findall(r"\w+", file.read()))
-    used, waiting = set(), []
+    found, hands_on, users = exports()
+    promised, used, waiting = promises(), set(), []
     for path in found:
         own = {path[0]} if path[1] == "inner" else set()
-        if users.get(path, set()) - own or path[1] == "laws" and path[-1] in promised:
+        if users.get(path, set()) - own or path in promised:
             waiting.append(path)
     while waiting:
         path = waiting.pop()
@@ -300,13 +307,13 @@ def dead_doors():
 
 
 def main():
-    found = [*Names().unused(), *dead_doors()]
+    found = [*Names().unused(), *unused_exports()]
     keys = {f"{place.rpartition(':')[0]}: {name}" for place, name in found}
     for place, name in found:
         if f"{place.rpartition(':')[0]}: {name}" not in EXCEPTIONS:
             print(f"{place}: {name}")
     for key in EXCEPTIONS.keys() - keys:
-        print(f"tools/dead.py: an exception that isn't found: {key}")
+        print(f"tools/unused.py: an exception that isn't found: {key}")
     print(f"{len(found)} found, {len(EXCEPTIONS)} exceptions")
     return 0 if keys == EXCEPTIONS.keys() else 1
 

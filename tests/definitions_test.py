@@ -1,7 +1,7 @@
 #!/usr/bin/env python3
 """Tries tools/definitions.py with sources and pages that hide something.
 
-    tools/definitions_test.py
+    tests/definitions_test.py
 
 In a folder with the script, the page and the crates, some of them changed, `definitions.py --page --check` has to find each
 of the changes below, and nothing if nothing is changed. The status is 0 if that is so.
@@ -15,7 +15,7 @@ import tempfile
 from concurrent.futures import ThreadPoolExecutor
 
 TOP = os.path.dirname(os.path.dirname(os.path.realpath(__file__)))
-PAGE = "docs/READ-TO-BELIEVE.md"
+PAGE = "docs/AUDIT.md"
 BODIES = "etcs_radio/specs/Bodies.antt"
 RADIO, TRACK = "crates/etcs_radio/src/body.rt", "crates/etcs_track/src/any_packet.rt"
 LOCATED, READING = "crates/etcs_track/src/located.rt", "crates/etcs_vars/specs/Reading.antt"

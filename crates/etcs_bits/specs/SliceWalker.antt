@@ -1,13 +1,14 @@
--- What a walker over a slice holds.
+-- What a walker over a slice holds: bits, a place that moves, and the word that keeps the next bits.
 use Rattle.std.specs.Prelude.{◌≡◌, ℕ, ◌-◌, ◌/◌, ◌^◌, ◌≤◌, Bool, List, length}
 use Rattle.etcs_bits.specs.Bits.{part, value}
 
--- the bits, and how many of them were taken
+-- the bits of a slice, and how many of them a walker has passed
 pub record SliceWalk : Type 0 where
   pub bits : List Bool
   pub place : ℕ
 
--- the highest bits of the word are the last count of the first end bits of bs
+-- the word in which a walker keeps the next bits: its count highest bits, at most 64, are the last count of the first
+-- end bits of bs
 pub record Keeps (word count : ℕ) (bs : List Bool) (end : ℕ) : Type 0 where
   pub small : count ≤ 64
   pub order : count ≤ end

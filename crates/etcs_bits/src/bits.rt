@@ -9,11 +9,11 @@ use super::slice::BitSlice;
 use std::alloc::{AllocError, Global};
 use std::marker::Model;
 
-/// An owned list of bits. Up to 56 of them lie in the value itself, and more in an allocation, which stays where such a
-/// list is made shorter. Two lists are equal where they have the same bits.
+/// An owned list of bits. Up to 56 of them lie in the value itself, and more in an allocation, which is kept if such a
+/// list is made shorter. Two lists are equal exactly if they have the same bits in the same order.
 #[derive(Debug, Drop)]
 pub struct Bits {
-    /// None where there are more of them.
+    /// None if there are more of them.
     few: Few,
     many: Many,
 }
@@ -28,7 +28,7 @@ impl Model for Bits {
     ghost invariant = { λ b. 0 < length b.many → b.few ≡ [] };
 }
 
-/// Moves all bits to the allocation. On a refusal they stay as they were.
+/// Moves all bits to the allocation. If memory runs out they stay as they were.
 #[cold]
 #[inline(never)]
 fn spill(few: &mut Few, many: &mut Many) -> Result<(), AllocError>
@@ -52,11 +52,11 @@ impl Bits {
         }
     }
 
-    /// A copy of the bits of `slice`.
+    /// The bits of `slice`, copied.
     ///
     /// # Errors
     ///
-    /// `AllocError` if memory is refused.
+    /// `AllocError` if memory runs out.
     pub fn from_slice(alloc: Global, slice: BitSlice<'_>) -> Result<Bits, AllocError>
         ensures { IfOk result (λ b. b ≡ slice.entry) }
     {
@@ -65,22 +65,23 @@ impl Bits {
         Ok(bits)
     }
 
-    /// Equal bits.
+    /// A copy: if it succeeds, it has the same bits.
     ///
     /// # Errors
     ///
-    /// `AllocError` if memory is refused.
+    /// `AllocError` if memory runs out.
     pub fn try_clone(&self, alloc: Global) -> Result<Bits, AllocError>
         ensures { IfOk result (λ b. b ≡ self.now) }
     {
         Bits::from_slice(alloc, self.as_slice())
     }
 
-    /// Adds a bit at the end.
+    /// Adds a bit at the end: the bits are then those before with this one after them. All of them must be fewer than
+    /// 2^64.
     ///
     /// # Errors
     ///
-    /// `AllocError` if memory is refused. The bits then stay as they were.
+    /// `AllocError` if memory runs out. The bits then stay as they were.
     pub fn push(&mut self, bit: bool) -> Result<(), AllocError>
         requires { length self.old + 1 < 2 ^ 64 }
         ensures ok { OnOk result (self.new ≡ self.old ++ bit ∷ []) }
@@ -89,11 +90,12 @@ impl Bits {
         self.push_number(1, u64::from(bit))
     }
 
-    /// Adds a number of `width` bits at the end, most significant bit first.
+    /// Adds a number of `width` bits at the end, most significant bit first. `width` must be at most 64, the number must
+    /// fit it, and all bits must be fewer than 2^64.
     ///
     /// # Errors
     ///
-    /// `AllocError` if memory is refused. The bits then stay as they were.
+    /// `AllocError` if memory runs out. The bits then stay as they were.
     pub fn push_number(&mut self, width: usize, value: u64) -> Result<(), AllocError>
         requires width { width ≤ 64 }
         requires fits { value < 2 ^ width }
@@ -111,7 +113,7 @@ impl Bits {
         self.many.push_number(width, value)
     }
 
-    /// Adds the bits of `slice` at the end. On a refusal the bits stay as they were.
+    /// Adds the bits of `slice` at the end. If memory runs out the bits stay as they were.
     pub(crate) fn push_slice(&mut self, slice: &BitSlice<'_>) -> Result<(), AllocError>
         requires { length self.old + length slice.now < 2 ^ 64 }
         ensures ok { OnOk result (self.new ≡ self.old ++ slice.now) }
@@ -127,7 +129,7 @@ impl Bits {
         self.many.push_slice(slice)
     }
 
-    /// Keeps the first `len` bits.
+    /// Keeps the first `len` bits, and drops the others. There must be at least as many.
     pub fn truncate(&mut self, len: usize)
         requires { len ≤ length self.old }
         ensures { self.new ≡ take len self.old }
@@ -139,14 +141,14 @@ impl Bits {
         }
     }
 
-    /// How many bits these are.
+    /// How many bits there are.
     pub fn len(&self) -> usize
         ensures { result ≡ length self.now }
     {
         self.few.len() + self.many.len()
     }
 
-    /// Whether these are no bits.
+    /// Whether there are no bits.
     pub fn is_empty(&self) -> bool
         ensures { result ≡ (length self.now == 0) }
     {
@@ -165,6 +167,7 @@ impl Bits {
     }
 }
 
+/// True exactly if both have the same bits in the same order.
 impl PartialEq for Bits {
     ghost use Rattle.std.specs.Cmp.{bool_eq_equiv};
     ghost use Rattle.std.specs.Cmp.{partial_equiv_from_equiv};

@@ -3,7 +3,7 @@
 ghost use Rattle.std.specs.Prelude.{◌≡◌, ℕ, ◌+◌, ◌*◌, ◌^◌, ◌<◌, ◌≤◌};
 ghost use Rattle.etcs_bits.specs.Bits.{num, value, part, replaced};
 
-/// The byte where the bit `at` bits after the bit `start` is there, and the bit's place in it.
+/// The byte that holds the bit `at` bits after the bit `start`, and the bit's place in it.
 pub(crate) fn byte_of(start: usize, at: usize) -> (usize, usize)
     ensures place { 8 * result.0 + result.1 ≡ start + at }
     ensures offset { result.1 < 8 }

@@ -1,4 +1,4 @@
-//! Bits as digits, and of digits.
+//! Bits printed as digits, and made from digits.
 
 ghost use Rattle.std.specs.Prelude.{◌≡◌, ◌+◌, Bool, List, Some, IfOk, IfSome};
 ghost use Rattle.etcs_bits.specs.Bits.{bit};
@@ -9,7 +9,7 @@ use super::slice::BitSlice;
 use std::alloc::{AllocError, Global};
 use std::fmt;
 
-/// A digit for each bit, 0 or 1, in order.
+/// Prints a digit for each bit, 0 or 1, in order, and nothing else.
 impl fmt::Display for BitSlice<'_> {
     ghost output = { λ s. Some (digits s) };
 
@@ -34,11 +34,12 @@ fn bit_of(digit: u8) -> Option<bool>
 }
 
 impl Bits {
-    /// The bits that a text of digits 0 and 1 says, in its order. `None` where another byte is in it.
+    /// The bits whose digits 0 and 1 `text` is, in its order: if it succeeds, `None` exactly if another byte is in the
+    /// text.
     ///
     /// # Errors
     ///
-    /// `AllocError` where there is no memory.
+    /// `AllocError` if memory runs out.
     pub fn from_digits(alloc: Global, text: &[u8]) -> Result<Option<Bits>, AllocError>
         ensures some { IfOk result (λ o. IfSome o (λ b. text.now ≡ digits b)) }
         ensures only { IfOk result (λ o. (b : List Bool) → text.now ≡ digits b → o ≡ Some b) }

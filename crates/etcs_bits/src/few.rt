@@ -87,7 +87,7 @@ impl Few {
         self.len = len.min(self.len()) as u8;
     }
 
-    /// How many bits these are.
+    /// How many bits there are.
     #[inline]
     pub(crate) fn len(&self) -> usize
         ensures is { result ≡ length self.now }
@@ -96,7 +96,7 @@ impl Few {
         usize::from(self.len)
     }
 
-    /// Whether these are no bits.
+    /// Whether there are no bits.
     #[inline]
     pub(crate) fn is_empty(&self) -> bool
         ensures { result ≡ (length self.now == 0) }

@@ -9,7 +9,8 @@ use super::poker;
 use super::slice::BitSlice;
 use std::alloc::AllocError;
 
-/// Writes a number into `width` bits of `bytes` from the bit `start` on, where it is known to fit.
+/// Writes a number into `width` bits of `bytes` from the bit `start` on, most significant bit first. All other bits stay.
+/// These bits must be inside `bytes`, `width` at most 64, and the number must fit it.
 pub fn write(bytes: &mut [u8], start: usize, width: usize, value: u64)
     requires width { width ≤ 64 }
     requires inside { start + width ≤ length (bits bytes.old) }
@@ -19,7 +20,7 @@ pub fn write(bytes: &mut [u8], start: usize, width: usize, value: u64)
     poker::write(bytes, start / 8, start % 8, width, value);
 }
 
-/// The `len` bits of `bytes` from the bit `start` on, which are inside `bytes`.
+/// The `len` bits of `bytes` from the bit `start` on, as a slice. They must be inside `bytes`.
 #[inline(always)]
 pub fn slice_in<'a>(bytes: &'a [u8], start: usize, len: usize) -> BitSlice<'a>
     requires { start + len ≤ length (bits bytes.now) }
@@ -28,11 +29,11 @@ pub fn slice_in<'a>(bytes: &'a [u8], start: usize, len: usize) -> BitSlice<'a>
     BitSlice::inside(bytes, start, len)
 }
 
-/// Adds the bits of `slice` at the end of `bits`.
+/// Adds the bits of `slice` at the end of `bits`. All of them must be fewer than 2^64.
 ///
 /// # Errors
 ///
-/// `AllocError` where there is no memory. The bits then stay as they were.
+/// `AllocError` if memory runs out. The bits then stay as they were.
 pub fn append(bits: &mut Bits, slice: &BitSlice<'_>) -> Result<(), AllocError>
     requires { length bits.old + length slice.now < 2 ^ 64 }
     ensures ok { OnOk result (bits.new ≡ bits.old ++ slice.now) }
@@ -41,7 +42,7 @@ pub fn append(bits: &mut Bits, slice: &BitSlice<'_>) -> Result<(), AllocError>
     bits.push_slice(slice)
 }
 
-/// Writes the bits of `slice` into `bytes` from the bit `start` on.
+/// Writes the bits of `slice` into `bytes` from the bit `start` on. All other bits stay. They must fit inside `bytes`.
 pub fn write_slice(bytes: &mut [u8], start: usize, slice: &BitSlice<'_>)
     requires { start + length slice.now ≤ length (bits bytes.old) }
     ensures { bits bytes.new ≡ replaced start slice.now (bits bytes.old) }
@@ -57,8 +58,7 @@ pub fn write_slice(bytes: &mut [u8], start: usize, slice: &BitSlice<'_>)
     write_part(bytes, start, slice, front + 64 * words, slice.len());
 }
 
-/// Writes the bits of `slice` after the first `from`, up to `end`, where the first of all would be at the bit
-/// `start`.
+/// Writes the bits of `slice` from `from` up to `end`, so that its first bit would be at the bit `start`.
 fn write_part(bytes: &mut [u8], start: usize, slice: &BitSlice<'_>, from: usize, end: usize)
     requires order { from ≤ end }
     requires within { end ≤ length slice.now }

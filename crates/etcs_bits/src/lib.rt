@@ -1,4 +1,4 @@
-//! Bits at any offset.
+//! Bits at any offset of bytes, read and written most significant bit first.
 #![tactic(auto)]
 
 mod bits;

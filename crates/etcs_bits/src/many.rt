@@ -42,7 +42,7 @@ impl Many {
     ///
     /// # Errors
     ///
-    /// `AllocError` where there is no memory. The bits then stay as they were.
+    /// `AllocError` if memory runs out. The bits then stay as they were.
     pub(crate) fn push_number(&mut self, width: usize, value: u64) -> Result<(), AllocError>
         requires width { width ≤ 64 }
         requires fits { value < 2 ^ width }
@@ -57,7 +57,7 @@ impl Many {
         Ok(())
     }
 
-    /// Adds the bits of `slice` at the end. On a refusal the bits stay as they were.
+    /// Adds the bits of `slice` at the end. If memory runs out the bits stay as they were.
     #[inline]
     pub(crate) fn push_slice(&mut self, slice: &BitSlice<'_>) -> Result<(), AllocError>
         requires { length self.old + length slice.now < 2 ^ 64 }
@@ -74,7 +74,7 @@ impl Many {
         Ok(())
     }
 
-    /// Takes the bits of `slice` where there are none yet. On a refusal there are none.
+    /// Takes the bits of `slice` if there are none yet. If memory runs out there are none.
     #[inline]
     fn fill(&mut self, slice: &BitSlice<'_>) -> Result<(), AllocError>
         requires { self.old ≡ [] }
@@ -104,14 +104,14 @@ impl Many {
         self.len = len;
     }
 
-    /// How many bits these are.
+    /// How many bits there are.
     pub(crate) fn len(&self) -> usize
         ensures { result ≡ length self.now }
     {
         self.len
     }
 
-    /// Whether these are no bits.
+    /// Whether there are no bits.
     #[inline]
     pub(crate) fn is_empty(&self) -> bool
         ensures { result ≡ (length self.now == 0) }

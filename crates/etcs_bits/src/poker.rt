@@ -19,6 +19,7 @@ pub enum PokeFault {
     TooLarge,
 }
 
+/// Prints a fixed text for each fault.
 impl fmt::Display for PokeFault {
     ghost output = { λ fault. Some (poke_fault_text fault) };
 
@@ -108,12 +109,12 @@ fn write_by_bytes(bytes: &mut [u8], offset: usize, width: usize, value: u64)
     }
 }
 
-/// Writes a number into `width` bits of `bytes` from the bit `start` on, most significant bit first.
-/// All other bits stay.
+/// Writes a number into `width` bits of `bytes` from the bit `start` on, most significant bit first. All other bits
+/// stay. `width` must be at most 64.
 ///
 /// # Errors
 ///
-/// `PastEnd` where these bits go past the end, else `TooLarge` where `value` has more than `width` bits.
+/// `PastEnd` exactly if these bits go past the end, else `TooLarge` exactly if `value` has more than `width` bits.
 /// The bytes then stay as they were.
 pub fn poke(bytes: &mut [u8], start: usize, width: usize, value: u64) -> Result<(), PokeFault>
     requires { width ≤ 64 }
@@ -142,7 +143,7 @@ pub struct Poker<'a> {
 impl<'a> Poker<'a> {
     ghost use Rattle.etcs_bits.specs.Poker.{bytes_of, place_of};
 
-    /// A poker at the first bit of `bytes`.
+    /// A poker at the first bit of `bytes`, which stay as they are.
     pub fn new(bytes: &'a mut [u8]) -> Poker<'a>
         ensures lent { result.bytes.ghost_name ≡ bytes.entry.ghost_name }
         ensures bytes { bytes_of result ≡ bytes.old }
@@ -151,12 +152,12 @@ impl<'a> Poker<'a> {
         Poker { bytes, place: 0 }
     }
 
-    /// Writes a number into the next `width` bits, which the poker then has passed.
-    /// All other bits stay.
+    /// Writes a number into the next `width` bits, most significant bit first, and moves past them. All other bits
+    /// stay. `width` must be at most 64, and the place after these bits below 2^64.
     ///
     /// # Errors
     ///
-    /// `PastEnd` where these bits go past the end, else `TooLarge` where `value` has more than `width` bits.
+    /// `PastEnd` exactly if these bits go past the end, else `TooLarge` exactly if `value` has more than `width` bits.
     /// The bytes and the place then stay as they were.
     pub fn put(&mut self, width: usize, value: u64) -> Result<(), PokeFault>
         requires width { width ≤ 64 }

@@ -32,7 +32,7 @@ impl<'a> Model for BitSlice<'a> {
 }
 
 impl<'a> BitSlice<'a> {
-    /// The `len` bits of `bytes` from the bit `start` on. `None` where these go past the end.
+    /// The `len` bits of `bytes` from the bit `start` on. `None` exactly if these go past the end.
     pub fn new(bytes: &'a [u8], start: usize, len: usize) -> Option<BitSlice<'a>>
         ensures { result ≡ (if nat_le (start + len) (length (bits bytes.now)) then Some (part start len (bits bytes.now)) else None) }
     {
@@ -83,21 +83,21 @@ impl<'a> BitSlice<'a> {
         }
     }
 
-    /// How many bits these are.
+    /// How many bits there are.
     pub fn len(&self) -> usize
         ensures { result ≡ length self.now }
     {
         self.len
     }
 
-    /// Whether these are no bits.
+    /// Whether there are no bits.
     pub fn is_empty(&self) -> bool
         ensures { result ≡ (length self.now == 0) }
     {
         self.len == 0
     }
 
-    /// The bit `index` bits after the first. `None` past the end.
+    /// The bit `index` bits after the first. `None` exactly if that is past the end.
     pub fn bit(&self, index: usize) -> Option<bool>
         ensures { result ≡ (if nat_lt index (length self.now) then Some (slice_index_or self.now index false) else None) }
     {
@@ -105,7 +105,7 @@ impl<'a> BitSlice<'a> {
         Some(number == 1)
     }
 
-    /// The `len` bits after the first `from` of these. `None` where those go past the end.
+    /// The `len` bits after the first `from` of these. `None` exactly if those go past the end.
     pub fn cut(&self, from: usize, len: usize) -> Option<BitSlice<'a>>
         ensures { result ≡ (if nat_le (from + len) (length self.now) then Some (part from len self.now) else None) }
     {
@@ -120,8 +120,8 @@ impl<'a> BitSlice<'a> {
         })
     }
 
-    /// The number in the `width` bits after the first `from` of these, most significant bit first.
-    /// `None` where those go past the end.
+    /// The number in the `width` bits after the first `from` of these, most significant bit first. `None` exactly if
+    /// those go past the end. `width` must be at most 64.
     #[inline(always)]
     pub fn number(&self, from: usize, width: usize) -> Option<u64>
         requires { width ≤ 64 }
@@ -136,7 +136,7 @@ impl<'a> BitSlice<'a> {
         }
     }
 
-    /// As `number`, of bits that are inside, where the eight bytes from the first of them on hold them.
+    /// As `number`, of bits that are inside, if the eight bytes from the first of them on hold them.
     /// It may always return `None`.
     #[inline(always)]
     fn number_in_word(&self, from: usize, width: usize) -> Option<u64>
@@ -164,7 +164,8 @@ impl<'a> BitSlice<'a> {
         Some((first_word(&self.bytes[at..]) << (start % 8), count))
     }
 
-    /// The bits from `from` on, that bit highest, with zeros after the last of the slice.
+    /// The 64 bits from `from` on as a number, that bit highest, with zeros after the last of the slice. `from` must be
+    /// inside the slice.
     #[inline(always)]
     pub fn word(&self, from: usize) -> u64
         requires { from < length self.now }
@@ -181,7 +182,7 @@ impl<'a> BitSlice<'a> {
         (word >> (64 - left)) << (64 - left)
     }
 
-    /// The 64 bits from `from` on, where nine bytes hold them: those of the slice, and anything after its last. It
+    /// The 64 bits from `from` on, if nine bytes hold them: those of the slice, and anything after its last. It
     /// may always return `None`.
     #[inline(always)]
     fn nine_bytes(&self, from: usize) -> Option<u64>

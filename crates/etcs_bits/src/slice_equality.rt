@@ -7,6 +7,7 @@ ghost use Rattle.etcs_bits.specs.Bits.{part};
 use super::inner::chunk;
 use super::slice::BitSlice;
 
+/// True exactly if both have the same bits in the same order, whatever bytes hold them and at whatever bit they begin.
 impl PartialEq for BitSlice<'_> {
     ghost use Rattle.std.specs.Cmp.{bool_eq_equiv};
     ghost use Rattle.std.specs.Cmp.{partial_equiv_from_equiv};

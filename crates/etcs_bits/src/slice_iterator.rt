@@ -22,7 +22,7 @@ impl<'a> Model for BitIterator<'a> {
 }
 
 impl<'a> BitSlice<'a> {
-    /// The bits, in order.
+    /// The bits of the slice, in order.
     pub fn iter(&self) -> BitIterator<'a>
         ensures { result ≡ self.now }
     {
@@ -32,6 +32,7 @@ impl<'a> BitSlice<'a> {
     }
 }
 
+/// Each `next` takes off the first of the bits that are left; `None` exactly if none is left.
 impl<'a> Iterator for BitIterator<'a> {
     type Item = bool;
 

@@ -30,7 +30,7 @@ fn first_of(next: NextBits, width: usize) -> (u64, NextBits)
     (next.word >> (64 - width), beyond)
 }
 
-/// The bits from `at` on, at most 64 of them, and at least `width`. `None` where this many go past the end.
+/// The bits from `at` on, at most 64 of them, and at least `width`. `None` only if that many go past the end.
 fn next_bits_from(bits: &BitSlice<'_>, at: usize, width: usize) -> Option<NextBits>
     requires some { 0 < width }
     requires width { width ≤ 64 }
@@ -78,7 +78,7 @@ impl<'a> Model for SliceWalker<'a> {
 }
 
 impl<'a> SliceWalker<'a> {
-    /// A walker at the first of the bits.
+    /// A walker at the first bit of the slice.
     pub fn new(bits: BitSlice<'a>) -> SliceWalker<'a>
         ensures { result ≡ record { bits = bits.entry; place = 0 } }
     {
@@ -89,8 +89,8 @@ impl<'a> SliceWalker<'a> {
         }
     }
 
-    /// The number in the next `width` bits, most significant bit first, which the walker then has passed.
-    /// `None` where these go past the end; the walker then stays where it is.
+    /// The number in the next `width` bits, most significant bit first; the walker moves past them. `None` exactly if
+    /// these go past the end; the walker then stays at its place. `width` must be at most 64.
     #[inline(always)]
     pub fn next(&mut self, width: usize) -> Option<u64>
         requires { width ≤ 64 }
@@ -112,14 +112,14 @@ impl<'a> SliceWalker<'a> {
         Some(number)
     }
 
-    /// How many of the bits the walker has passed.
+    /// How many bits of the slice the walker has passed.
     pub fn place(&self) -> usize
         ensures { result ≡ self.now.place }
     {
         self.end - self.next.count
     }
 
-    /// Whether the walker has passed all of the bits.
+    /// Whether the walker has passed all bits of the slice.
     pub fn is_at_end(&self) -> bool
         ensures { result ≡ nat_le (length self.now.bits) self.now.place }
     {

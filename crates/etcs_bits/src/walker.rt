@@ -35,8 +35,8 @@ fn read_by_bytes(bytes: &[u8], offset: usize, width: usize) -> u64
     number
 }
 
-/// The number in `width` bits of `bytes` from the bit `start` on, most significant bit first.
-/// `None` where these bits go past the end.
+/// The number in `width` bits of `bytes` from the bit `start` on, most significant bit first. `None` exactly if these
+/// bits go past the end. `width` must be at most 64.
 #[inline]
 pub fn peek(bytes: &[u8], start: usize, width: usize) -> Option<u64>
     requires { width ≤ 64 }
@@ -48,7 +48,7 @@ pub fn peek(bytes: &[u8], start: usize, width: usize) -> Option<u64>
     }
 }
 
-/// As `peek`, where the eight bytes from the first bit on hold the bits. It may always return `None`.
+/// As `peek`, if the eight bytes from the first bit on hold the bits. It may always return `None`.
 #[inline(always)]
 pub(crate) fn peek_word(bytes: &[u8], start: usize, width: usize) -> Option<u64>
     requires { width ≤ 64 }
@@ -86,7 +86,7 @@ fn peek_at_end(bytes: &[u8], start: usize, width: usize) -> Option<u64>
     }
 }
 
-/// As `peek`, where the last eight bytes hold the bits. It may always return `None`.
+/// As `peek`, if the last eight bytes hold the bits. It may always return `None`.
 fn peek_last_word(bytes: &[u8], start: usize, width: usize) -> Option<u64>
     requires { width ≤ 64 }
     ensures { IfSome result (λ n. number_at start width (bits bytes.now) ≡ Some n) }
@@ -109,8 +109,8 @@ fn peek_by_bytes(bytes: &[u8], start: usize, width: usize) -> Option<u64>
     Some(read_by_bytes(&bytes[start / 8..], start % 8, width))
 }
 
-/// The bits from `at` on, that bit highest: 57 of them, or all that are left where they are fewer. Below them anything
-/// may be.
+/// The bits of `bytes` from the bit `at` on as a number of 64 bits, that bit highest: 57 of them, or all that are left
+/// if these are fewer. Below them anything may be. `at` must not be past the end.
 #[inline(always)]
 pub fn next_bits(bytes: &[u8], at: usize) -> u64
     requires { at ≤ length (bits bytes.now) }
@@ -163,8 +163,9 @@ impl<'a> Walker<'a> {
         Walker { bytes, place: 0 }
     }
 
-    /// The number in the next `width` bits, which the walker then has passed.
-    /// `None` where these bits go past the end; the walker then stays where it is.
+    /// The number in the next `width` bits, most significant bit first; the walker moves past them. `None` exactly if
+    /// these go past the end; the walker then stays at its place. `width` must be at most 64, and the place after these
+    /// bits below 2^64.
     pub fn next(&mut self, width: usize) -> Option<u64>
         requires width { width ≤ 64 }
         requires place { self.old.place + width < 2 ^ 64 }

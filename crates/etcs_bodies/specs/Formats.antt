@@ -1,4 +1,5 @@
--- A format: a run of variables of a row as a value, given once. Everything else about such values is derived from it.
+-- Formats: a run of variables of a row as a value, given once, from which all else about such values is read off (rows
+-- of SUBSET-026, 7.4).
 use Rattle.std.proofs.Common.{◌≡◌, ℕ, ◌+◌, ◌-◌, ◌*◌, ◌^◌, ◌&&◌, Bool, true, false, List, [], ◌∷◌, length, Option, None, nat_eq, nat_le, ◌⊎◌, inl, inr}
 use Rattle.std.specs.Prelude.{All, if◌then◌else◌}
 use Rattle.std.specs.Bool.{beq}
@@ -20,7 +21,8 @@ use Rattle.etcs_bodies.specs.Codecs.{both_reading, both_from, form_from, group_r
 use Rattle.etcs_bodies.specs.Choices.{choice_row, choice_from, IsEither, either_row, either_reading, either_from}
 use Rattle.etcs_bodies.specs.Guards.{guard_fault, group_fault}
 
--- the values of a format
+-- a run of variables as a value of V: the number of a variable, a flag, one after another, a group after a flag or
+-- after a guard, one of two groups, values after their count, a value by itself inside, or a value under another form
 pub data Format : Type 0 → Type 1 where
   -- the number of a variable
   number : Var → Format ℕ
@@ -30,15 +32,15 @@ pub data Format : Type 0 → Type 1 where
   flag : Var → Format Bool
   -- one after another
   both : {V W : Type 0} → Format V → Format W → Format (V × W)
-  -- a group after a flag that says whether it is there
+  -- a flag, and after it a group, which is there if the flag is 1
   optional : {V : Type 0} → Var → Format V → Format (Option V)
-  -- a group after a number of which a test says whether it is there
+  -- a number, and after it a group, which is there if the number passes a test
   guarded : {V : Type 0} → Var → Test → Format V → Format (ℕ × Option V)
-  -- after a flag, the first group where it is 1, the second where it is 0
+  -- after a flag, the first group if it is 1, the second if it is 0
   either : {V W : Type 0} → Var → Format V → Format W → Format (V ⊎ W)
-  -- after a number, the one variable where the first test holds of it, the other where the second does
+  -- after a number, the one variable if the first test holds of it, the other if the second does
   choice : Var → Test → Test → (Bool → Var) → Format (ℕ × ℕ)
-  -- what was a value by itself before
+  -- a value by itself inside
   part : {V : Type 0} → Format V → Format V
   -- such values after their count
   listed : {V : Type 0} → Var → Format V → Format (List V)
@@ -46,10 +48,11 @@ pub data Format : Type 0 → Type 1 where
   named : {V W : Type 0} → (V → W) → (W → V) → Format V → Format W
 
 infixr 20 ◌⊗◌
+-- one format after another
 abbrev pub ◌⊗◌ : {V W : Type 0} → Format V → Format W → Format (V × W)
 f ⊗ g = both f g
 
--- a first one, and further ones after their count
+-- a first entry, and further ones after the count N_ITER
 abbrev pub entries : {V : Type 0} → Format V → Format (V × List V)
 entries f = part f ⊗ listed N_ITER f
 
@@ -69,7 +72,7 @@ Is (part f) w = Is f w
 Is (listed v f) l = (count_fault v (length l) ≡ None) × All (Is f) l
 Is (named to back f) w = Is f (back w)
 
--- the variables of a value in the order of sending
+-- the variables of a value of the format, in the order of sending
 abbrev pub reading : {V : Type 0} → Format V → V → Reading
 reading (number v) n = (v, n) ∷ []
 reading (sent_as v w) n = (w, n) ∷ []
@@ -83,7 +86,7 @@ reading (part f) w = reading f w
 reading (listed v f) l = list_reading v (reading f) l
 reading (named to back f) w = reading f (back w)
 
--- its row in front of a rest
+-- the row of a format, before a rest
 abbrev pub row : {V : Type 0} → Format V → Layout → Layout
 row (number v) rest = one v rest
 row (sent_as v w) rest = one w rest
@@ -97,7 +100,7 @@ row (part f) rest = row f rest
 row (listed v f) rest = one v (counted (row f whole) rest)
 row (named to back f) rest = row f rest
 
--- the value that the numbers begin with
+-- the value of the format with which what is left begins, and what is left after it
 abbrev pub from : {V : Type 0} → Format V → Left → Option (V × Left)
 from (number v) s = next_number v s
 from (sent_as v w) s = next_number w s
@@ -111,13 +114,14 @@ from (part f) s = from f s
 from (listed v f) s = list_from v (from f) s
 from (named to back f) s = form_from to (from f) s
 
--- ---- What is wrong with what is none.
+-- ---- The faults of what is no value.
 
+-- the fault of the one of two groups that is there
 abbrev pub either_fault : {V W : Type 0} → (V → Option BuildFault) → (W → Option BuildFault) → V ⊎ W → Option BuildFault
 either_fault fault fault' (inl a) = fault a
 either_fault fault fault' (inr b) = fault' b
 
--- the first fault in the order of sending, where its parts are values
+-- the first refusal in the order of sending; what is a part is a value already, and isn't looked at
 abbrev pub fault : {V : Type 0} → Format V → V → Option BuildFault
 fault (number v) n = number_fault v n
 fault (sent_as v w) n = number_fault v n
@@ -133,10 +137,11 @@ fault (named to back f) w = fault f (back w)
 
 -- ---- How long they are, and when two are equal.
 
+-- the larger of two numbers
 abbrev pub larger : ℕ → ℕ → ℕ
 larger m n = if nat_le m n then n else m
 
--- the most bits of a value
+-- the most bits that a value of the format takes
 abbrev pub most : {V : Type 0} → Format V → ℕ
 most (number v) = width v
 most (sent_as v w) = width w
@@ -150,12 +155,14 @@ most (part f) = most f
 most (listed v f) = width v + (2 ^ width v - 1) * most f
 most (named to back f) = most f
 
+-- both are the same one of two groups, and equal
 abbrev pub either_equal : {V W : Type 0} → (V → V → Bool) → (W → W → Bool) → V ⊎ W → V ⊎ W → Bool
 either_equal e e' (inl a) (inl b) = e a b
 either_equal e e' (inl a) (inr b) = false
 either_equal e e' (inr a) (inl b) = false
 either_equal e e' (inr a) (inr b) = e' a b
 
+-- `==` of two values of the format, number by number and part by part
 abbrev pub equal : {V : Type 0} → Format V → V → V → Bool
 equal (number v) = nat_eq
 equal (sent_as v w) = nat_eq

@@ -1,4 +1,5 @@
--- A packet's numbers and bits say which packet it is: what each typed packet keeps, and what follows for all.
+-- A packet's numbers and bits determine the packet: what each typed packet proves, and what follows for all
+-- (SUBSET-026, 7.4).
 use Rattle.std.proofs.Common.{◌≡◌, ℕ, ◌≤◌, length, Option, Some, None}
 use Rattle.etcs_vars.specs.declared.var.Var.TheVariants.{Q_DIR}
 use Rattle.etcs_vars.specs.declared.fault.BuildFault.{BuildFault}
@@ -11,7 +12,8 @@ use Rattle.etcs_tables.specs.Typed.{IsFramed}
 use Rattle.etcs_bodies.specs.Taking.{Left, Says, listed, ◌and_then◌}
 use Rattle.etcs_bodies.specs.Packets.{IsPacketLeft}
 
--- what is read as a packet is one, and a packet is read of what it spells
+-- what a packet is read from, of any source, is what its variables are (sound, back), it is read if it is there
+-- (complete), and its variables are those of its row (framed)
 pub record PacketCodes {P : Type 0} (way : Way) (nid : ℕ) (direction : P → ℕ) (IsValue : P → Type 0) (reading : P → Reading) (from : ℕ → Left → Option P) : Type 0 where
   pub sound : (dir : ℕ) (s : Left) (p : P) → from dir s ≡ Some p → IsValue p × (direction p ≡ dir) × Says s (reading p)
   pub complete : (dir : ℕ) (s : Left) → from dir s ≡ None → IsPacketLeft way nid dir s → ⊥
@@ -20,25 +22,25 @@ pub record PacketCodes {P : Type 0} (way : Way) (nid : ℕ) (direction : P → �
 
 -- ---- A packet is a direction and a body.
 
--- what is read, where it has no fault
+-- what is read, if it has no fault
 abbrev pub fitting : {A : Type 0} → Option BuildFault → A → Option A
 fitting None a = Some a
 fitting (Some e) a = None
 
--- the packet of a direction with which what is left begins, where it isn't too long, and what is left after it
+-- the packet of a direction with which what is left begins, if it isn't too long, and what is left after it
 unfoldable pub directed_from : {B P : Type 0} → (Left → Option (B × Left)) → (P → Option BuildFault) → (ℕ → B → P) → ℕ → Left → Option (P × Left)
 directed_from from too_long make dir s = from s and_then λ b. fitting (too_long (make dir b.0)) (make dir b.0, b.1)
 
--- of packets that can't be too long
+-- the length fault of packets that can't be too long: none
 abbrev pub never : {P : Type 0} → P → Option BuildFault
 never p = None
 
--- to the track every packet has the direction 0
+-- the direction that a packet has this way: to the train the one given, to the track 0
 abbrev pub direction_as : Way → ℕ → ℕ
 direction_as ToTrain dir = dir
 direction_as ToTrack dir = 0
 
--- with this direction nothing is wrong
+-- a packet may have this direction: to the train if Q_DIR admits it, to the track if it is 0
 abbrev pub IsDirection : Way → ℕ → Type 0
 IsDirection ToTrain dir = number_fault Q_DIR dir ≡ None
 IsDirection ToTrack dir = dir ≡ 0

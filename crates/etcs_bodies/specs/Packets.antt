@@ -1,4 +1,4 @@
--- A packet after its frame: a direction, and a body that is the whole of its row.
+-- Packets after their frames: a direction, and a body that is the whole of a row (SUBSET-026, 7.4).
 use Rattle.std.proofs.Common.{◌≡◌, ℕ, true, Option, Some, None}
 use Rattle.std.specs.Prelude.{IsTrue, if◌then◌else◌, nat_le}
 use Rattle.etcs_vars.specs.declared.fault.BuildFault.{BuildFault}
@@ -14,16 +14,17 @@ use Rattle.etcs_bodies.specs.Repeats.{bit_count}
 
 -- ---- The length.
 
--- of a row of this many bits: more than the length of a packet counts
+-- the fault of a row of this many bits: TooLong if they are more than 8,168, which L_PACKET leaves, else none
 unfoldable pub bits_fault : ℕ → Option BuildFault
 bits_fault bits = if nat_le bits ROW_LIMIT then None else Some TooLong
 
+-- the fault of a reading of too many bits: TooLong if they are more than 8,168, else none
 unfoldable pub length_fault : Reading → Option BuildFault
 length_fault r = bits_fault (bit_count r)
 
 -- ---- What is read as a packet.
 
--- the packet this way of a direction that it may have, which takes all that is left
+-- the packet of this way and direction, if it may have it, whose body takes all that is left
 unfoldable pub packet_to : {P : Type 0} → Way → (ℕ → Left → Option (P × Left)) → ℕ → Left → Option P
 packet_to way from dir s = if is_direction way dir then (from dir s and_then λ p. if is_spent p.1 then Some p.0 else None) else None
 
@@ -31,11 +32,11 @@ packet_to way from dir s = if is_direction way dir then (from dir s and_then λ 
 abbrev pub IsPacketLeft : Way → ℕ → ℕ → Left → Type 0
 IsPacketLeft way nid dir s = (r : Reading) × IsFramed way nid dir r × Says s r
 
--- to the train
+-- the packet to the train of this direction, if Q_DIR admits it, whose body takes all that is left
 abbrev pub packet_from : {P : Type 0} → (ℕ → Left → Option (P × Left)) → ℕ → Left → Option P
 packet_from from = packet_to ToTrain from
 
--- what a packet was read from
+-- the packet p was read from all of s: its body takes all that is left, and it may have the direction
 pub record Whole {P : Type 0} (way : Way) (from : ℕ → Left → Option (P × Left)) (dir : ℕ) (s : Left) (p : P) : Type 0 where
   pub left : Left
   pub taken : from dir s ≡ Some (p, left)

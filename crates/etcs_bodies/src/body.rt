@@ -1,4 +1,4 @@
-//! What a typed packet has to give: its body, the whole of its row after a direction.
+//! What a typed packet has to implement: its body, the whole of its row after a direction.
 
 ghost use Rattle.std.specs.Prelude.{◌≡◌, ℕ, Option, Some, None, IfOk, IfSome, IfNone, IsTrue};
 ghost use Rattle.etcs_tables.specs.Frames.{is_direction};
@@ -14,7 +14,8 @@ use etcs_tables::{Way, is_direction};
 use etcs_vars::inner::{Variables, append_numbers};
 use std::alloc::{AllocError, Global};
 
-/// The body of a typed packet, which makes it a `Packetlike` and a `Framed`.
+/// The body of a typed packet: whatever implements it is a `Packetlike` and a `Framed`, by its one law `codes`. Each
+/// packet proves the clauses.
 pub trait Body: Variables + Drop {
     ghost use Rattle.etcs_tables.specs.declared.row.Way.{Way};
 
@@ -37,30 +38,32 @@ pub trait Body: Variables + Drop {
     /// The packet of a direction with which what is left begins, and what is left after it.
     ghost read_from: { ℕ → Left → Option (Self × Left) };
 
-    /// Its direction.
+    /// The direction of the packet, which is a value of its type.
     fn q_dir(&self) -> u8
         ensures dir { result ≡ direction self.now }
         ensures value { is_value self.now };
 
-    /// Takes the packet of a direction that the numbers begin with, if they begin with one.
+    /// Takes the packet of the direction `dir` with which what is left begins (`read_from`); what is left is then what
+    /// follows it. `None` only if `read_from` gives none; no clause says what is left then. A packet must be allowed to
+    /// have the direction.
     ///
     /// # Errors
     ///
-    /// `AllocError` where there is no memory.
+    /// `AllocError` if memory runs out. No clause says what is left then.
     fn take<L: Numbers>(alloc: Global, dir: u8, numbers: &mut L) -> Result<Option<Self>, AllocError>
         requires { IsTrue (is_direction WAY dir) }
         ensures some { IfOk result (λ o. IfSome o (λ p. read_from dir (L.left numbers.old) ≡ Some (p, L.left numbers.new))) }
         ensures none { IfOk result (λ o. IfNone o (read_from dir (L.left numbers.old) ≡ None)) };
 
-    /// An equal packet.
+    /// A copy: if it succeeds, it is equal.
     ///
     /// # Errors
     ///
-    /// `AllocError` where there is no memory.
+    /// `AllocError` if memory runs out.
     fn copy(&self, alloc: Global) -> Result<Self, AllocError>
         ensures { IfOk result (λ p. p ≡ self.now) };
 
-    /// What it is read from is what it spells.
+    /// What a packet is read from, of any source, is what its variables are, and the other way round.
     ghost codes: { PacketCodes WAY NID direction is_value Self.reading_of (packet_to WAY read_from) };
 }
 

@@ -16,7 +16,7 @@ use etcs_vars::{BuildFault, Var};
 use std::alloc::{AllocError, Global};
 use std::marker::Model;
 
-/// Entries after their count, N_ITER: at most 31.
+/// Entries after their count, N_ITER: at most 31, as many as N_ITER admits.
 #[derive(Debug, Drop, PartialEq, Eq)]
 pub struct Counted<E: Entry> {
     entries: ListOf<E>,
@@ -37,11 +37,11 @@ impl<E: Entry> Model for Counted<E> {
 }
 
 impl<E: Entry> Counted<E> {
-    /// These entries.
+    /// These entries, counted: succeeds exactly if N_ITER admits their number, at most 31.
     ///
     /// # Errors
     ///
-    /// [`BuildFault::TooMany`] with N_ITER, and the entries, where there are more than 31.
+    /// [`BuildFault::TooMany`] with N_ITER if there are more. The entries come back.
     pub fn new(entries: Vec<E>) -> Result<Counted<E>, (BuildFault, Vec<E>)>
         ensures ok { IfOk result (λ e. e ≡ entries.items) }
         ensures counted { IfOk result (λ e. IsEntries N_ITER E.is_part e) }
@@ -57,7 +57,7 @@ impl<E: Entry> Counted<E> {
         })
     }
 
-    /// The entries, borrowed.
+    /// The entries, borrowed, in order.
     pub fn as_slice(&self) -> &[E]
         ensures { result.now ≡ self.now }
     {

@@ -16,15 +16,17 @@ use etcs_vars::{BuildFault, Var};
 use std::alloc::{AllocError, Global};
 use std::marker::Model;
 
-/// A part of which a packet has a first one and further ones.
+/// A part of which a packet has a first one and further ones. Each proves how many bits one takes at most.
 pub trait Entry: Part + Drop {
     /// The most bits that one takes, at most 2,047.
     const MOST: usize;
 
     ghost MOST: { ℕ };
 
+    /// No value of the type takes more bits.
     ghost most: { (e : Self) → Self.is_part e → bit_count (Self.reading_of e) ≤ MOST };
 
+    /// The most are at most 2,047.
     ghost short: { IsTrue (nat_le MOST 2047) };
 }
 
@@ -49,11 +51,12 @@ impl<E: Entry> Model for Entries<E> {
 }
 
 impl<E: Entry> Entries<E> {
-    /// A first entry and further ones.
+    /// A first entry and further ones, in order: succeeds exactly if N_ITER admits the number of the further ones, at
+    /// most 31.
     ///
     /// # Errors
     ///
-    /// [`BuildFault::TooMany`] with N_ITER, and all entries, where there are more than 31 further ones.
+    /// [`BuildFault::TooMany`] with N_ITER if there are more further ones. All entries come back.
     pub fn new(first: E, further: Vec<E>) -> Result<Entries<E>, (BuildFault, E, Vec<E>)>
         ensures ok { IfOk result (λ e. e ≡ (first, further.items)) }
         ensures entries { IfOk result (λ e. AreEntries E.is_part e) }
@@ -79,14 +82,14 @@ impl<E: Entry> Entries<E> {
         &self.first
     }
 
-    /// The entries after the first.
+    /// The entries after the first, in order.
     pub fn further(&self) -> &[E]
         ensures { result.now ≡ self.now.1 }
     {
         self.further.as_slice()
     }
 
-    /// The first entry and the further ones.
+    /// The first entry and the further ones, in order.
     pub fn into_parts(self) -> (E, Vec<E>)
         ensures first { result.0 ≡ self.0 }
         ensures further { result.1.items ≡ self.1 }

@@ -5,11 +5,11 @@ ghost use Rattle.etcs_bodies.specs.Faults.{count_fault};
 
 use etcs_vars::{BuildFault, Var};
 
-/// Refuses a list that is longer than its count can say.
+/// Whether the variable of a count admits the count of a list: succeeds exactly if it does.
 ///
 /// # Errors
 ///
-/// [`BuildFault::TooMany`] with the variable of the count, if that doesn't admit the count.
+/// [`BuildFault::TooMany`] with the variable of the count if it doesn't.
 #[tactic(auto, using(crate::specs::laws::Takes::count_ok, crate::specs::laws::Takes::count_bad))]
 pub fn check_count(var: Var, count: usize) -> Result<(), BuildFault>
     ensures ok { OnOk result (count_fault var count ≡ None) }

@@ -20,7 +20,7 @@ macro_rules! build_part {
     }};
 }
 
-/// The same for a packet, after its direction; the brackets are empty where nothing is returned with a fault.
+/// The same for a packet, after its direction; the brackets are empty if nothing is returned with a fault.
 #[macro_export]
 macro_rules! build_packet {
     ({ $back:tt $dir:ident; $($($value:expr),+);+ } $($($field:ident: $($kind:ident)+),+);+) => {{
@@ -57,7 +57,7 @@ macro_rules! copy_fields {
     };
 }
 
-/// What was taken; where there is none, the function returns `Ok(None)`.
+/// What was taken; if there is none, the function returns `Ok(None)`.
 #[macro_export]
 macro_rules! taken {
     ($taken:expr) => {

@@ -1,4 +1,4 @@
-//! What the crates above ask of a typed packet.
+//! What the crates above need of a typed packet.
 
 ghost use Rattle.std.specs.Prelude.{◌≡◌, IfOk, IfSome, IsNone};
 ghost use Rattle.etcs_vars.specs.Reading.{Reading, numbers, spelled};
@@ -12,24 +12,27 @@ use etcs_bits::BitSlice;
 use etcs_vars::inner::Variables;
 use std::alloc::{AllocError, Global};
 
-/// A typed packet with its variables after L_PACKET, which it also is made of.
+/// A typed packet with its variables after L_PACKET, from which it is also made: by bits, by numbers, or by names with
+/// numbers. Each implementation proves the clauses.
 pub trait Framed: Packetlike + Variables {
-    /// The packet of a direction and of the bits after L_PACKET; `None` exactly where the direction isn't admitted
-    /// or the bits are no spelling of the row.
+    /// The packet of a direction and of the bits after L_PACKET: if it returns one, the packet has this direction and
+    /// its variables spell exactly these bits. `None` only if the direction isn't admitted or the bits are no spelling
+    /// of the row of at most 8,168 bits. With the law `framed` a packet is returned only if there is one.
     ///
     /// # Errors
     ///
-    /// `AllocError` where there is no memory.
+    /// `AllocError` if memory runs out.
     fn from_bits(alloc: Global, dir: u8, bits: BitSlice<'_>) -> Result<Option<Self>, AllocError>
         ensures some { IfOk result (λ o. IfSome o (λ p. Self.is_value p × (Self.direction p ≡ dir) × (spelled (Self.reading_of p) ≡ bits.entry))) }
         ensures none { IfOk result (λ o. IsNone o → (r : Reading) → IsFramed Self.WAY Self.NID dir r → spelled r ≡ bits.entry → ⊥) };
 
-    /// The packet of a direction and of the numbers after L_PACKET, all of them, in any form; `None` exactly where the
-    /// direction isn't admitted or they aren't those of the row.
+    /// The packet of a direction and of the numbers after L_PACKET, all of them, in any form: if it returns one, the
+    /// packet has this direction and its variables are exactly what is left. `None` only if the direction isn't
+    /// admitted or what is left isn't a reading of the row of at most 8,168 bits.
     ///
     /// # Errors
     ///
-    /// `AllocError` where there is no memory.
+    /// `AllocError` if memory runs out.
     fn from_numbers<L: Numbers + Drop>(
         alloc: Global,
         dir: u8,
@@ -38,14 +41,14 @@ pub trait Framed: Packetlike + Variables {
         ensures some { IfOk result (λ o. IfSome o (λ p. Self.is_value p × (Self.direction p ≡ dir) × Says (L.left numbers) (Self.reading_of p))) }
         ensures none { IfOk result (λ o. IsNone o → IsPacketLeft Self.WAY Self.NID dir (L.left numbers) → ⊥) };
 
-    /// An equal packet.
+    /// A copy: if it succeeds, it is equal.
     ///
     /// # Errors
     ///
-    /// `AllocError` where there is no memory.
+    /// `AllocError` if memory runs out.
     fn try_clone(&self, alloc: Global) -> Result<Self, AllocError>
         ensures { IfOk result (λ p. p ≡ self.now) };
 
-    /// Its variables are those of its row, and their numbers are its own.
+    /// The variables of each value are those of its row, in at most 8,168 bits, and their numbers are its numbers.
     ghost framed: { (p : Self) → Self.is_value p → IsFramed Self.WAY Self.NID (Self.direction p) (Self.reading_of p) × (numbers (Self.reading_of p) ≡ Self.fields_of p) };
 }

@@ -5,11 +5,12 @@ ghost use Rattle.etcs_bodies.specs.Guards.{guard_fault};
 
 use etcs_vars::{BuildFault, Var};
 
-/// Refuses a group that is missing where it is wanted, or there where it isn't.
+/// Whether a group is there as its guard requires: succeeds exactly if `wanted`, whether the guard holds, and `there`,
+/// whether the group is there, are the same.
 ///
 /// # Errors
 ///
-/// `Guard` with this variable.
+/// [`BuildFault::Guard`] with the guard's variable if they aren't.
 #[tactic(auto, using(crate::specs::laws::Guards::guard_ok, crate::specs::laws::Guards::guard_missing, crate::specs::laws::Guards::guard_spare))]
 pub fn check_guard(var: Var, wanted: bool, there: bool) -> Result<(), BuildFault>
     ensures ok { OnOk result (guard_fault var wanted there ≡ None) }

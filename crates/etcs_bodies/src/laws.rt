@@ -2,14 +2,14 @@
 
 ghost use Rattle.std.specs.Prelude.{◌≡◌, ◌↔◌, IsTrue};
 
-/// A type of which `==` is equality of values.
+/// A type of which `==` is equality of values: it returns true exactly if both are the same value. Each type proves it.
 pub trait Exact: PartialEq {
     ghost use Rattle.etcs_bodies.specs.Equality.{IsExact};
 
     ghost exact: { IsExact Self.eq };
 }
 
-/// `==` is equality of values.
+/// `==` of two values is equality of the values: it returns true exactly if they are equal, and its body is `==`.
 pub fn exact_equality<T: Exact>(first: &T, second: &T) -> bool
     ensures { IsTrue result ↔ (first.now ≡ second.now) }
 {

@@ -1,3 +1,5 @@
+//! A list of items that has a value.
+
 ghost use Rattle.std.specs.Prelude.{◌≡◌, ℕ, List, length};
 ghost use Rattle.std.specs.Cmp.Lexicographic.{lists_per, lists_equiv, pointwise};
 
@@ -16,14 +18,14 @@ impl<T> Model for ListOf<T> {
 }
 
 impl<T> ListOf<T> {
-    /// The list of these items.
+    /// The list of these items, in order.
     pub fn from_vec(held: Vec<T>) -> ListOf<T>
         ensures { result ≡ held.items }
     {
         ListOf { held }
     }
 
-    /// The items as a vector.
+    /// The items as a vector, in order.
     pub fn into_vec(self) -> Vec<T>
         ensures { result.items ≡ self }
     {
@@ -31,7 +33,7 @@ impl<T> ListOf<T> {
         held
     }
 
-    /// The items, borrowed.
+    /// The items, borrowed, in order.
     pub fn as_slice(&self) -> &[T]
         ensures { result.now ≡ self.now }
     {

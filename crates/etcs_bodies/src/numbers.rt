@@ -10,38 +10,45 @@ use etcs_bits::{BitSlice, SliceWalker};
 use etcs_vars::Var;
 use std::marker::Model;
 
-/// Numbers that are still to be taken, one by one.
+/// Numbers that are still to be taken, one by one: of a list, of bits that spell them, or of names with numbers. Each
+/// source proves the clauses.
 pub trait NextNumber {
     ghost use Rattle.std.specs.Prelude.{◌≡◌, Some, None, IfSome, IfNone, IsTrue};
     ghost use Rattle.etcs_vars.specs.Vars.{admits};
     ghost use Rattle.etcs_vars.specs.Faults.{number_fault};
     ghost use Rattle.etcs_bodies.specs.Taking.{Left, is_spent, next_number, next_flag};
 
-    /// What is left.
+    /// What is left to be taken.
     ghost left: { Self → Left };
 
-    /// Whether nothing is left.
+    /// Whether nothing is left to be taken.
     fn is_empty(&self) -> bool
         ensures { result ≡ is_spent (left self.now) };
 
-    /// The next number, where the variable admits it.
+    /// Takes the number that comes next, if the variable admits it and, of names with numbers, it is under the
+    /// variable's name; what follows it is then left. `None` exactly if there is no such number; no clause says what is
+    /// left then.
     fn next(&mut self, var: Var) -> Option<u64>
         ensures admitted { IfSome result (λ n. number_fault var n ≡ None) }
         ensures bounded { IfSome result (λ n. IsTrue (admits var n)) }
         ensures next { IfSome result (λ n. next_number var (left self.old) ≡ Some (n, left self.new)) }
         ensures none { IfNone result (next_number var (left self.old) ≡ None) };
 
-    /// The next number as a flag.
+    /// Takes the number that comes next as a flag, if it is 0 or 1 and, of names with numbers, it is under the
+    /// variable's name; what follows it is then left. `None` exactly if there is no such number; no clause says what is
+    /// left then.
     fn flag(&mut self, var: Var) -> Option<bool>
         ensures next { IfSome result (λ b. next_flag var (left self.old) ≡ Some (b, left self.new)) }
         ensures none { IfNone result (next_flag var (left self.old) ≡ None) };
 }
 
-/// Numbers that are still to be taken, one by one or several at a time.
+/// Numbers that are still to be taken, one by one or several at a time. Each source proves the clauses.
 pub trait Numbers: NextNumber {
     ghost use Rattle.std.specs.Prelude.{nat_lt, IfSome, IfNone, IsTrue};
 
-    /// The next numbers, where the variables of the run admit them.
+    /// Takes the numbers of a run of variables: those that would be taken one after the other. `None` only if one of
+    /// them isn't there or isn't admitted; no clause says what is left then. The run must take fewer than 64 bits in
+    /// all.
     fn run<R: Run>(&mut self, run: R) -> Option<R::Taken>
         requires { IsTrue (nat_lt (R.bits run) 64) }
         ensures some { IfSome result (λ ns. R.Takes run (Self.left self.old) ns (Self.left self.new)) }
@@ -63,7 +70,7 @@ impl<'a> Model for Listed<'a> {
 }
 
 impl<'a> Listed<'a> {
-    /// All of these numbers.
+    /// All of these numbers are left to be taken, in order.
     #[inline(always)]
     pub fn new(list: &'a [u64]) -> Listed<'a>
         ensures { result ≡ listed list.now }
@@ -116,7 +123,7 @@ impl<'a> Model for Spelled<'a> {
 }
 
 impl<'a> Spelled<'a> {
-    /// The numbers that these bits spell.
+    /// All numbers that these bits spell are left to be taken, in order.
     #[inline(always)]
     pub fn new(bits: BitSlice<'a>) -> Spelled<'a>
         ensures { result ≡ in_bits bits.entry }
@@ -155,7 +162,7 @@ impl<'a> Numbers for Spelled<'a> {
     }
 }
 
-/// Takes the first number of a list, where the variable admits it.
+/// Takes the first number of a list, if the variable admits it.
 #[tactic(auto, using(crate::specs::laws::Sources::next_is_listed, crate::specs::laws::Sources::not_listed, crate::specs::laws::Sources::none_next))]
 #[inline(always)]
 fn next_listed<'a>(list: &mut &'a [u64], var: Var) -> Option<u64>
@@ -175,7 +182,7 @@ fn next_listed<'a>(list: &mut &'a [u64], var: Var) -> Option<u64>
     }
 }
 
-/// Takes the number of the next bits, in the variable's width, where it admits it.
+/// Takes the number of the next bits, in the variable's width, if it admits it.
 #[tactic(auto, using(crate::specs::laws::Sources::next_is_in_bits, crate::specs::laws::Sources::not_in_bits, crate::specs::laws::Sources::no_more_bits))]
 #[inline(always)]
 fn next_in_bits(walker: &mut SliceWalker<'_>, var: Var) -> Option<u64>

@@ -13,12 +13,13 @@ use etcs_vars::Var;
 use etcs_vars::inner::{VarSink, Variables, bits_of_all, send_all};
 use std::alloc::{AllocError, Global};
 
-/// A part of a packet: a run of variables of its row.
+/// A part of a packet: a run of variables of its row, sent as `Variables`, and taken as its `read_from` gives. That the
+/// two go together is the law `codes`. Each part proves the clauses.
 pub trait Part: Variables + Sized {
     ghost use Rattle.etcs_tables.specs.Layouts.{Layout};
     ghost use Rattle.etcs_bodies.specs.Taking.{Left};
 
-    /// Its row in front of the rest of a row.
+    /// The row of the part, before the rest of a row.
     ghost row: { Layout → Layout };
 
     /// The part with which what is left begins, and what is after it.
@@ -27,25 +28,35 @@ pub trait Part: Variables + Sized {
     /// Holds of every value of the type.
     ghost is_part: { Self → Type 0 };
 
-    /// This part is one of the type's.
+    /// Nothing is wrong with the part: it is a value of its type, as every part is. It does nothing else.
     fn holds(&self)
         ensures { is_part self.now };
 
-    /// Takes the part that the numbers begin with, if they begin with one.
+    /// Takes the part with which what is left begins (`read_from`), which is a value of the type; what is left is then
+    /// what follows it. `None` only if `read_from` gives none; no clause says what is left then.
+    ///
+    /// # Errors
+    ///
+    /// `AllocError` if memory runs out. No clause says what is left then.
     fn take<L: Numbers>(alloc: Global, numbers: &mut L) -> Result<Option<Self>, AllocError>
         ensures part { IfOk result (λ o. IfSome o (λ p. is_part p)) }
         ensures from { IfOk result (λ o. IfSome o (λ p. read_from (L.left numbers.old) ≡ Some (p, L.left numbers.new))) }
         ensures none { IfOk result (λ o. IfNone o (read_from (L.left numbers.old) ≡ None)) };
 
-    /// An equal part.
+    /// A copy: if it succeeds, it is equal.
+    ///
+    /// # Errors
+    ///
+    /// `AllocError` if memory runs out.
     fn try_clone(&self, alloc: Global) -> Result<Self, AllocError>
         ensures { IfOk result (λ p. p ≡ self.now) };
 
-    /// What is read is what was sent, and what its row spells.
+    /// What was sent of a part is read as that part, what is read was sent so, and the variables of parts are exactly
+    /// what the row spells.
     ghost codes: { Codes row is_part Self.reading_of read_from };
 }
 
-/// Shows that each of them is a part.
+/// Nothing is wrong with any of these parts: each is a value of its type. It does nothing else.
 pub fn hold_all<P: Part>(parts: &[P])
     ensures { All P.is_part parts.now }
 {
@@ -54,11 +65,11 @@ pub fn hold_all<P: Part>(parts: &[P])
     }
 }
 
-/// Copies of the parts, in order.
+/// Copies of the parts, in order: if it succeeds, they are equal.
 ///
 /// # Errors
 ///
-/// If memory is refused.
+/// `AllocError` if memory runs out.
 pub fn clone_all<P: Part + Drop>(alloc: Global, parts: &[P]) -> Result<Vec<P>, AllocError>
     ensures { IfOk result (λ ps. ps.items ≡ parts.now) }
 {
@@ -90,11 +101,12 @@ fn take_all<P: Part + Drop, L: Numbers>(
     Ok(Some(parts))
 }
 
-/// Takes a list of parts after its count, if the numbers begin with one.
+/// Takes a list of parts after its count, if what is left begins with one: a count that its variable admits, and as
+/// many parts, each as its `read_from` gives. `None` only if what is left begins with none.
 ///
 /// # Errors
 ///
-/// If memory is refused. No clause says what the numbers have left then, nor after `None`.
+/// `AllocError` if memory runs out. No clause says what is left then, nor after `None`.
 #[tactic(auto, using(crate::specs::laws::Repeats::list_is, crate::specs::laws::Repeats::list_missing, crate::specs::laws::Repeats::list_uncounted, crate::specs::laws::Takes::counted_is))]
 pub fn take_list<P: Part + Drop, L: Numbers>(
     alloc: Global,
@@ -110,11 +122,12 @@ pub fn take_list<P: Part + Drop, L: Numbers>(
     take_all(alloc, numbers, many as usize)
 }
 
-/// Sends a list of parts after its count.
+/// Sends a list of parts after its count: if it succeeds, the sink then holds what its `with` gives for the count and
+/// the variables of the parts, in order.
 ///
 /// # Errors
 ///
-/// That of the sink.
+/// That of the sink, whose `failed` then holds.
 pub fn send_list<P: Part, S: VarSink>(
     count: Var,
     parts: &[P],

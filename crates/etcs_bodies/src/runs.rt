@@ -5,38 +5,41 @@ ghost use Rattle.std.specs.Prelude.{◌≡◌, ℕ, ◌+◌, ◌/◌, ◌%◌, �
 use crate::numbers::NextNumber;
 use etcs_vars::Var;
 
-/// Variables one after another.
+/// Variables one after another, whose numbers are taken together: a variable, a flag, or two runs, one after the other.
+/// Each proves the clauses.
 pub trait Run: Copy {
     ghost use Rattle.std.specs.Prelude.{◌≡◌, ℕ, ◌+◌, ◌<◌, List, Bool, ◌⊎◌, IfSome, IfNone, drop};
     ghost use Rattle.etcs_bodies.specs.Taking.{Left, in_bits};
     ghost use Rattle.etcs_bodies.specs.Runs.{TakesBits, LiesAt};
 
-    /// Their numbers.
+    /// The numbers of the variables.
     type Taken: Copy;
 
-    /// Their widths together.
+    /// How many bits the variables take together.
     ghost bits: { Self → ℕ };
 
-    /// These numbers are taken, and this is after them.
+    /// These numbers are taken from what is left, and this is left after them.
     ghost Takes: { Self → Left → Self.Taken → Left → Type 0 };
 
-    /// One of them can't be taken.
+    /// One of the numbers isn't there or isn't admitted.
     ghost Lacks: { Self → Left → Type 0 };
 
-    /// Bits begin with their numbers, or lack one.
+    /// Bits begin with the numbers of the run, or lack one.
     ghost either: { (r : Self) (b : List Bool) (k : ℕ) → Lacks r (in_bits (drop k b)) ⊎ TakesBits (Takes r) (bits r) b k };
 
-    /// Their widths together.
+    /// How many bits the variables take together, which must be fewer than 64.
     fn width(self) -> usize
         requires { bits self < 64 }
         ensures { result ≡ bits self };
 
-    /// Takes their numbers one after another.
+    /// Takes the numbers of the variables, one after another. `None` only if one of them isn't there or isn't admitted;
+    /// no clause says what is left then.
     fn each<N: NextNumber>(self, numbers: &mut N) -> Option<Self::Taken>
         ensures some { IfSome result (λ ns. Takes self (N.left numbers.old) ns (N.left numbers.new)) }
         ensures none { IfNone result (Lacks self (N.left numbers.old)) };
 
-    /// Their numbers in a word, with this many bits after them.
+    /// The numbers of the variables in a word whose lowest bits they are, with `beyond` bits after them. `None` only if
+    /// one of them isn't admitted. All these bits must be fewer than 64.
     fn split(self, word: u64, beyond: usize) -> Option<Self::Taken>
         requires { bits self + beyond < 64 }
         ensures some { IfSome result (λ ns. (b : List Bool) (k : ℕ) → LiesAt word (bits self + beyond) b k → Takes self (in_bits (drop k b)) ns (in_bits (drop (k + bits self) b))) }

@@ -1,4 +1,5 @@
--- What the calls return, as numbers.
+-- What the calls return for bytes and for lines of JSON, as numbers. `old` and `new` are the caller's buffer before and
+-- after the call, s its status and a its answer.
 use Rattle.std.specs.Prelude.{◌≡◌, ℕ, ◌*◌, ◌⊎◌, Bool, List}
 use Rattle.serde_json.specs.Written.{compact_text}
 use Rattle.etcs_vars.specs.declared.var.Var.{Var}
@@ -25,50 +26,54 @@ kind_number Short = 2
 kind_number Radio = 3
 kind_number Train = 4
 
--- what the bits begin with, of items of a kind: refused memory says nothing
+-- what the bits begin with, of items of the kind (`IsOutcome`): an item of this many bytes, the beginning of one, or a
+-- refused bit. If out of memory, nothing is promised
 abbrev pub Finds : Kind → List Bool → Found → Type 0
 Finds kind b (Whole e k) = IsOutcome (EntryReads kind) b (done (entry_value e) (8 * k))
 Finds kind b More = IsOutcome (EntryReads kind) b more
 Finds kind b (Refused i x) = IsOutcome (EntryReads kind) b (refused i x)
 Finds kind b Memory = Unit {0}
 
--- its status and numbers
+-- the status and the numbers of what was found
 abbrev pub Says : Found → ℕ → EtcsAnswer → Type 0
 Says (Whole e k) s a = (s ≡ 0) × (a.taken ≡ k)
 Says More s a = s ≡ 1
 Says (Refused i x) s a = (s ≡ 2) × (a.bit ≡ i) × (a.var ≡ name_field x)
 Says Memory s a = s ≡ 4
 
--- no kind has the number
+-- no kind has the number, and the status is 5
 abbrev pub NoKind : ℕ → ℕ → Type 0
 NoKind n s = (s ≡ 5) × ((kind : Kind) → kind_number kind ≡ n → ⊥)
 
--- what a check answers of a kind's number and of bits
+-- `etcs_check`: the status and the answer are those of what the bits begin with; or no kind has the number
 abbrev pub Checks : ℕ → List Bool → ℕ → EtcsAnswer → Type 0
 Checks n b s a = ((kind : Kind) × (found : Found) × (kind_number kind ≡ n) × Finds kind b found × Says found s a) ⊎ NoKind n s
 
--- what is written of an item
+-- the text is what is written of the item: its lines of text, or its JSON
 abbrev pub IsText : Wanted → EntryValue → List ℕ → Type 0
 IsText (Show item) e text = text ≡ entry_text e item
 IsText Json e text = text ≡ compact_text (json_tree e)
 
+-- that is written; or it is out of memory
 abbrev pub OutputsOf : Wanted → EntryValue → List ℕ → List ℕ → ℕ → EtcsAnswer → Type 0
 OutputsOf wanted e old new s a = ((text : List ℕ) × IsText wanted e text × Writes text old new s a) ⊎ Starves old new s
 
--- of an item its bytes and what is written of it; else as a check, and nothing is written
+-- for an item, how many bytes it has, and what is written of it; else as for a check, and nothing is written
 abbrev pub SaysText : Wanted → Found → List ℕ → List ℕ → ℕ → EtcsAnswer → Type 0
 SaysText wanted (Whole e k) old new s a = (a.taken ≡ k) × OutputsOf wanted (entry_value e) old new s a
 SaysText wanted More old new s a = Says More s a × (new ≡ old)
 SaysText wanted (Refused i x) old new s a = Says (Refused i x) s a × (new ≡ old)
 SaysText wanted Memory old new s a = Says Memory s a × (new ≡ old)
 
+-- `etcs_show` and `etcs_to_json`: that, for what the bits begin with; or no kind has the number
 abbrev pub Outputs : Wanted → ℕ → List Bool → List ℕ → List ℕ → ℕ → EtcsAnswer → Type 0
 Outputs wanted n b old new s a = ((kind : Kind) × (found : Found) × (kind_number kind ≡ n) × Finds kind b found × SaysText wanted found old new s a) ⊎ (NoKind n s × (new ≡ old))
 
--- the encoding of the item that a line of JSON says; or it says none: its shape isn't that of an item, or the bits that it
--- stores are refused
+-- the encoding of the item whose JSON the line is is written; or it is the JSON of none: the bits of its older form are
+-- refused, or it has no tree of an item, nor one of this form
 abbrev pub SaysLine : Kind → List ℕ → List ℕ → List ℕ → ℕ → EtcsAnswer → Type 0
 SaysLine kind line old new s a = ((e : EntryValue) × (bytes : List ℕ) × SaysItem kind line e × IsEncoded e bytes × Writes bytes old new s a) ⊎ (((i : ℕ) × (x : Var) × (s ≡ 2) × (a.bit ≡ i) × (a.var ≡ name_field x) × (new ≡ old) × SaysRefused kind line i x) ⊎ (((s ≡ 6) × (new ≡ old) × ((e : EntryValue) → IsLoose kind e → OfLine (λ d. IsTreeOf e d) line → ⊥)) ⊎ Starves old new s))
 
+-- `etcs_from_json`: that; or no kind has the number
 abbrev pub OutputsJson : ℕ → List ℕ → List ℕ → List ℕ → ℕ → EtcsAnswer → Type 0
 OutputsJson n line old new s a = ((kind : Kind) × (kind_number kind ≡ n) × SaysLine kind line old new s a) ⊎ (NoKind n s × (new ≡ old))

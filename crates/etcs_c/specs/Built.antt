@@ -1,4 +1,4 @@
--- Items of their fields, as C has them.
+-- Items built from their fields, as C has them.
 use Rattle.std.specs.Prelude.{◌≡◌, ℕ, ◌⊎◌, Bool, List}
 use Rattle.etcs_vars.specs.declared.var.Var.{Var}
 use Rattle.etcs_vars.specs.Reading.{Reading, IsOutcome, done, refused, more}
@@ -12,30 +12,32 @@ use Rattle.etcs_c.specs.Answers.{NoKind, kind_number}
 use Rattle.etcs_c.specs.Fields.{fields_of}
 use Rattle.etcs_c.specs.ItemFields.{AreFit, packed, whole_bytes}
 
--- these are the fields of the item, which is of the kind
+-- these are all the fields of the item, which is of the kind
 abbrev pub HasFields : Kind → List EtcsField → EntryValue → Type 0
 HasFields kind fs e = (r : Reading) × EntryReads kind e r × (fs ≡ fields_of r)
 
--- they are those of no item of the kind
+-- these are the fields of no item of the kind
 abbrev pub NoneHas : Kind → List EtcsField → Type 0
 NoneHas kind fs = (e : EntryValue) → HasFields kind fs e → ⊥
 
--- the item's encoding is written
+-- the item's encoding is written; or it is out of memory
 abbrev pub SaysPacked : EntryValue → List ℕ → List ℕ → ℕ → EtcsAnswer → Type 0
 SaysPacked e old new s a = ((bytes : List ℕ) × IsEncoded e bytes × Writes bytes old new s a) ⊎ Starves old new s
 
--- they don't fit, or their bits, up to the last whole byte, begin with an item
+-- the fields don't fit their widths, or their bits, up to the last whole byte, begin with an item
 abbrev pub AreBad : Kind → List EtcsField → Type 0
 AreBad kind fs = (AreFit fs → ⊥) ⊎ ((e : EntryValue) × (n : ℕ) × IsOutcome (EntryReads kind) (whole_bytes (packed fs)) (done e n))
 
--- what is said where no item has them: that they are bad; or, where they fit, that their bits, up to the last whole byte, end
--- inside an item, or which of them is refused
+-- what is returned if no item has the fields: 7 if they are bad; or, if they fit their widths, 1 if their bits, up to
+-- the last whole byte, end inside an item, and 2 with the one that is refused
 abbrev pub Misses : Kind → List EtcsField → ℕ → EtcsAnswer → Type 0
 Misses kind fs s a = ((s ≡ 7) × AreBad kind fs) ⊎ (AreFit fs × (((s ≡ 1) × IsOutcome (EntryReads kind) (whole_bytes (packed fs)) more) ⊎ ((i : ℕ) × (x : Var) × (s ≡ 2) × (a.bit ≡ i) × (a.var ≡ name_field x) × IsOutcome (EntryReads kind) (whole_bytes (packed fs)) (refused i x))))
 
--- of the item whose fields these are its encoding; else nothing is written
+-- the encoding of the item whose fields these are is written; or no item of the kind has them, and nothing is written;
+-- or it is out of memory
 abbrev pub IsBuilt : Kind → List EtcsField → List ℕ → List ℕ → ℕ → EtcsAnswer → Type 0
 IsBuilt kind fs old new s a = ((e : EntryValue) × HasFields kind fs e × SaysPacked e old new s a) ⊎ ((NoneHas kind fs × Misses kind fs s a × (new ≡ old)) ⊎ Starves old new s)
 
+-- `etcs_from_fields`: that; or no kind has the number
 abbrev pub Builds : ℕ → List EtcsField → List ℕ → List ℕ → ℕ → EtcsAnswer → Type 0
 Builds n fs old new s a = ((kind : Kind) × (kind_number kind ≡ n) × IsBuilt kind fs old new s a) ⊎ (NoKind n s × (new ≡ old))

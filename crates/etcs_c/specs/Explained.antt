@@ -1,4 +1,4 @@
--- The answer for bytes that no item begins with, and for lines that say none.
+-- What is returned and written for bytes that no item begins with, and for lines that are the JSON of none.
 use Rattle.std.specs.Prelude.{◌≡◌, ◌<◌, ℕ, ◌⊎◌, Bool, List, length, take}
 use Rattle.etcs_vars.specs.Vars.{width}
 use Rattle.etcs_vars.specs.declared.var.Var.{Var}
@@ -21,11 +21,11 @@ use Rattle.etcs_c.specs.Writes.{Starves, WritesAs, name_field}
 use Rattle.etcs_c.specs.Answers.{Says}
 use Rattle.etcs_c.specs.Fields.{fields_of}
 
--- some words, not none, are written, and the status is this one
+-- a text that isn't empty is written, with this status; or there is no room for it; or it is out of memory
 abbrev pub Words : ℕ → List ℕ → List ℕ → ℕ → EtcsAnswer → Type 0
 Words status old new s a = ((text : List ℕ) × (0 < length text) × WritesAs status text old new s a) ⊎ Starves old new s
 
--- of what no bit is refused of, as a check, and nothing is written
+-- no bit is refused: as for a check, and nothing is written
 abbrev pub SaysUnwritten : Found → ℕ → EtcsAnswer → Type 0
 SaysUnwritten (Refused i x) s a = ⊥
 SaysUnwritten found s a = Says found s a × (a.written ≡ 0)
@@ -34,26 +34,27 @@ SaysUnwritten found s a = Says found s a × (a.written ≡ 0)
 abbrev pub IsRefused : Kind → List Bool → Wanted → Account → EtcsAnswer → Type 0
 IsRefused kind b wanted account a = (i : ℕ) × (part : Part) × (account.end ≡ End.Refused i part) × (a.bit ≡ i) × (a.var ≡ name_field part.var) × IsOutcome (EntryReads kind) b (refused i part.var) × AccountsFor wanted (readings_of (EntryReads kind)) account.fields.items account.end (take 8184 b)
 
--- of a refused bit which it is, its variable and words; else as a check, and nothing is written
+-- `etcs_explain`: for a refused bit, which it is, its variable, and some text; else as for a check, and nothing is written
 abbrev pub SaysWhy : Found → List ℕ → List ℕ → ℕ → EtcsAnswer → Type 0
 SaysWhy (Whole e k) old new s a = Says (Whole e k) s a × (a.written ≡ 0) × (new ≡ old)
 SaysWhy More old new s a = Says More s a × (a.written ≡ 0) × (new ≡ old)
 SaysWhy (Refused i x) old new s a = (a.bit ≡ i) × (a.var ≡ name_field x) × Words 2 old new s a
 SaysWhy Memory old new s a = Says Memory s a × (a.written ≡ 0) × (new ≡ old)
 
--- these are fields of variables with which an item of the kind begins, and their bits and a part of variable x, fewer bits
--- than it has, are the bits before bit i
+-- these are fields of variables with which an item of the kind begins, and the bits before bit i are theirs and then
+-- fewer bits than the variable x has. No more ties these bits to x: whole narrower variables may be among them
 abbrev pub AreBefore : Kind → List Bool → ℕ → Var → List EtcsField → Type 0
 AreBefore kind b i x fs = (p : Reading) × (part : List Bool) × Shows (readings_of (EntryReads kind)) p part (take i b) × (length part < width x) × (fs ≡ fields_of p)
 
--- of a refused bit which it is, its variable and the fields before it; else as a check, and nothing is written
+-- `etcs_fields_before`: for a refused bit, which it is, its variable, and fields before it; else as for a check, and
+-- nothing is written
 abbrev pub SaysBefore : Kind → List Bool → Found → List EtcsField → List EtcsField → ℕ → EtcsAnswer → Type 0
 SaysBefore kind b (Whole e k) old new s a = Says (Whole e k) s a × (a.written ≡ 0) × (new ≡ old)
 SaysBefore kind b More old new s a = Says More s a × (a.written ≡ 0) × (new ≡ old)
 SaysBefore kind b (Refused i x) old new s a = (a.bit ≡ i) × (a.var ≡ name_field x) × (((fs : List EtcsField) × AreBefore kind b i x fs × WritesAs 2 fs old new s a) ⊎ Starves old new s)
 SaysBefore kind b Memory old new s a = Says Memory s a × (a.written ≡ 0) × (new ≡ old)
 
--- of a line that says no item words, with the answer as where an item's encoding is wanted; of one that says an item nothing
--- is written
+-- `etcs_explain_json`: for a line that is the JSON of no item, some text, with the status and the answer as for
+-- `etcs_from_json`; for one that is the JSON of an item nothing is written
 abbrev pub SaysLineWhy : Kind → List ℕ → List ℕ → List ℕ → ℕ → EtcsAnswer → Type 0
 SaysLineWhy kind line old new s a = ((e : EntryValue) × SaysItem kind line e × (s ≡ 0) × (a.written ≡ 0) × (new ≡ old)) ⊎ (((i : ℕ) × (x : Var) × SaysRefused kind line i x × (a.bit ≡ i) × (a.var ≡ name_field x) × Words 2 old new s a) ⊎ ((((e : EntryValue) → IsLoose kind e → OfLine (λ d. IsTreeOf e d) line → ⊥) × Words 6 old new s a) ⊎ Starves old new s))

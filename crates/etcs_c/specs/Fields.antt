@@ -141,6 +141,7 @@ var_number Var.PAD = 129
 -- ---- The fields of a reading: one for each variable, but up to 64 bits one after another of a variable of kept bits or
 -- of PAD in one.
 
+-- bits of the variable are joined: those that are kept as they are, and those of PAD
 abbrev pub is_run : Var → Bool
 is_run Var.FILL = true
 is_run Var.OTHER_DATA = true
@@ -148,15 +149,15 @@ is_run Var.PADDING = true
 is_run Var.PAD = true
 is_run v = false
 
--- a variable with its number
+-- the field of a variable with its number
 abbrev pub field : Sent → EtcsField
 field p = record { number = p.1; var = var_number p.0; width = width p.0 }
 
--- a variable with its number is one bit more of the field's
+-- a variable with its number is one more bit of the field
 abbrev pub joins : EtcsField → Sent → Bool
 joins f p = is_run p.0 && (f.var == var_number p.0) && nat_lt f.width 64 && nat_lt f.number (2 ^ 63) && nat_lt p.1 2
 
--- with this bit more
+-- the field with this bit after its others
 abbrev pub widened : EtcsField → ℕ → EtcsField
 widened f b = record { number = f.number * 2 + b; var = f.var; width = f.width + 1 }
 
@@ -164,18 +165,21 @@ widened f b = record { number = f.number * 2 + b; var = f.var; width = f.width +
 abbrev pub Joined : Type 0
 Joined = List EtcsField × Option EtcsField
 
+-- these with one more variable: a bit that joins the last field, or a field after it
 abbrev pub join : Joined → Sent → Joined
 join (fs, None) p = (fs, Some (field p))
 join (fs, Some f) p = if joins f p then (fs, Some (widened f p.1)) else (fs ++ f ∷ [], Some (field p))
 
--- with these variables more, in their order
+-- these with some more variables, in their order
 abbrev pub joined : Joined → Reading → Joined
 joined s [] = s
 joined s (p ∷ r) = joined (join s p) r
 
+-- all of these fields, the last one too
 abbrev pub closed : Joined → List EtcsField
 closed (fs, None) = fs
 closed (fs, Some f) = fs ++ f ∷ []
 
+-- a reading's fields: one for each variable, but up to 64 bits one after another of FILL, OTHER_DATA, PADDING or PAD in one
 abbrev pub fields_of : Reading → List EtcsField
 fields_of r = closed (joined ([], None) r)

@@ -1,4 +1,4 @@
--- What telegrams of a balise group make together, one after another.
+-- What telegrams of a balise group make together: the result of `etcs_assemble`.
 use Rattle.std.specs.Prelude.{◌≡◌, ◌↔◌, ◌⊎◌, ◌*◌, ℕ, Bool, true, false, List, [], ◌∷◌, map, reverse, take, slice_get, Option, Some}
 use Rattle.etcs_bits.specs.Bits.{bits}
 use Rattle.etcs_vars.specs.Reading.{IsOutcome, done}
@@ -32,44 +32,46 @@ clash_status Differs = 16
 abbrev pub IsOf : EtcsTelegram → TelegramContent → Type 0
 IsOf r t = (size : Size) × (k : ℕ) × (kind_number (kind_of size) ≡ r.kind) × IsOutcome (EntryReads (kind_of size)) (bits r.bytes) (done (of_telegram (telegram_value t)) (8 * k))
 
--- the same of each
+-- the same of each of the telegrams, in order
 abbrev pub AreOf : List EtcsTelegram → List TelegramContent → Type 0
 AreOf [] [] = Unit {0}
 AreOf [] (t ∷ ts) = ⊥
 AreOf (r ∷ rs) [] = ⊥
 AreOf (r ∷ rs) (t ∷ ts) = IsOf r t × AreOf rs ts
 
--- these places hold what the telegrams make, none of which clashes with those before it
+-- none of the telegrams clashes with those before it, and these places hold what they make together
 abbrev pub AreHeld : List EtcsTelegram → List (Option TelegramContent) → Type 0
 AreHeld rs slots = (ts : List TelegramContent) × AreOf (reverse rs) ts × NoneRefused ts × IsHeldOf ts slots
 
+-- 1 for true, 0 for false
 abbrev pub flag : Bool → ℕ
 flag true = 1
 flag false = 0
 
--- which positions are missing, and whether something is held and none is missing
+-- the group marks exactly the positions that are missing, and is complete exactly if something is held and nothing is
+-- missing
 abbrev pub IsState : List (Option TelegramContent) → EtcsGroup → Type 0
 IsState slots g = ((m : List Bool) × (g.missing ≡ map flag m) × ((p : ℕ) → (slice_get m p ≡ Some true) ↔ IsMissing slots p)) × ((whole : Bool) × (g.is_complete ≡ flag whole) × ((whole ≡ true) ↔ IsWhole slots))
 
--- the answer for bytes that begin with no telegram
+-- the status and the numbers for bytes that begin with no telegram
 abbrev pub SaysNone : Found → ℕ → EtcsAnswer → Type 0
 SaysNone (Whole e k) s a = ⊥
 SaysNone More s a = s ≡ 1
 SaysNone (Refused i x) s a = (s ≡ 2) × (a.bit ≡ i) × (a.var ≡ name_field x)
 SaysNone Memory s a = s ≡ 4
 
--- why a telegram isn't held beside these: its first clash with them, what its bytes are, or that its kind is that of no
--- telegram
+-- why a telegram isn't held beside these: its first clash with them; what its bytes begin with; or 5, since its kind is
+-- that of no telegram
 abbrev pub SaysUnheld : EtcsTelegram → List (Option TelegramContent) → ℕ → EtcsAnswer → Type 0
 SaysUnheld r slots s a =
     ((t : TelegramContent) × (c : Clash) × IsOf r t × IsFirstClash c slots t × (s ≡ clash_status c))
     ⊎ (((size : Size) × (found : Found) × (kind_number (kind_of size) ≡ r.kind) × Finds (kind_of size) (bits r.bytes) found × SaysNone found s a)
     ⊎ ((s ≡ 5) × ((size : Size) → kind_number (kind_of size) ≡ r.kind → ⊥)))
 
--- the first of the telegrams that isn't held beside those before it, and why
+-- the index of the first telegram that isn't held beside those before it, and why
 abbrev pub SaysFirst : List EtcsTelegram → ℕ → EtcsAnswer → Type 0
 SaysFirst rs s a = (r : EtcsTelegram) × (slots : List (Option TelegramContent)) × (slice_get rs a.taken ≡ Some r) × AreHeld (take a.taken rs) slots × SaysUnheld r slots s a
 
--- what all telegrams make; or which of them is the first that isn't held, and the group is as before
+-- each telegram is held, and the group is what they make; or the first that isn't held, and the group is as before
 abbrev pub SaysGroup : List EtcsTelegram → EtcsGroup → EtcsGroup → ℕ → EtcsAnswer → Type 0
 SaysGroup rs old new s a = ((slots : List (Option TelegramContent)) × AreHeld rs slots × (s ≡ 0) × IsState slots new) ⊎ (SaysFirst rs s a × (new ≡ old))

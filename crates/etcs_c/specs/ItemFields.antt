@@ -1,4 +1,4 @@
--- The bits of fields, and what a call returns for an item's.
+-- The bits of fields, and what `etcs_fields` returns for an item.
 use Rattle.std.specs.Prelude.{◌≡◌, ℕ, ◌*◌, ◌/◌, ◌^◌, ◌<◌, ◌≤◌, All, flat_map, length, take, Bool, List, ◌⊎◌}
 use Rattle.etcs_bits.specs.Bits.{num}
 use Rattle.etcs_vars.specs.Reading.{Reading}
@@ -13,14 +13,15 @@ use Rattle.etcs_c.specs.Answers.{Says}
 
 -- ---- The bits of fields.
 
--- one after another, each in its width
+-- the numbers of fields as bits, one after another, each in its width
 abbrev pub packed : List EtcsField → List Bool
 packed fs = flat_map (λ f. num f.width f.number) fs
 
--- a number of at most 64 bits has no more than its width says
+-- the field's width is at most 64, and its number has no more bits than that
 abbrev pub IsFit : EtcsField → Type 0
 IsFit f = (f.width ≤ 64) × (f.number < 2 ^ f.width)
 
+-- the same of each field
 abbrev pub AreFit : List EtcsField → Type 0
 AreFit fs = All IsFit fs
 
@@ -30,7 +31,7 @@ whole_bytes b = take (8 * (length b / 8)) b
 
 -- ---- What a call returns.
 
--- of an item its bytes and its fields; else as a check, and nothing is written
+-- `etcs_fields`: for an item, how many bytes it has, and its fields; else as for a check, and nothing is written
 abbrev pub SaysFields : Found → List EtcsField → List EtcsField → ℕ → EtcsAnswer → Type 0
 SaysFields (Whole e k) old new s a = (a.taken ≡ k) × (((r : Reading) × Spells (entry_value e) r × Writes (fields_of r) old new s a) ⊎ Starves old new s)
 SaysFields More old new s a = Says More s a × (new ≡ old)

@@ -6,10 +6,11 @@ use Rattle.etcs_c.specs.declared.answer.EtcsAnswer.{EtcsAnswer}
 use Rattle.etcs_c.specs.Writes.{Starves, Writes, name_field}
 use Rattle.etcs_c.specs.Fields.{var_number}
 
--- of a number that is no measure what it stands for; the text for any other has no definition
+-- for a number with a special text, the text is this one; for any other nothing is defined
 abbrev pub IsMeaning : Var → ℕ → List ℕ → Type 0
 IsMeaning x number text = (t : List ℕ) → special x number ≡ Some t → text ≡ t
 
--- of a variable its name, and what its number means; or that none has this number, and nothing is written
+-- `etcs_meaning`: for a variable, its name, and what its number means; or 7 if no variable has this number, and nothing is
+-- written
 abbrev pub SaysMeaning : ℕ → ℕ → List ℕ → List ℕ → ℕ → EtcsAnswer → Type 0
 SaysMeaning n number old new s a = ((x : Var) × (var_number x ≡ n) × (a.var ≡ name_field x) × (((text : List ℕ) × IsMeaning x number text × Writes text old new s a) ⊎ Starves old new s)) ⊎ ((s ≡ 7) × ((x : Var) → var_number x ≡ n → ⊥) × (new ≡ old))

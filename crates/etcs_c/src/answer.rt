@@ -6,7 +6,7 @@ ghost use Rattle.etcs_c.specs.Writes.{Starves, WritesAs, name_field};
 use etcs_vars::Var;
 use std::alloc::AllocError;
 
-/// An item, or what is written of it.
+/// The call did what it is for.
 pub const WHOLE: u32 = 0;
 /// The bytes are only the beginning of an item.
 pub const MORE: u32 = 1;
@@ -14,18 +14,18 @@ pub const MORE: u32 = 1;
 pub const REFUSED: u32 = 2;
 /// The buffer is too short.
 pub const NO_ROOM: u32 = 3;
-/// Memory was refused.
+/// Out of memory.
 pub const NO_MEMORY: u32 = 4;
 /// No kind has this number.
 pub const UNKNOWN_KIND: u32 = 5;
 /// No item of the kind has this JSON.
 pub const BAD_JSON: u32 = 6;
-/// A number has more bits than its width, a width is above 64, or the item that the bits begin with has other fields; of a
+/// A number has more bits than its width, a width is above 64, or the item that the bits begin with has other fields; for a
 /// meaning: no variable has this number.
 pub const BAD_FIELDS: u32 = 7;
 /// A line is blank, or a comment.
 pub const EMPTY_LINE: u32 = 8;
-/// A line has no digits at its end, and nowhere 20.
+/// No digits are found in a line, by the rule of [`etcs_runs::line_bytes`].
 pub const NO_DIGITS: u32 = 9;
 /// The number of a line's digits is odd.
 pub const ODD_DIGITS: u32 = 10;
@@ -46,8 +46,8 @@ pub const CLASH_DIFFERS: u32 = 16;
 #[repr(C)]
 #[derive(Drop)]
 pub struct EtcsAnswer {
-    /// How many bytes of the input the item takes; of `etcs_line_bytes` an odd number of digits, of `etcs_assemble` the index
-    /// of the first telegram that isn't held.
+    /// How many bytes of the input the item takes; for `etcs_line_bytes` an odd number of digits, for `etcs_assemble`
+    /// the index of the first telegram that isn't held.
     pub taken: usize,
     /// How many bytes or fields were written, or with `NO_ROOM` would be.
     pub written: usize,
@@ -57,7 +57,7 @@ pub struct EtcsAnswer {
     pub var: [u8; 32],
 }
 
-/// The variable's name, and zeros after it.
+/// Returns the variable's name, and zeros after it.
 #[tactic(auto, using(crate::proofs::Names::name_short))]
 pub fn name_field(var: Var) -> [u8; 32]
     ensures { result ≡ name_field var }
@@ -80,7 +80,7 @@ pub fn refuse(bit: usize, var: Var, answer: &mut EtcsAnswer) -> u32
 }
 
 /// Writes the items to the front of `out` and returns the status `done`; or, if `out` is shorter than they are, writes
-/// nothing and returns `NO_ROOM`. Either way `written` says how many they are.
+/// nothing and returns `NO_ROOM`. Either way `written` is how many they are, and the rest of the answer is as before.
 pub fn write_out<T: Copy>(done: u32, items: &[T], out: &mut [T], answer: &mut EtcsAnswer) -> u32
     ensures writes { WritesAs done items.now out.old out.new result answer.new }
     ensures taken { answer.new.taken ≡ answer.old.taken }
@@ -96,8 +96,8 @@ pub fn write_out<T: Copy>(done: u32, items: &[T], out: &mut [T], answer: &mut Et
     done
 }
 
-/// Writes the items that were made as [`write_out`] does; or, if memory was refused for them, writes nothing and returns
-/// `NO_MEMORY`.
+/// Writes the items that were made as [`write_out`] does; or, if out of memory for them, writes nothing and returns
+/// `NO_MEMORY`. The rest of the answer is as before.
 pub fn deliver<T: Copy>(
     done: u32,
     made: Result<Vec<T>, AllocError>,

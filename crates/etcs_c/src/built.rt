@@ -1,4 +1,4 @@
-//! Items of their variables.
+//! Items built from their fields.
 
 ghost use Rattle.std.specs.Prelude.{◌≡◌, ◌+◌, ◌-◌, ◌≤◌, min, length, take};
 ghost use Rattle.std.specs.Bool.{Decides};
@@ -30,7 +30,7 @@ fn is_fit(field: &EtcsField) -> bool
     }
 }
 
-/// Whether the same holds of all fields.
+/// Whether that holds for all fields.
 fn are_fit(fields: &[EtcsField]) -> bool
     ensures { Decides result (AreFit fields.now) }
 {
@@ -72,7 +72,7 @@ fn pack(fields: &[EtcsField], out: &mut [u8]) -> usize
     place / 8
 }
 
-/// Writes the encoding of what was found, where these are its fields, whose bits it was found in.
+/// Writes the encoding of what was found in the bits of these fields, if they are its fields.
 fn build(
     alloc: Global,
     kind: Kind,

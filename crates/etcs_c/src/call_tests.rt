@@ -258,7 +258,7 @@ fn is(answered: usize, wanted: usize) -> bool {
     wanted == ANY || answered == wanted
 }
 
-/// Whether a call answered what is wanted.
+/// Whether a call returned what is expected.
 fn is_answered(status: u32, answer: &EtcsAnswer, wanted: &Wanted) -> bool {
     let (code, taken, written, bit, var) = *wanted;
     status == code
@@ -396,7 +396,7 @@ fn wrong_of_fields(alloc: Global, cases: &[OfFields]) -> Option<usize> {
     None
 }
 
-/// The first of these lines of hexadecimal of which something else is answered.
+/// The first of these lines of hexadecimal for which something else is returned.
 fn wrong_of_hex(alloc: Global, cases: &[OfHex]) -> Option<usize> {
     for (i, case) in cases.iter().enumerate() {
         let answer = &mut unanswered();
@@ -408,7 +408,7 @@ fn wrong_of_hex(alloc: Global, cases: &[OfHex]) -> Option<usize> {
     None
 }
 
-/// The first of these numbers of which something else is answered.
+/// The first of these numbers for which something else is returned.
 fn wrong_of_meanings(alloc: Global, cases: &[OfMeanings]) -> Option<usize> {
     for (i, case) in cases.iter().enumerate() {
         let answer = &mut unanswered();
@@ -420,7 +420,7 @@ fn wrong_of_meanings(alloc: Global, cases: &[OfMeanings]) -> Option<usize> {
     None
 }
 
-/// The first of these telegrams of which something else is answered.
+/// The first of these telegrams for which something else is returned.
 fn wrong_of_groups(alloc: Global, cases: &[OfGroups]) -> Option<usize> {
     for (i, case) in cases.iter().enumerate() {
         let answer = &mut unanswered();
@@ -437,7 +437,7 @@ fn wrong_of_groups(alloc: Global, cases: &[OfGroups]) -> Option<usize> {
     None
 }
 
-/// The first of these rooms with which something else than the version is answered.
+/// The first of these rooms with which anything but the version is returned.
 fn wrong_of_version(cases: &[OfRoom]) -> Option<usize> {
     for (i, case) in cases.iter().enumerate() {
         let answer = &mut unanswered();
@@ -450,7 +450,7 @@ fn wrong_of_version(cases: &[OfRoom]) -> Option<usize> {
     None
 }
 
-/// Each status of each call, but where memory is refused.
+/// Each status of each call, except when out of memory.
 #[test]
 fn each_status(rt: HostRuntime) -> Result<(), Fail> {
     let alloc = rt.alloc();
@@ -474,7 +474,7 @@ fn fronts(rt: HostRuntime) -> Result<(), Fail> {
     Ok(())
 }
 
-/// What is answered where memory is refused.
+/// What is returned when out of memory.
 const STARVED: Wanted = (4, ANY, ANY, ANY, NONE);
 
 /// A call of each function, all of which want memory.
@@ -500,7 +500,7 @@ static STARVED_MEANINGS: &[OfMeanings] = &[
 
 static STARVED_GROUPS: &[OfGroups] = &[(&[(2, 0x12, 0x7F, 0)], BEFORE, 9, STARVED)];
 
-/// The status of each call where memory is refused.
+/// The status of each call when out of memory.
 #[test]
 fn refused_memory(rt: HostRuntime) -> Result<(), Fail> {
     let alloc = rt.alloc();
@@ -521,7 +521,7 @@ fn refused_memory(rt: HostRuntime) -> Result<(), Fail> {
     Ok(())
 }
 
-/// JSON whose header lacks its variables: why is said in a sentence that is put together from several.
+/// JSON whose header lacks its variables: the reason is a sentence that is put together from several.
 const HOLLOW: &[u8] = b"{\"header\":[],\"kind\":\"short\"}";
 
 /// The status for it, and how many bytes were written.
@@ -531,7 +531,7 @@ fn why_hollow(alloc: Global) -> (u32, usize) {
     (status, answer.written)
 }
 
-/// With whatever memory there is, the sentence is whole, or memory was refused.
+/// With whatever memory there is, the sentence is whole, or it is out of memory.
 #[test]
 fn whole_sentences(rt: HostRuntime) -> Result<(), Fail> {
     let alloc = rt.alloc();

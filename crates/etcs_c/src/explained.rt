@@ -18,8 +18,8 @@ use etcs_reasons::{Account, End, Wanted, reason_of};
 use etcs_text::Kind;
 use std::alloc::{AllocError, Global};
 
-/// The account of bytes of which a bit is refused; that bit and its variable are in the answer. Or the status for what the
-/// bytes begin with, as of a check.
+/// The account of bytes of which a bit is refused; that bit and its variable are in the answer. Or the status of what the
+/// bytes begin with, as for a check.
 fn refused_of(
     alloc: Global,
     kind: Kind,
@@ -67,7 +67,7 @@ fn sentence_of(
     }
 }
 
-/// Returns what the bytes begin with, and writes why a bit is refused.
+/// Returns the status of what the bytes begin with, and writes why a bit is refused.
 pub(crate) fn write_why(
     alloc: Global,
     kind: Kind,
@@ -86,7 +86,7 @@ pub(crate) fn write_why(
     }
 }
 
-/// Returns what the bytes begin with, and writes the fields before a refused bit.
+/// Returns the status of what the bytes begin with, and writes the fields before a refused bit.
 pub(crate) fn write_before(
     alloc: Global,
     kind: Kind,
@@ -105,7 +105,7 @@ pub(crate) fn write_before(
     }
 }
 
-/// Why a line that was answered with this fault is the JSON of no item.
+/// Why a line for which this fault was returned is the JSON of no item.
 fn line_sentence_of(
     alloc: Global,
     kind: Kind,
@@ -117,7 +117,7 @@ fn line_sentence_of(
     Ok(json_reason(alloc, kind, line, fault)?.into_bytes())
 }
 
-/// Answers as where the encoding of a line's item is wanted, and writes why the line says none.
+/// Returns the status of the line, as `from_json` does, and writes why it is the JSON of no item.
 pub(crate) fn write_line_why(
     alloc: Global,
     kind: Kind,

@@ -74,7 +74,7 @@ impl FieldList {
     ghost use Rattle.std.specs.Prelude.{[], None, OnOk};
     ghost use Rattle.etcs_c.specs.Fields.{closed, join};
 
-    /// None.
+    /// No fields.
     fn new(alloc: Global) -> FieldList
         ensures { result ≡ ([], None) }
     {
@@ -138,11 +138,11 @@ impl VarSink for FieldList {
     }
 }
 
-/// The fields of an item.
+/// Returns the fields of an item, in the order of sending.
 ///
 /// # Errors
 ///
-/// Where memory is refused.
+/// `AllocError` if out of memory.
 pub fn fields_of(alloc: Global, entry: &Entry) -> Result<Vec<EtcsField>, AllocError>
     ensures { IfOk result (λ fields. (r : Reading) × Spells (entry_value entry.now) r × (fields.items ≡ fields_of r)) }
 {
@@ -151,11 +151,11 @@ pub fn fields_of(alloc: Global, entry: &Entry) -> Result<Vec<EtcsField>, AllocEr
     list.into_vec()
 }
 
-/// The fields of variables.
+/// Returns the fields of variables, in their order.
 ///
 /// # Errors
 ///
-/// Where memory is refused.
+/// `AllocError` if out of memory.
 pub fn fields_in(alloc: Global, vars: &[(Var, u64)]) -> Result<Vec<EtcsField>, AllocError>
     ensures { IfOk result (λ fields. fields.items ≡ fields_of vars.now) }
 {
@@ -164,11 +164,11 @@ pub fn fields_in(alloc: Global, vars: &[(Var, u64)]) -> Result<Vec<EtcsField>, A
     list.into_vec()
 }
 
-/// Whether these are the fields of an item, all of them.
+/// Returns `true` exactly if these are the fields of an item, all of them.
 ///
 /// # Errors
 ///
-/// Where memory is refused.
+/// `AllocError` if out of memory.
 pub fn has_fields(alloc: Global, entry: &Entry, fields: &[EtcsField]) -> Result<bool, AllocError>
     ensures { IfOk result (λ has. (r : Reading) × Spells (entry_value entry.now) r × Decides has (fields.now ≡ fields_of r)) }
 {

@@ -1,8 +1,9 @@
 //! What bytes begin with.
 
-ghost use Rattle.std.specs.Prelude.{◌*◌, MatchResult};
+ghost use Rattle.std.specs.Prelude.{◌≡◌, ◌*◌, [], MatchResult};
 ghost use Rattle.etcs_bits.specs.Bits.{bits};
 ghost use Rattle.etcs_vars.specs.Reading.{IsOutcome, done};
+ghost use Rattle.etcs_sequence.specs.Progress.{reading};
 ghost use Rattle.etcs_messages.specs.Messages.{message_value};
 ghost use Rattle.etcs_text.specs.Entries.{EntryReads, kind_of, message_kind, of_message};
 ghost use Rattle.etcs_c.specs.Answers.{Finds, Says};
@@ -23,11 +24,11 @@ pub(crate) enum Found {
     More,
     /// A bit with which no item continues, and the variable that holds it.
     Refused { bit: usize, var: Var },
-    /// Memory was refused.
+    /// Out of memory.
     Memory,
 }
 
-/// What the bytes begin with, of items of this kind.
+/// Returns what the bytes begin with, of items of this kind.
 pub(crate) fn find(alloc: Global, kind: Kind, bytes: &[u8]) -> Found
     ensures { Finds kind (bits bytes.now) result }
 {
@@ -56,6 +57,16 @@ pub(crate) fn find_telegram(alloc: Global, size: Size, bytes: &[u8]) -> Found
     ensures { Finds (kind_of size) (bits bytes.now) result }
 {
     let mut reader = TelegramReader::new(alloc, size);
+    let found = first_telegram(&mut reader, bytes);
+    drop(reader);
+    found
+}
+
+/// What the bytes begin with, by a reader that has taken none.
+fn first_telegram(reader: &mut TelegramReader, bytes: &[u8]) -> Found
+    requires { reader.old.progress ≡ reading [] }
+    ensures { Finds (kind_of reader.old.size) (bits bytes.now) result }
+{
     match reader.feed(bytes) {
         Ok(Fed::More) => Found::More,
         Ok(Fed::Done { taken }) => match reader.take_next() {
@@ -79,6 +90,20 @@ fn find_message<H: Head, B: Own<Front = H>>(
     ensures { MatchResult result (λ m. IsOutcome (EntryReads (message_kind H.Packet.WAY)) (bits bytes.now) (done (of_message H.Packet.WAY (message_value H.Packet.WAY H.head B.own H.Packet.form m.0)) (8 * m.1))) (λ found. Finds (message_kind H.Packet.WAY) (bits bytes.now) found) }
 {
     let mut reader = ReaderOf::new(alloc);
+    let found = first_message(&mut reader, bytes);
+    drop(reader);
+    found
+}
+
+/// The message that the bytes begin with, by a reader that has taken none, and how many bytes it has; or what they begin
+/// with in its place.
+fn first_message<H: Head, B: Own<Front = H>>(
+    reader: &mut ReaderOf<H, B>,
+    bytes: &[u8],
+) -> Result<(MessageOf<H, B>, usize), Found>
+    requires { reader.old ≡ reading [] }
+    ensures { MatchResult result (λ m. IsOutcome (EntryReads (message_kind H.Packet.WAY)) (bits bytes.now) (done (of_message H.Packet.WAY (message_value H.Packet.WAY H.head B.own H.Packet.form m.0)) (8 * m.1))) (λ found. Finds (message_kind H.Packet.WAY) (bits bytes.now) found) }
+{
     match reader.feed(bytes) {
         Ok(Fed::More) => Err(Found::More),
         Ok(Fed::Done { taken }) => match reader.take_next() {
@@ -91,7 +116,7 @@ fn find_message<H: Head, B: Own<Front = H>>(
     }
 }
 
-/// Returns what was found.
+/// Puts what was found into the answer, and returns its status.
 pub(crate) fn say(found: &Found, answer: &mut EtcsAnswer) -> u32
     ensures { Says found.now result answer.new }
 {

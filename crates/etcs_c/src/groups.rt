@@ -34,9 +34,9 @@ pub struct EtcsTelegram {
 #[repr(C)]
 #[derive(Drop)]
 pub struct EtcsGroup {
-    /// Of each of the positions 0 to 7: 1 where it is missing, else 0.
+    /// For each of the positions 0 to 7: 1 if it is missing, else 0.
     pub missing: [u8; 8],
-    /// 1 where there is a telegram and no position is missing, else 0.
+    /// 1 if there is a telegram and no position is missing, else 0.
     pub is_complete: u32,
 }
 
@@ -66,7 +66,7 @@ fn clash_status(clash: Clash) -> u32
     }
 }
 
-/// Holds a telegram if it fits those that are held, and returns the status of that, or of its first clash.
+/// Holds a telegram if it fits those that are held, and returns `WHOLE`, or the status of its first clash.
 fn hold(telegram: Telegram, assembly: &mut Assembly) -> u32
     ensures held { (earlier : List TelegramContent) → IsHeldOf earlier assembly.old → IsHeldOf (telegram ∷ earlier) assembly.new }
     ensures status { ((result ≡ 0) × Joins assembly.old telegram) ⊎ ((c : Clash) × IsFirstClash c assembly.old telegram × (result ≡ clash_status c)) }
@@ -77,7 +77,7 @@ fn hold(telegram: Telegram, assembly: &mut Assembly) -> u32
     }
 }
 
-/// Holds the telegram that the bytes are if it fits those that are held, or returns why it isn't held.
+/// Holds the telegram that the bytes are, if it fits those that are held, or returns why it isn't held.
 fn add(
     alloc: Global,
     telegram: &EtcsTelegram,
@@ -98,7 +98,7 @@ fn add(
     }
 }
 
-/// Writes 1 for each that is true, else 0.
+/// Writes 1 for each position that is marked, else 0.
 fn write_flags(marked: &[bool; 8], out: &mut [u8; 8])
     ensures { out.new ≡ map flag marked.now }
 {

@@ -10,7 +10,7 @@ use crate::found::{Found, find, say};
 use etcs_text::Kind;
 use std::alloc::Global;
 
-/// Returns what was found, and writes the fields of an item.
+/// Returns the status of what was found, and writes the fields of an item.
 fn say_fields(alloc: Global, found: &Found, out: &mut [EtcsField], answer: &mut EtcsAnswer) -> u32
     ensures { SaysFields found.now out.old out.new result answer.new }
 {
@@ -21,7 +21,7 @@ fn say_fields(alloc: Global, found: &Found, out: &mut [EtcsField], answer: &mut 
     }
 }
 
-/// Returns what the bytes begin with, and writes the fields of an item.
+/// Returns the status of what the bytes begin with, and writes the fields of an item.
 pub(crate) fn write_fields(
     alloc: Global,
     kind: Kind,

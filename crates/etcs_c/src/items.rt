@@ -1,4 +1,4 @@
-//! Items.
+//! The variables of items.
 #![tactic(auto)]
 
 ghost use Rattle.std.specs.Prelude.{◌≡◌, OnErr, OnOk};
@@ -38,12 +38,12 @@ fn send_message<H: Head, B: Own<Front = H>, S: VarSink>(
     message.send(out)
 }
 
-/// Sends an item's variables with their numbers, in the order of sending (SUBSET-026, 7.4 and 8): of bits that are kept
-/// (FILL, OTHER_DATA, PADDING) and of PAD a variable for each. Takes no memory of its own.
+/// Sends the sink exactly the item's variables with their numbers, in the order of sending (SUBSET-026, 7.4 and 8), with a
+/// variable for each bit that is kept (FILL, OTHER_DATA, PADDING) and for each of PAD. Takes no memory of its own.
 ///
 /// # Errors
 ///
-/// That of the sink.
+/// That of the sink, whose `failed` then holds.
 pub fn send_item<S: VarSink>(entry: &Entry, out: &mut S) -> Result<(), AllocError>
     ensures ok { OnOk result ((r : Reading) × Spells (entry_value entry.now) r × (out.new ≡ S.with out.old r)) }
     ensures err { OnErr result (S.failed out.old out.new) }

@@ -1,4 +1,4 @@
-//! Items of JSON.
+//! Items read from JSON.
 
 ghost use Rattle.std.specs.Prelude.{IfOk};
 ghost use Rattle.etcs_text.specs.Entries.{entry_value};

@@ -1,11 +1,14 @@
-//! The codec for callers of C: functions over numbers and over the caller's buffers. `etcs.h` declares them.
+//! The codec for C, a static library: functions over numbers and the caller's buffers that check, show, convert,
+//! build and explain items ([`etcs_check`], [`etcs_fields`], [`etcs_from_fields`] and others), with [`EtcsField`] and
+//! [`EtcsAnswer`]. `etcs.h` declares them. Rust programs use `etcs_codec`.
 //!
 //! In C a slice is a pointer followed by its length, and `alloc` is no parameter. Nothing is kept between two calls.
 //!
-//! Each call but [`etcs_line_front`] returns a status. In addition to those that a call's comment names there are `ETCS_OK` if it
-//! did what it is for, `ETCS_NO_ROOM` if `out` is shorter than `written` of the answer, `ETCS_NO_MEMORY` if memory was
-//! refused, and `ETCS_UNKNOWN_KIND` if no kind has the number `kind`. `out` changes only with `ETCS_OK`, or with a status
-//! with which the call's comment says that something is written.
+//! Each call but [`etcs_line_front`] returns a status. In addition to those that a call's comment names there are
+//! `ETCS_OK` if it did what it is for, `ETCS_NO_ROOM` if `out` is shorter than `written` of the answer,
+//! `ETCS_NO_MEMORY` if out of memory, and `ETCS_UNKNOWN_KIND` exactly if no kind has the number `kind`. What is
+//! written is at the front of `out`, and what follows it there is as before. `out` changes only with `ETCS_OK`, or with
+//! another status for which the call's comment names something that is written.
 #![tactic(auto)]
 
 mod answer;
@@ -58,10 +61,12 @@ use std::alloc::Global;
 use texts::{Wanted, write_text};
 
 /// The library's version, and a zero.
-const VERSION: &[u8] = b"0.1.0\0";
+const VERSION: &[u8] = b"0.2.0\0";
 
-/// Whether the bytes begin with an item of the kind: `ETCS_OK` with the number of its bytes, `ETCS_MORE` if they are only
-/// the beginning of one, `ETCS_REFUSED` with the first bit with which none continues and the variable that holds it.
+/// Reports what the bytes begin with, of items of the kind: `ETCS_OK` exactly if it is an item, with the number of its
+/// bytes in `taken`; `ETCS_MORE` exactly if they are only the beginning of one; `ETCS_REFUSED` exactly if there is a
+/// bit with which none continues, with the first such bit and the variable that holds it in `bit` and `var`. All that
+/// holds unless the status is `ETCS_NO_MEMORY` or `ETCS_UNKNOWN_KIND`.
 #[unsafe(no_mangle)]
 pub extern "C" fn etcs_check(alloc: Global, kind: u32, bytes: &[u8], answer: &mut EtcsAnswer) -> u32
     ensures { Checks kind (bits bytes.now) result answer.new }
@@ -72,7 +77,8 @@ pub extern "C" fn etcs_check(alloc: Global, kind: u32, bytes: &[u8], answer: &mu
     }
 }
 
-/// As `etcs_check`, and writes the text of an item, numbered `item`.
+/// As `etcs_check`, and if the bytes begin with an item, writes exactly its text, as that of the item number `item`. In
+/// each other case `out` is as before.
 #[unsafe(no_mangle)]
 pub extern "C" fn etcs_show(
     alloc: Global,
@@ -90,7 +96,8 @@ pub extern "C" fn etcs_show(
     }
 }
 
-/// As `etcs_check`, and writes the JSON of an item, without a LF.
+/// As `etcs_check`, and if the bytes begin with an item, writes exactly its JSON, a line without its LF. In each other case
+/// `out` is as before.
 #[unsafe(no_mangle)]
 pub extern "C" fn etcs_to_json(
     alloc: Global,
@@ -107,8 +114,11 @@ pub extern "C" fn etcs_to_json(
     }
 }
 
-/// Writes the encoding of the item whose JSON this is. `ETCS_BAD_JSON` if no item of the kind has this JSON;
-/// `ETCS_REFUSED` if it is older JSON, which has as bits a packet that is typed now, and no item has these bits.
+/// Writes the encoding of the item of the kind whose JSON the line is, also of JSON stored when fewer packets were typed.
+///
+/// `ETCS_BAD_JSON` only if no item of the kind has this JSON; `ETCS_REFUSED` only if it is such older JSON, with bits
+/// of a packet that is typed by now, and no item has these bits: with the first bit that is refused and its variable in
+/// `bit` and `var`. `out` is then as before.
 #[unsafe(no_mangle)]
 pub extern "C" fn etcs_from_json(
     alloc: Global,
@@ -125,8 +135,8 @@ pub extern "C" fn etcs_from_json(
     }
 }
 
-/// As `etcs_check`, and writes the fields of an item, in the order of sending: each is a variable, or up to 64 bits of a
-/// run of FILL, OTHER_DATA, PADDING or PAD.
+/// As `etcs_check`, and if the bytes begin with an item, writes exactly its fields, in the order of sending: each is a
+/// variable, or up to 64 bits one after another of FILL, OTHER_DATA, PADDING or PAD. In each other case `out` is as before.
 #[unsafe(no_mangle)]
 pub extern "C" fn etcs_fields(
     alloc: Global,
@@ -143,9 +153,14 @@ pub extern "C" fn etcs_fields(
     }
 }
 
-/// Writes the encoding of the item that has these fields, as `etcs_fields` writes them. If no item has them:
-/// `ETCS_BAD_FIELDS` if a number has more bits than its width, a width is above 64, or an item with other fields begins
-/// with their bits; otherwise the status of `etcs_check` for their bits up to the last whole byte.
+/// Writes the encoding of the item of the kind that has exactly these fields, as `etcs_fields` writes them. If no item has
+/// them, `out` is as before, and the status is one of these:
+///
+/// - `ETCS_BAD_FIELDS` only if a number has more bits than its width, a width is above 64, or the fields' bits, up to
+///   the last whole byte, begin with an item, which then has other fields;
+/// - `ETCS_MORE` only if the fields fit their widths, and these bits are only the beginning of an item;
+/// - `ETCS_REFUSED` only if the fields fit their widths, and no item continues with one of these bits, however many
+///   they are: with the first such bit and its variable in `bit` and `var`.
 #[unsafe(no_mangle)]
 pub extern "C" fn etcs_from_fields(
     alloc: Global,
@@ -162,7 +177,9 @@ pub extern "C" fn etcs_from_fields(
     }
 }
 
-/// As `etcs_check`, and writes why a bit is refused, as a sentence in UTF-8. The status is then still `ETCS_REFUSED`.
+/// As `etcs_check`, and if a bit is refused, writes why: a sentence in UTF-8, which isn't empty. The status is then still
+/// `ETCS_REFUSED`, or `ETCS_NO_ROOM`. In each other case nothing is written, and `written` is 0. The words of the sentence
+/// aren't promised.
 #[unsafe(no_mangle)]
 pub extern "C" fn etcs_explain(
     alloc: Global,
@@ -179,8 +196,10 @@ pub extern "C" fn etcs_explain(
     }
 }
 
-/// As `etcs_check`, and for a refused bit writes the fields of the variables before the one that holds it. The status is
-/// then still `ETCS_REFUSED`.
+/// As `etcs_check`, and if a bit is refused, writes the fields of variables before it: an item of the kind begins with
+/// these fields, their bits are the first of the bytes, and from their end to the refused bit are fewer bits than the
+/// variable that holds it has. That no whole variable is between isn't promised. The status is then still
+/// `ETCS_REFUSED`, or `ETCS_NO_ROOM`. In each other case nothing is written, and `written` is 0.
 #[unsafe(no_mangle)]
 pub extern "C" fn etcs_fields_before(
     alloc: Global,
@@ -197,8 +216,12 @@ pub extern "C" fn etcs_fields_before(
     }
 }
 
-/// As `etcs_from_json`, but writes no encoding. If no item has this JSON, it writes why, in UTF-8: the path of the first
-/// part that is wrong, and a sentence. The status is then still `ETCS_BAD_JSON` or `ETCS_REFUSED`.
+/// Writes why the line isn't the JSON of an item of the kind, in UTF-8: the path of the first part that is wrong, and a
+/// sentence. The text isn't empty; its words aren't promised.
+///
+/// `ETCS_OK` only if the line is the JSON of an item, as for `etcs_from_json`: nothing is written, and `written` is 0.
+/// `ETCS_BAD_JSON` and `ETCS_REFUSED` only as for `etcs_from_json`, and the text is written; or `ETCS_NO_ROOM` in place of
+/// either.
 #[unsafe(no_mangle)]
 pub extern "C" fn etcs_explain_json(
     alloc: Global,
@@ -215,9 +238,12 @@ pub extern "C" fn etcs_explain_json(
     }
 }
 
-/// Writes what a number of a variable means in an item of the kind, in the words of `explain`; returns the variable's name.
-/// Nothing is written where the number has no meaning. A distance is written in metres by `scale`, a number of Q_SCALE, and
-/// has no meaning if that is none of 0, 1 and 2. `ETCS_BAD_FIELDS` if no variable has the number `var`.
+/// Writes what a number of a variable means in an item of the kind, in the words of `explain`, and gives the variable's
+/// name in `var`. Of a number with a special text (`special`), this text is written; the words for any other number
+/// aren't promised, nor whether there are any. `ETCS_BAD_FIELDS` exactly if no variable has the number `var`.
+///
+/// If the number has no meaning, the text is empty. A distance is written in metres by `scale`, a number of Q_SCALE,
+/// and has no meaning if that is none of 0, 1 and 2.
 #[unsafe(no_mangle)]
 pub extern "C" fn etcs_meaning(
     alloc: Global,
@@ -244,9 +270,13 @@ pub extern "C" fn etcs_meaning(
     }
 }
 
-/// Writes the bytes that the hexadecimal digits of a line stand for, found by the rule of logs. `ETCS_EMPTY_LINE` if the
-/// line is blank or a comment, `ETCS_NO_DIGITS` if it has none at its end and nowhere 20, `ETCS_ODD_DIGITS` with their
-/// number if that is odd.
+/// Writes exactly the bytes that the hexadecimal digits of a line stand for, at least one. The digits (`line_digits`)
+/// are those that [`etcs_runs::line_bytes`] finds.
+///
+/// `ETCS_EMPTY_LINE` exactly if the line is blank or a comment. Else `ETCS_NO_DIGITS` exactly if no digits are found:
+/// what is at its end isn't of digits, and no words or parts before that are 20 of them, where digits that touch any
+/// other letter don't count, since they are a part of a word. `ETCS_ODD_DIGITS` exactly if their number is odd: it is
+/// in `taken`. `out` is then as before.
 #[unsafe(no_mangle)]
 pub extern "C" fn etcs_line_bytes(
     alloc: Global,
@@ -259,8 +289,10 @@ pub extern "C" fn etcs_line_bytes(
     write_bytes(alloc, line, out, answer)
 }
 
-/// How many bytes are before the digits of a line, counting neither a byte order mark at its start nor blanks, tabs and CRs
-/// just before the digits. Without digits all of the line is before them.
+/// Returns how many bytes are before the digits of a line, counting neither a byte order mark at its start nor blanks,
+/// tabs and CRs just before the digits. If it has no digits, these are all of its bytes, without such a mark and
+/// without blanks, tabs and CRs at its end. The digits are those of `etcs_line_bytes`, also of a comment: of `# dead`
+/// one byte is before them.
 #[unsafe(no_mangle)]
 pub extern "C" fn etcs_line_front(line: &[u8]) -> usize
     ensures { result ≡ length (line_front line.now) }
@@ -268,10 +300,13 @@ pub extern "C" fn etcs_line_front(line: &[u8]) -> usize
     line_front(line).len()
 }
 
-/// Puts the telegrams of a balise group together (SUBSET-026, 3.16.2.4), and writes which positions are missing and whether
-/// the group is complete. If one doesn't fit those before it, returns its index, and as status its first clash;
-/// `ETCS_REFUSED` if no telegram begins with its bytes, `ETCS_UNKNOWN_KIND` if its kind is not that of a telegram. The
-/// group is then as before.
+/// Puts the telegrams of a balise group together (SUBSET-026, 3.16.2.4), each held beside those before it, and writes
+/// to `group` exactly which positions are missing, and that it is complete exactly if something is held and nothing is
+/// missing.
+///
+/// Else `group` is as before, and `taken` is the index of the first telegram that isn't held beside those before it.
+/// The status is that of its first clash with them; or that of `etcs_check` for its bytes (`ETCS_REFUSED` with `bit`
+/// and `var`); or `ETCS_UNKNOWN_KIND` if its kind isn't that of a telegram.
 #[unsafe(no_mangle)]
 pub extern "C" fn etcs_assemble(
     alloc: Global,
@@ -284,10 +319,10 @@ pub extern "C" fn etcs_assemble(
     assemble(alloc, telegrams, group, answer)
 }
 
-/// Writes the library's version, and a zero after it.
+/// Writes exactly the text of the library's version, and a zero after it.
 #[unsafe(no_mangle)]
 pub extern "C" fn etcs_version(out: &mut [u8], answer: &mut EtcsAnswer) -> u32
-    ensures { Writes (codes "0.1.0" ++ 0 ∷ []) out.old out.new result answer.new }
+    ensures { Writes (codes "0.2.0" ++ 0 ∷ []) out.old out.new result answer.new }
 {
     write_out(WHOLE, VERSION, out, answer)
 }

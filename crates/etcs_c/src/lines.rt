@@ -7,7 +7,7 @@ use crate::answer::{EMPTY_LINE, EtcsAnswer, NO_DIGITS, NO_MEMORY, ODD_DIGITS, WH
 use etcs_runs::{NoBytes, line_bytes};
 use std::alloc::{AllocError, Global};
 
-/// Writes the bytes that the digits of a line say, by way of a buffer with room for them.
+/// Writes the bytes that the digits of a line stand for, by way of a buffer with room for them.
 fn say_bytes(line: &[u8], buffer: &mut [u8], out: &mut [u8], answer: &mut EtcsAnswer) -> u32
     requires room { length line.now ≤ 2 * length buffer.old }
     ensures { SaysBytes line.now out.old out.new result answer.new }
@@ -23,7 +23,7 @@ fn say_bytes(line: &[u8], buffer: &mut [u8], out: &mut [u8], answer: &mut EtcsAn
     }
 }
 
-/// Writes the bytes that the digits of a line say.
+/// Writes the bytes that the digits of a line stand for.
 pub(crate) fn write_bytes(
     alloc: Global,
     line: &[u8],

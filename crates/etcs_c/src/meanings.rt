@@ -10,7 +10,7 @@ use etcs_text::Kind;
 use etcs_vars::Var;
 use std::alloc::{AllocError, Global};
 
-/// A variable of an item of a kind, its number, and Q_SCALE, by which its distances are.
+/// A variable of an item of a kind, its number, and the Q_SCALE of its distances.
 #[derive(Clone, Copy)]
 pub(crate) struct Asked {
     pub(crate) kind: Kind,

@@ -44,7 +44,7 @@ fn text_of(alloc: Global, wanted: Wanted, entry: &Entry) -> Result<Vec<u8>, Allo
     Ok(text)
 }
 
-/// Returns what was found, and writes the text of an item.
+/// Returns the status of what was found, and writes the text of an item.
 fn say_text(
     alloc: Global,
     wanted: Wanted,
@@ -61,7 +61,7 @@ fn say_text(
     }
 }
 
-/// Returns what the bytes begin with, and writes the text of an item.
+/// Returns the status of what the bytes begin with, and writes the text of an item.
 pub(crate) fn write_text(
     alloc: Global,
     wanted: Wanted,

@@ -1,4 +1,4 @@
-//! The program `etcs` but for taking its words and streams: the command line, and the statuses.
+//! The program `etcs`, except that its words and streams are handed to it ([`run_words`]): the command line, and the statuses.
 #![tactic(auto)]
 
 mod words;

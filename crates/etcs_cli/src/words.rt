@@ -1,4 +1,4 @@
-//! The command line, and the whole program but for taking its words and streams.
+//! The command line, and the whole program except that its words and streams are handed to it.
 
 ghost use Rattle.std.specs.Prelude.{◌≡◌, IfSome};
 ghost use Rattle.etcs_stream.specs.declared.job.Job.{Job};
@@ -22,7 +22,7 @@ const ACCEPTED: u8 = 0;
 const REFUSED: u8 = 1;
 /// The command line was refused.
 const WRONG_WORDS: u8 = 2;
-/// A stream failed or didn't end, or memory was refused.
+/// A stream failed, memory ran out, or there was more input than the limit.
 const BROKEN: u8 = 3;
 
 /// What `--kind` takes.
@@ -34,7 +34,7 @@ static KINDS_HELP: &str =
 
 /// The help for those of a log.
 static LOG_KINDS_HELP: &str =
-    "Balise telegrams of 830 user bits (long) or of 210 (short), or radio messages to the train (radio) or to the track (train); several times, or with commas, where a log has several";
+    "Balise telegrams of 830 user bits (long) or of 210 (short), or radio messages to the train (radio) or to the track (train); repeated, or with commas, if a log has several kinds";
 
 /// What it takes for the telegrams of a group.
 static GROUP_KINDS: [&str; 2] = ["long", "short"];
@@ -47,39 +47,38 @@ static LOG_FORMS: [&str; 2] = ["hex", "json"];
 
 /// The help for it, for `--good` and for `--summary`.
 static LOG_TO_HELP: &str =
-    "Write the good lines, as digits (hex, the same as --good) or as a line of JSON each (json): the line's number, what is before its digits, and its item";
+    "Write the good lines as digits (hex, the same as --good) or as one line of JSON each (json): the line's number, what is before its digits, and its item";
 
 static GOOD_HELP: &str =
-    "Write the good lines' digits, of several kinds with the kind before them, and what is said of other lines to standard error";
+    "Write the digits of good lines, each after its kind if there are several kinds, and report bad lines and those of other kinds on standard error";
 
 static SUMMARY_HELP: &str =
     "Count items, bad lines, lines of other kinds, messages kept as bits, packets and messages by number and refusals by variable";
 
 static LOG_GROUPS_HELP: &str =
-    "Write at the end a line for each balise group, in the order in which they began: complete, missing which N_PIG, or empty, and how many telegrams clash";
+    "Write at the end one line for each balise group, in the order in which they began: complete, which N_PIG are missing, or empty; and how many telegrams clash";
 
 /// What `--from` and `--to` take.
 static FORMS: [&str; 3] = ["hex", "bin", "json"];
 
-/// What help says about them.
+/// The help for them.
 static FROM_HELP: &str =
     "Form of the input: lines of hexadecimal digits (hex), the bytes themselves (bin) or lines of JSON (json)";
 
 static TO_HELP: &str =
-    "Form of the output: a line of hexadecimal digits each (hex), the bytes themselves (bin) or a line of JSON each (json)";
+    "Form of the output: one line of hexadecimal digits per item (hex), the bytes themselves (bin) or one line of JSON per item (json)";
 
 /// What `--to` of `explain` takes.
 static LAYOUTS: [&str; 2] = ["text", "html"];
 
-/// What help says about it.
+/// The help for it.
 static LAYOUTS_HELP: &str =
     "Form of the output: lines of text (text) or a page for a browser (html)";
 
-/// What `--version` says after the name: the version, and the line of the kit that proves it.
-static VERSION: &str = "0.1.0 (rattle-kit-13f logic dac8208d650f15bf)";
+/// What `--version` writes after the name: the version, and the line of the kit that proves it.
+static VERSION: &str = "0.2.0 (rattle-kit-13f logic dac8208d650f15bf)";
 
-/// What help says after a subcommand's options: what an item is, where the run ends, what the statuses mean, and an
-/// example.
+/// The help after a subcommand's options: what an item is, where the run ends, what the statuses mean, and an example.
 macro_rules! after_help {
     (run, $example:literal) => {
         after_help!(
@@ -91,7 +90,7 @@ macro_rules! after_help {
     };
     (items, $run:literal, $refused:literal, $example:literal) => {
         after_help!(
-            "An item is a telegram or message of the kind: hexadecimal digits in one line or several,\nthe bytes themselves with nothing between two items, or a line of JSON.",
+            "An item is a telegram or message of the kind: hexadecimal digits on one or more lines,\nthe bytes themselves with nothing between two items, or a line of JSON.",
             $run,
             $refused,
             $example
@@ -105,7 +104,7 @@ macro_rules! after_help {
             $run,
             "\n\nStatus: 0 all accepted; 1 ",
             $refused,
-            "; 2 wrong words;\n3 a stream failed, memory was refused or the input doesn't end.\n\nExample: etcs ",
+            "; 2 usage error;\n3 a stream failed, out of memory, or more input than the limit.\n\nExample: etcs ",
             $example
         )
     };
@@ -122,13 +121,14 @@ pub enum Parsed {
     Explain(Task),
     /// Help or the version, with its text.
     Help(String),
-    /// Nothing that can be done, with a text that says why.
+    /// Nothing that can be done, with the text of a usage error.
     Wrong(String),
-    /// Memory was refused while the words were read or the text was made.
+    /// Memory ran out while the words were read or the text was made.
     Memory,
 }
 
-/// Reads a command line, whose first word is the program's name.
+/// Reads a command line, whose first word is the program's name. A job that it returns is one that `run` takes: only
+/// telegrams are grouped.
 #[inline(never)]
 pub fn parse(alloc: Global, words: &[String]) -> Parsed
     ensures { (job : Job) → result ≡ Parsed.Job job → IsGroupable job }
@@ -139,20 +139,25 @@ pub fn parse(alloc: Global, words: &[String]) -> Parsed
     match line.try_get_matches_from(words) {
         Ok(matches) => match asked(&matches) {
             Some(parsed) => parsed,
-            // doesn't come: the values were checked against the same lists
+            // unreachable: the values were checked against the same lists
             None => Parsed::Wrong(String::new(alloc)),
         },
         Err(error) => refused(alloc, error),
     }
 }
 
-/// The whole program, except that `main` hands it the words and the streams. Returns the exit status.
+/// The whole program, except that `main` hands it the words and the streams. Returns the exit status. No clause says which
+/// it is, nor what is written.
 ///
-/// The first of the words is the program's name. The status is 0 if the run accepted all of its input, or help or the
-/// version was asked for; 1 if some of the input was refused, or `group` found a clash or a group that isn't complete; 2 if
-/// the command line was refused; and 3 if a stream failed, the input didn't end or memory was refused. Text, help and the
-/// version go to `output`, and faults to `faults`. A failed write to `faults`, or of help or the version, doesn't change the
-/// status.
+/// The first of the words is the program's name. The status is
+///
+/// - 0 if the run accepted all of its input, or help or the version was asked for;
+/// - 1 if some of the input was refused, or `group` found a clash or a group that isn't complete;
+/// - 2 if the command line was refused;
+/// - 3 if a stream failed, memory ran out, or there was more input than the limit.
+///
+/// Text, help and the version go to `output`, and faults to `faults`. A failed write to `faults`, or of help or the version,
+/// doesn't change the status.
 pub fn run_words(
     alloc: Global,
     words: Vec<String>,
@@ -202,8 +207,8 @@ fn run_job(
     }
 }
 
-/// Reads a log from the reader to the writer, and if good lines are asked for writes what is reported of other lines to
-/// `faults`; returns the status. After a fault, what was written is passed on.
+/// Reads a log from the reader to the writer, and returns the status. If good lines are asked for, what is reported of other
+/// lines goes to `faults`. After a fault, what was written is passed on.
 #[inline(never)]
 fn read_log(
     alloc: Global,
@@ -240,7 +245,7 @@ fn explain_items(
     .map(|()| ACCEPTED)
 }
 
-/// Writes the line of a fault, as far as that can be done, and returns its status.
+/// Writes the line of a fault, as far as the writer takes it, and returns the fault's status.
 fn answer_fault(fault: &RunFault, faults: &mut impl Write) -> u8
     ensures { result ≡ fault_status fault.now }
 {
@@ -248,7 +253,7 @@ fn answer_fault(fault: &RunFault, faults: &mut impl Write) -> u8
     fault_status(fault)
 }
 
-/// The status of a run that met its input's end: whether the group is whole, where one was asked for, and has no clash.
+/// The status of a run that reached the end of its input: 0, or 1 if a group isn't complete or has a clash.
 fn tally_status(tally: &Tally) -> u8
     ensures { result ≡ tally_status tally.now }
 {
@@ -259,14 +264,15 @@ fn tally_status(tally: &Tally) -> u8
     }
 }
 
-/// The status of a log that was read to its end: whether no line is bad.
+/// The status of a log that was read to its end: 0, or 1 if a line is bad.
 fn log_status(tally: &LogTally) -> u8
     ensures { result ≡ log_status tally.now }
 {
     if tally.bad == 0 { ACCEPTED } else { REFUSED }
 }
 
-/// The status of a run that ended with the fault.
+/// The status of a run that ended with the fault: 1 if the input is at fault, 3 if a stream or memory is, or the input is
+/// above the limit.
 fn fault_status(fault: &RunFault) -> u8
     ensures { result ≡ fault_status fault.now }
 {
@@ -279,7 +285,7 @@ fn fault_status(fault: &RunFault) -> u8
     }
 }
 
-/// A subcommand: its name, what it does, and what help says after its options.
+/// A subcommand: its name, what it does, and the help after its options.
 struct Words {
     name: &'static str,
     about: &'static str,
@@ -290,12 +296,12 @@ struct Words {
 static SUBCOMMANDS: [Words; 6] = [
     Words {
         name: "show",
-        about: "Show the variables of each telegram or message, a line each",
+        about: "Show the variables of each telegram or message, one per line",
         after: after_help!(run, "show --kind long < telegrams.hex"),
     },
     Words {
         name: "check",
-        about: "Check each telegram or message: a line with its number of bits",
+        about: "Check each telegram or message, and write one line with its number of bits",
         after: after_help!(run, "check --kind radio --from bin < messages.bin"),
     },
     Words {
@@ -308,16 +314,16 @@ static SUBCOMMANDS: [Words; 6] = [
         about: "Put the telegrams of a balise group together, in any order, and show its message",
         after: after_help!(
             items,
-            "The run ends at the first telegram that is refused. One that doesn't fit those before it is a clash, and left out.",
+            "The run ends at the first telegram that is refused. One that doesn't fit those before it is a clash and is left out.",
             "a telegram refused or cut short, a clash, or telegrams missing",
             "group --kind short --from json < group.json"
         ),
     },
     Words {
         name: "log",
-        about: "Read a log, an item a line, and say of each line that is no item why",
+        about: "Read a log with one item per line, and report why each bad line is bad",
         after: after_help!(
-            "An item is the hexadecimal digits of a line, in groups of one size with blanks, tabs, 0x or other\ncharacters than letters between them, or none. Text before and after them is passed over, and so are\nblank lines and lines that begin with #. A line with the number of bytes of another kind isn't bad.",
+            "An item is the hexadecimal digits of a line, with nothing between them or in groups of one\nsize, separated by blanks, tabs, 0x or other characters than letters. Text before and after them is ignored, and so are\nblank lines and lines that begin with #. A line with the number of bytes of another kind isn't bad.",
             "The run continues after a bad line, to the end of the input.",
             "a line is bad",
             "log --kind short,long --to json < balises.log"
@@ -328,14 +334,14 @@ static SUBCOMMANDS: [Words; 6] = [
         about: "Explain each telegram or message: the bits, the number and the meaning of each variable, and why it is refused",
         after: after_help!(
             items,
-            "What is in front of the digits of a line is passed over. After an item that is refused the run\ncontinues with the next line; of bytes (bin) it ends there.",
+            "Text before and after the digits of a line is ignored. After an item that is refused the run continues with\nthe next line; in an input of bytes (bin) it ends there.",
             "an item refused or cut short",
             "explain --kind short < telegrams.hex"
         ),
     },
 ];
 
-/// All that a command line can say. Its texts call the program `etcs`, whatever its file is named.
+/// All command lines. Their texts call the program `etcs`, whatever its file is named.
 fn line<'a>(alloc: Global) -> Result<Line<'a>, AllocError> {
     let mut line = Line::new(alloc, "etcs")
         .bin_name("etcs")?
@@ -423,14 +429,30 @@ fn layout_option<'a>(alloc: Global) -> Arg<'a> {
     choice(alloc, "to", "FORM", &LAYOUTS, LAYOUTS_HELP).default_value("text")
 }
 
-/// What clap answered in place of matches.
+/// The tip for a word too many, which most often is the name of a file.
+static FILE_TIP: &str = "  tip: etcs reads standard input: put < before the name of a file";
+
+/// The text of what clap returned in place of matches, with a tip for a word too many that is no option.
+fn text_of(alloc: Global, error: &Error) -> Result<String, AllocError> {
+    let text = error.to_string(alloc)?;
+    if error.kind() == ErrorKind::UnknownArgument {
+        if let Some((head, rest)) = text.as_str().split_once("\n\n") {
+            if rest.starts_with("Usage: ") && !head.starts_with("error: unexpected argument '-") {
+                return format!(in alloc; "{head}\n\n{FILE_TIP}\n\n{rest}");
+            }
+        }
+    }
+    Ok(text)
+}
+
+/// What clap returned in place of matches.
 fn refused(alloc: Global, error: Error) -> Parsed
     ensures { (job : Job) → result ≡ Parsed.Job job → ⊥ }
 {
     if error.kind() == ErrorKind::OutOfMemory {
         return Parsed::Memory;
     }
-    match error.to_string(alloc) {
+    match text_of(alloc, &error) {
         Ok(text) if error.use_stderr() => Parsed::Wrong(text),
         Ok(text) => Parsed::Help(text),
         Err(_) => Parsed::Memory,

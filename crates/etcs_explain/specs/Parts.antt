@@ -21,8 +21,8 @@ use Rattle.etcs_reasons.specs.declared.sheet.Layout.TheVariants.{Text, Html}
 use Rattle.etcs_explain.specs.declared.task.Task.{Task}
 use Rattle.etcs_explain.specs.Inputs.{Token, of_line, placed}
 
--- the bytes of an item, each of its line; those of one that is refused or unfinished; a line of JSON, of this number, that
--- is an item; a line that is none; the number of one that is too long. The last of each is its text
+-- a part of an input: the bytes of an item, each with its line; bytes that are refused or unfinished; a line of JSON, with
+-- its number, that is an item; a line that isn't one; the number of a line that is too long. The last of each is its text
 pub data Part : Type 0 where
   item : List ℕ → List ℕ → List ℕ → Part
   broken : List ℕ → List ℕ → RunFault → List ℕ → Part
@@ -32,6 +32,7 @@ pub data Part : Type 0 where
 
 -- ---- What it takes of the input, and of the counts.
 
+-- the tokens of a part: its bytes or its line; none for a line that is too long
 abbrev pub tokens_of : Part → List Token
 tokens_of (item lines bytes text) = placed lines bytes
 tokens_of (broken lines bytes fault text) = placed lines bytes
@@ -39,6 +40,7 @@ tokens_of (good_line n line text) = of_line n line ∷ []
 tokens_of (bad_line n line fault text) = of_line n line ∷ []
 tokens_of (long_line n fault text) = []
 
+-- the number of its line, if that is too long
 abbrev pub long_of : Part → List ℕ
 long_of (item lines bytes text) = []
 long_of (broken lines bytes fault text) = []
@@ -46,7 +48,7 @@ long_of (good_line n line text) = []
 long_of (bad_line n line fault text) = []
 long_of (long_line n fault text) = n ∷ []
 
--- 1 where the fault counts an item
+-- 1 if the fault counts an item
 abbrev pub item_of : RunFault → ℕ
 item_of (Refused number i x) = 1
 item_of (Truncated number k) = 1
@@ -57,6 +59,7 @@ item_of (Write sent) = 0
 item_of Endless = 0
 item_of Memory = 0
 
+-- how many items a part counts as
 abbrev pub items_of : Part → ℕ
 items_of (item lines bytes text) = 1
 items_of (broken lines bytes fault text) = 1
@@ -64,6 +67,7 @@ items_of (good_line n line text) = 1
 items_of (bad_line n line fault text) = item_of fault
 items_of (long_line n fault text) = 0
 
+-- its fault, if it has one
 abbrev pub fault_of : Part → Option RunFault
 fault_of (item lines bytes text) = None
 fault_of (broken lines bytes fault text) = Some fault
@@ -71,6 +75,7 @@ fault_of (good_line n line text) = None
 fault_of (bad_line n line fault text) = Some fault
 fault_of (long_line n fault text) = Some fault
 
+-- its text
 abbrev pub text_of : Part → List ℕ
 text_of (item lines bytes text) = text
 text_of (broken lines bytes fault text) = text
@@ -80,46 +85,48 @@ text_of (long_line n fault text) = text
 
 -- ---- Its text.
 
--- where it is: the number of the item, or that of the line
+-- where it is: the number of the item in an input of bytes, else that of the line
 abbrev pub place : Form → ℕ → ℕ → List ℕ
 place Bin number line = codes "item " ++ decimal number ++ codes ": "
 place Hex number line = codes "line " ++ decimal line ++ codes ": "
 place Json number line = codes "line " ++ decimal line ++ codes ": "
 
--- what a page has before it, of an item and of what is none
+-- what a page has before it, for an item and for a line that isn't one
 abbrev pub opening : Layout → Bool → List ℕ
 opening Text is_item = []
 opening Html true = codes "<details class=item><summary><h2>"
 opening Html false = codes "<p class=no>"
 
--- the text begins with its place; what it says after that is open
+-- the text begins with what a page has there and its place; what follows is open
 abbrev pub HasTitle : Task → Bool → ℕ → ℕ → List ℕ → Type 0
 HasTitle task is_item number line text = (more : List ℕ) × (text ≡ opening task.layout is_item ++ (place task.from number line ++ more))
 
 -- ---- Its fault.
 
--- no item continues with bit i of the bytes, which x holds; or they end inside one. No item has more than 1,023 bytes
+-- the fault names the first bit of the bytes, of at most 1,023 of them, with which no item continues, and the variable that
+-- holds it; or they begin an item, aren't one, and the fault has the number of their bits
 abbrev pub IsBroken : Kind → ℕ → List ℕ → RunFault → Type 0
 IsBroken kind number bytes fault =
     ((i : ℕ) × (x : Var) × (fault ≡ Refused number i x) × Refuses (readings_of (EntryReads kind)) (take 8184 (bits bytes)) i x)
     ⊎ ((fault ≡ Truncated number (8 * min (length bytes) 1023)) × Viable (readings_of (EntryReads kind)) (take 8184 (bits bytes)) × (InLanguage (readings_of (EntryReads kind)) (take 8184 (bits bytes)) → ⊥))
 
--- the line is the JSON of an item whose kept bits are refused, or of none
+-- the line is the JSON of an item whose kept bits are refused, with that bit and its variable; or of no item
 abbrev pub IsBadJson : Kind → ℕ → ℕ → List ℕ → RunFault → Type 0
 IsBadJson kind number n line fault =
     ((i : ℕ) × (x : Var) × (fault ≡ Refused number i x) × SaysRefused kind line i x)
     ⊎ ((fault ≡ BadJson n) × ((o : EntryValue) → IsLoose kind o → OfLine (λ d. IsTreeOf o d) line → ⊥))
 
+-- the fault has the line's number and some place of the line, or its end
 abbrev pub IsBadHex : ℕ → List ℕ → RunFault → Type 0
 IsBadHex n line fault = (place : ℕ) × (place ≤ length line) × (fault ≡ BadHex n place)
 
--- a line that is none, in an input of this form
+-- the fault of a line that is not an item, in an input of this form
 abbrev pub IsBad : Form → Kind → ℕ → ℕ → List ℕ → RunFault → Type 0
 IsBad Json kind number n line fault = IsBadJson kind number n line fault
 IsBad Hex kind number n line fault = IsBadHex n line fault
 IsBad Bin kind number n line fault = IsBadHex n line fault
 
--- of a line that is too long
+-- the fault of a line that is too long
 abbrev pub long_fault : Form → ℕ → RunFault
 long_fault Json n = BadJson n
 long_fault Hex n = BadHex n 1048576
@@ -127,7 +134,8 @@ long_fault Bin n = BadHex n 1048576
 
 -- ---- Parts.
 
--- the part is what it is called, where its item has this number
+-- the part is as its variant is named, if its item has this number: bytes of an item or with their fault, a line with its fault
+-- unless it is an item; and its text begins with its place
 abbrev pub IsPart : Task → ℕ → Part → Type 0
 IsPart task number (item lines bytes text) = (length lines ≡ length bytes) × (0 < length bytes) × ((e : EntryValue) × IsItem task.kind bytes e) × HasTitle task true number (slice_index lines 0) text
 IsPart task number (broken lines bytes fault text) = (length lines ≡ length bytes) × (0 < length bytes) × IsBroken task.kind number bytes fault × HasTitle task true number (slice_index lines 0) text
@@ -135,41 +143,43 @@ IsPart task number (good_line n line text) = ((e : EntryValue) × SaysItem task.
 IsPart task number (bad_line n line fault text) = IsBad task.from task.kind number n line fault × HasTitle task false number n text
 IsPart task number (long_line n fault text) = (fault ≡ long_fault task.from n) × HasTitle task false number n text
 
--- no item was unfinished
+-- the first fault isn't that of an unfinished item
 abbrev pub IsUncut : Option RunFault → Type 0
 IsUncut first = (number k : ℕ) → first ≡ Some (Truncated number k) → ⊥
 
--- each of them is, one after another, after k items
+-- each of them is a part, one after another, after k items
 abbrev pub AreParts : Task → ℕ → List Part → Type 0
 AreParts task k [] = Unit {0}
 AreParts task k (p ∷ ps) = IsPart task (counted (k + 1)) p × AreParts task (k + items_of p) ps
 
 -- ---- All of them.
 
+-- how many items parts count as
 abbrev pub items_in : List Part → ℕ
 items_in [] = 0
 items_in (p ∷ ps) = items_of p + items_in ps
 
--- this fault, or the next one
+-- the first fault, if there is one, else the next
 abbrev pub noted : Option RunFault → Option RunFault → Option RunFault
 noted None fault = fault
 noted (Some first) fault = Some first
 
+-- the fault of the first part that has one
 abbrev pub first_fault : List Part → Option RunFault
 first_fault [] = None
 first_fault (p ∷ ps) = noted (fault_of p) (first_fault ps)
 
--- a page has this before or after its texts, and text nothing
+-- what is before or after the texts: in a page this, and nothing else
 abbrev pub edge : Layout → List ℕ → List ℕ
 edge Text page = []
 edge Html page = page
 
--- the head, where nothing was written yet
+-- the head, if nothing was written yet
 abbrev pub missing : Bool → List ℕ → List ℕ
 missing true head = []
 missing false head = head
 
--- the texts one after another, and the head before the first
+-- the texts of the parts one after another, and the head before the first
 abbrev pub written : List ℕ → List Part → List ℕ
 written head [] = []
 written head (p ∷ ps) = head ++ flat_map text_of (p ∷ ps)

@@ -14,17 +14,17 @@ use Rattle.etcs_explain.specs.Inputs.{Token, of_byte, placed, line_tokens, lines
 use Rattle.etcs_explain.specs.Parts.{Part, IsPart, IsBroken, HasTitle, tokens_of, long_of, items_of, fault_of, text_of, noted, edge, missing}
 use Rattle.etcs_explain.specs.Explained.{Explained, Finished}
 
--- after this number of items more, and this fault
+-- after this number of further items, and this fault
 pub record IsAfter (seen : Seen) (items : ℕ) (fault : Option RunFault) (seen' : Seen) : Type 0 where
   pub begun_is : seen'.is_begun ≡ true
   pub items_is : seen'.items ≡ counted (seen.items + items)
   pub first_is : seen'.first ≡ noted seen.first fault
 
--- the text of a part of this place was added, and before it the head where nothing was written
+-- the text of a part with this place was added, and before it the head if nothing was written before
 abbrev pub Writes : List ℕ → Task → Bool → Bool → ℕ → ℕ → List ℕ → List ℕ → Type 0
 Writes page task begun is_item number line text text' = (t : List ℕ) × HasTitle task is_item number line t × (text' ≡ text ++ (missing begun (edge task.layout page) ++ t))
 
--- the item that bytes begin with has n of them, or they begin with none
+-- the item that the bytes begin with has n of them; or n is all of them, and this is their fault
 abbrev pub ItemPart : Kind → ℕ → List ℕ → ℕ → Option RunFault → Type 0
 ItemPart kind number bytes n None = (0 < n) × (n ≤ length bytes) × ((e : EntryValue) × IsItem kind (take n bytes) e)
 ItemPart kind number bytes n (Some fault) = (n ≡ length bytes) × IsBroken kind number bytes fault
@@ -50,7 +50,7 @@ pub record TookSome (page : List ℕ) (task : Task) (all : List Token) (longs ou
   pub longs_are : longs ≡ long ++ more
   pub explained : Explained page task seen tokens long output
 
--- whatever was explained before, these tokens were too
+-- whatever was explained before, these tokens were explained too
 pub record Explains (page : List ℕ) (task : Task) (seen : Seen) (text : List ℕ) (more : List Token) (seen' : Seen) (text' : List ℕ) : Type 0 where
   pub explained : (tokens : List Token) (long output : List ℕ) → Explained page task seen tokens long (output ++ text) → Explained page task seen' (tokens ++ more) long (output ++ text')
 
@@ -82,7 +82,7 @@ pub record Finishes (page foot : List ℕ) (s : Items) (text text' : List ℕ) (
 abbrev pub next_tokens : Items → List ℕ → List Token
 next_tokens s line = line_tokens s.explainer.task.kind s.explainer.task.from (s.line + 1) line
 
--- of bytes, where nothing was wrong
+-- in an input of bytes, of which nothing was wrong
 pub record BytesStand (page : List ℕ) (s : Items) (given output : List ℕ) : Type 0 where
   pub form : s.explainer.task.from ≡ Bin
   pub line : s.line ≡ 0

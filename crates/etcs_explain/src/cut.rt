@@ -12,8 +12,12 @@ use etcs_tables::message_row;
 use etcs_text::Kind;
 use std::alloc::{AllocError, Global};
 
-/// Whether the item that the held bytes begin was cut short before the bytes of a line: continued with them it has a refused
-/// bit, and by themselves they begin an item. In every other case they continue the item.
+/// Whether the item that the held bytes begin was cut short before the bytes of a line. If this is true, the held bytes
+/// continued with those of the line have a refused bit, and those of the line alone have none. No clause says when it is.
+///
+/// # Errors
+///
+/// If memory runs out.
 pub(crate) fn is_cut(
     alloc: Global,
     kind: Kind,
@@ -34,8 +38,8 @@ pub(crate) fn is_cut(
     Ok(false)
 }
 
-/// Whether a line of this account begins an item: a whole one, or, where it is longer than the rest of the item before, the
-/// front of one. A message that is kept as bits, as nearly any bytes begin one, has to be whole and all of the line.
+/// Whether a line with this account begins an item: a whole one, or, if the line is longer than the rest of the item before,
+/// the front of one. A message that is kept as bits has to be whole and all of the line, as nearly any bytes begin one.
 fn begins(kind: Kind, line: &[u8], alone: &Account, is_longer: bool) -> bool
     ensures { IsTrue result → (bit : ℕ) (part : Part) → alone.now.end ≡ End.Refused bit part → ⊥ }
 {

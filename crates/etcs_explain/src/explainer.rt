@@ -37,7 +37,7 @@ pub(crate) struct Explainer {
     sheet: Sheet,
 }
 
-/// What a page has before the title of an item, or of what is none.
+/// What a page has before the title of an item, or of a line that is not an item.
 fn opening(layout: Layout, is_item: bool) -> &'static str
     ensures { result.now ≡ opening layout is_item }
 {
@@ -77,7 +77,7 @@ fn joined(
     Ok(all)
 }
 
-/// How many bytes the item of this number has that bytes begin with; or all of them, and what is wrong with it.
+/// How many bytes the item of this number has that the bytes begin with; or all of them, and what is wrong with them.
 fn item_part(kind: Kind, bytes: &[u8], account: &Account, item: u64) -> (usize, Option<RunFault>)
     requires account { Accounts (readings_of (EntryReads kind)) account.now.fields.items account.now.end (take 8184 (bits bytes.now)) }
     ensures part { ItemPart kind item bytes.now result.0 result.1 }
@@ -114,7 +114,7 @@ impl Explainer {
         }
     }
 
-    /// The head of the page, where nothing was written.
+    /// The head of the page, if nothing was written before.
     fn head(&self) -> &'static str
         ensures { result.now ≡ missing self.now.seen.is_begun (edge self.now.task.layout HEAD.now) }
     {
@@ -144,7 +144,7 @@ impl Explainer {
     ///
     /// # Errors
     ///
-    /// Where memory is refused. Nothing was appended.
+    /// If memory runs out. Nothing was appended.
     fn pass_on(&self, is_item: bool, line: u64, text: &mut Vec<u8>) -> Result<(), AllocError>
         ensures ok { OnOk result (Writes HEAD.now self.now.task self.now.seen.is_begun is_item (counted (self.now.seen.items + 1)) line text.old.items text.new.items) }
         ensures err { OnErr result (text.new.items ≡ text.old.items) }
@@ -162,7 +162,7 @@ impl Explainer {
     ///
     /// # Errors
     ///
-    /// Where memory is refused. Nothing was appended.
+    /// If memory runs out. Nothing was appended.
     fn write_item(
         &mut self,
         bytes: &[u8],
@@ -193,11 +193,12 @@ impl Explainer {
         self.pass_on(true, line, text)
     }
 
-    /// Appends the line of what is no item, whose reason is written, and notes its fault and how many items it counts as.
+    /// Appends the line of what is not an item, whose reason is on the sheet, and notes its fault and how many items it counts
+    /// as.
     ///
     /// # Errors
     ///
-    /// Where memory is refused. Nothing was appended.
+    /// If memory runs out. Nothing was appended.
     fn write_wrong(
         &mut self,
         fault: RunFault,
@@ -216,12 +217,12 @@ impl Explainer {
         Ok(())
     }
 
-    /// Explains the item that the bytes begin with, each of its line, and says how many bytes it has: all of them where
-    /// they begin with none.
+    /// Explains the item that the bytes begin with, each with its line, and returns how many bytes it has: all of them if they
+    /// don't begin with an item.
     ///
     /// # Errors
     ///
-    /// Where memory is refused. Nothing was appended.
+    /// If memory runs out. Nothing was appended.
     fn item(
         &mut self,
         bytes: &[u8],
@@ -246,12 +247,12 @@ impl Explainer {
         Ok(count)
     }
 
-    /// Explains the items that bytes begin with, one after another, and says how many bytes they have: all of them where
-    /// no more come; else all but those of an item that isn't whole yet.
+    /// Explains the items that bytes begin with, one after another, and returns how many bytes they have: all of them if no
+    /// more come; else all but fewer than 1,023.
     ///
     /// # Errors
     ///
-    /// If memory is refused. The text of the items before was appended.
+    /// If memory runs out. The text of the items before was appended.
     pub(crate) fn items(
         &mut self,
         bytes: &[u8],
@@ -284,11 +285,11 @@ impl Explainer {
         Ok(at)
     }
 
-    /// Explains the item of a line of JSON, or says why it is none.
+    /// Explains the item of a line of JSON, or reports why it isn't one.
     ///
     /// # Errors
     ///
-    /// Where memory is refused. Nothing was appended.
+    /// If memory runs out. Nothing was appended.
     pub(crate) fn json_line(
         &mut self,
         line: &[u8],
@@ -322,7 +323,7 @@ impl Explainer {
     ///
     /// # Errors
     ///
-    /// Where memory is refused. Nothing was appended.
+    /// If memory runs out. Nothing was appended.
     fn json_item(
         &mut self,
         entry: &Entry,
@@ -342,11 +343,11 @@ impl Explainer {
         Ok(())
     }
 
-    /// Says why a line says no bytes.
+    /// Reports why a line of hexadecimal has no bytes.
     ///
     /// # Errors
     ///
-    /// Where memory is refused. Nothing was appended.
+    /// If memory runs out. Nothing was appended.
     pub(crate) fn bad_hex(
         &mut self,
         line: &[u8],
@@ -378,28 +379,26 @@ impl Explainer {
         )
     }
 
-    /// Says that a line is too long.
+    /// Reports that a line is too long.
     ///
     /// # Errors
     ///
-    /// Where memory is refused. Nothing was appended.
+    /// If memory runs out. Nothing was appended.
     pub(crate) fn long_line(&mut self, number: u64, text: &mut Vec<u8>) -> Result<(), AllocError>
         ensures task { self.new.task ≡ self.old.task }
         ensures ok { OnOk result (AddsOne HEAD.now self.old.task self.old.seen self.new.seen [] (number ∷ []) text.old.items text.new.items) }
         ensures err { OnErr result (text.new.items ≡ text.old.items) }
     {
         self.clear();
-        self.sheet
-            .meaning
-            .push("more than 1,048,576 bytes, which no line has");
+        self.sheet.meaning.push("line longer than 1,048,576 bytes");
         self.write_wrong(long_fault(self.task.from, number), 0, number, text)
     }
 
-    /// Appends what a page has at its end: the foot, and before it the head where nothing was written.
+    /// Appends what a page has at its end: the foot, and before it the head if nothing was written before.
     ///
     /// # Errors
     ///
-    /// Where memory is refused. Nothing was appended.
+    /// If memory runs out. Nothing was appended.
     pub(crate) fn end(&self, text: &mut Vec<u8>) -> Result<(), AllocError>
         ensures ok { OnOk result (text.new.items ≡ text.old.items ++ (missing self.now.seen.is_begun (edge self.now.task.layout HEAD.now) ++ edge self.now.task.layout FOOT.now)) }
         ensures err { OnErr result (text.new.items ≡ text.old.items) }
@@ -424,8 +423,8 @@ fn long_fault(from: Form, line: u64) -> RunFault
     }
 }
 
-/// Whether an item is explained only with more bytes, of which this many are there: where they end inside it, and in an
-/// input of bytes where it is refused, until there are as many as are shown; so nothing depends on how reads were cut.
+/// Whether to wait for more bytes before an item is explained: if the bytes end inside it, or, in an input of bytes, if it is
+/// refused and there are fewer bytes than are shown. So nothing depends on how reads were cut.
 fn waits(from: Form, account: &Account, count: usize) -> bool
     ensures waits { IsTrue result → ((part : Part) × (account.now.end ≡ End.Open part)) ⊎ (count < 1023) }
     ensures whole { account.now.end ≡ End.Whole → result ≡ false }

@@ -7,11 +7,11 @@ use etcs_runs::Form;
 use etcs_text::Kind;
 use std::alloc::{AllocError, Global};
 
-/// What bytes of a line most often are that are refused as a telegram and whose last ones are one.
+/// What a line most often is whose bytes are refused as a telegram, but whose last bytes are one.
 ///
 /// # Errors
 ///
-/// Where memory is refused.
+/// If memory runs out.
 pub(crate) fn last_telegram(
     alloc: Global,
     task: Task,
@@ -19,11 +19,11 @@ pub(crate) fn last_telegram(
     end: End,
 ) -> Result<Option<&'static str>, AllocError> {
     let hint = match task.kind {
-        Kind::Long => "the last 104 bytes are a long telegram: log reads such a line",
-        Kind::Short => "the last 27 bytes are a short telegram: log reads such a line",
+        Kind::Long => "the last 104 bytes are a long telegram: etcs log reads such lines",
+        Kind::Short => "the last 27 bytes are a short telegram: etcs log reads such lines",
         Kind::Radio | Kind::Train => return Ok(None),
     };
-    // where there are as many as are shown, the last ones may be missing
+    // of as many as are shown the last ones may be missing
     if task.from != Form::Hex || !matches!(end, End::Refused(_, _)) || bytes.len() >= MOST_BYTES {
         return Ok(None);
     }

@@ -13,8 +13,8 @@ use etcs_runs::inner::{Engine, LineHandler, MOST_READ};
 use etcs_runs::{Form, MOST_LINE, NoBytes, RunFault, line_bytes, without_cr};
 use std::alloc::{AllocError, Global};
 
-/// The bytes of the item that isn't whole yet, the line of each (0 in an input of bytes), how many lines came, and what
-/// explains them.
+/// The bytes of the item that isn't whole yet, the line of each (0 in an input of bytes), how many lines were read, and the
+/// explainer.
 #[derive(Drop)]
 pub(crate) struct Items {
     explainer: Explainer,
@@ -34,7 +34,7 @@ fn drop_first<T: Copy>(list: &mut Vec<T>, count: usize)
     list.truncate(len - count);
 }
 
-/// What a run returns where memory was refused.
+/// The result of a run, with `Memory` if memory ran out.
 fn or_memory<T>(done: Result<T, AllocError>) -> Result<T, RunFault>
     ensures ok { IfOk result (λ x. done ≡ Ok x) }
     ensures err { IfErr result (λ e. (e ≡ RunFault.Memory) × (done ≡ Err alloc_error)) }
@@ -82,7 +82,7 @@ impl Items {
         }
     }
 
-    /// Explains the whole items that are held; all that is held where no more of it comes.
+    /// Explains the whole items that are held, or all that is held if no more comes.
     fn pass(&mut self, is_last: bool, text: &mut Vec<u8>) -> Result<(), AllocError>
         ensures same { (self.new.explainer.task ≡ self.old.explainer.task) × (self.new.line ≡ self.old.line) }
         ensures short { OnOk result (length self.new.held.items < 1023) }
@@ -100,7 +100,7 @@ impl Items {
         Ok(())
     }
 
-    /// Explains what is held, where it was cut short before these bytes of the last line.
+    /// Explains what is held, if it was cut short before these bytes of the last line.
     fn end_cut(&mut self, bytes: &[u8], text: &mut Vec<u8>) -> Result<(), AllocError>
         ensures same { (self.new.explainer.task ≡ self.old.explainer.task) × (self.new.line ≡ self.old.line) }
         ensures rest { (IsCut self.old.explainer.task.kind self.old.held.items bytes.now → ⊥) → OnOk result ((self.new.held.items ≡ self.old.held.items) × (text.new.items ≡ text.old.items)) }
@@ -129,8 +129,7 @@ impl Items {
         self.pass(false, text)
     }
 
-    /// Takes the bytes that the digits of the last line stand for; or, if the digits are the bits of a telegram, the bytes of
-    /// these bits.
+    /// Takes the bytes of the last line's digits; or, if the digits are the bits of a telegram, the bytes of these bits.
     fn take_digits(&mut self, bytes: &[u8], text: &mut Vec<u8>) -> Result<(), AllocError>
         ensures same { (self.new.explainer.task ≡ self.old.explainer.task) × (self.new.line ≡ self.old.line) }
         ensures short { OnOk result (length self.new.held.items < 1023) }
@@ -186,7 +185,7 @@ impl Items {
         }
     }
 
-    /// Says why the last line says no bytes, after what is held.
+    /// Explains what is held, and reports why the last line has no bytes.
     fn bad_hex(&mut self, line: &[u8], why: NoBytes, text: &mut Vec<u8>) -> Result<(), AllocError>
         requires lines { self.old.explainer.task.from ≡ form.Json → ⊥ }
         ensures same { (self.new.explainer.task ≡ self.old.explainer.task) × (self.new.line ≡ self.old.line) }
@@ -240,7 +239,7 @@ impl Items {
         self.short_line(line, text)
     }
 
-    /// Explains what is held, of which no more comes, and writes the foot; says what was wrong first.
+    /// Explains what is held, of which no more comes, writes the foot, and returns what was wrong first.
     fn finish(&mut self, text: &mut Vec<u8>) -> Result<Option<RunFault>, AllocError>
         ensures task { self.new.explainer.task ≡ self.old.explainer.task }
         ensures kept { (fault : RunFault) → self.old.explainer.seen.first ≡ Some fault → IfOk result (λ first. first ≡ Some fault) }

@@ -1,4 +1,4 @@
-//! Why JSON is no item: the path of the first part that is wrong, as jq has it, and the reason.
+//! Why JSON is not an item: the path of the first part that is wrong, as jq writes it, and the reason.
 
 ghost use Rattle.std.specs.Prelude.{◌<◌, length, string_bytes, IfOk};
 ghost use Rattle.etcs_reasons.specs.Sentences.{IsWritten};
@@ -38,8 +38,8 @@ const MARKER: Row = Row {
     items: &[RowItem::One(Var::NID_VBCMK)],
 };
 
-/// How a number is written.
-const PLAIN: &str = "digits alone, without a point or an exponent";
+/// How a whole number is written.
+const PLAIN: &str = "without a point or an exponent";
 
 /// Whether a number has a point, an exponent or more than 64 bits.
 fn is_float(value: &Value) -> bool {
@@ -83,7 +83,7 @@ impl<'a> fmt::Display for Brief<'a> {
         match self.0 {
             Value::Array(_) => f.write_str("a list"),
             Value::Object(_) => f.write_str("an object"),
-            Value::String(text) if text.len() > 40 => f.write_str("a longer text"),
+            Value::String(text) if text.len() > 40 => f.write_str("a longer string"),
             Value::String(text) => write!(f, "{}", Quoted(text.as_str())),
             value => write!(f, "{value}"),
         }
@@ -144,7 +144,7 @@ impl<'a> Part<'a> {
     fn object(self, out: &mut Text) -> Option<&'a Map<String, Value>> {
         match self.value.as_object() {
             Some(map) => Some(map),
-            None => wrong!(self, out; "an object is wanted, not {}", Brief(self.value)),
+            None => wrong!(self, out; "expected an object, found {}", Brief(self.value)),
         }
     }
 
@@ -161,7 +161,7 @@ impl<'a> Part<'a> {
     fn test_names(self, names: &[&str], out: &mut Text) -> Option<()> {
         for (name, _) in self.object(out)?.iter() {
             if !(&*names).contains(&name.as_str()) {
-                wrong!(self.named(name.as_str()), out; "there is no such member here");
+                wrong!(self.named(name.as_str()), out; "unexpected member");
             }
         }
         Some(())
@@ -172,10 +172,10 @@ impl<'a> Part<'a> {
         match self.value.as_u64() {
             Some(number) if number <= most => Some(number),
             _ if is_float(self.value) =>
-                wrong!(self, out; "a whole number from 0 to {most} is wanted, in {PLAIN}"),
+                wrong!(self, out; "expected a whole number from 0 to {most}, {PLAIN}"),
             _ => {
                 let value = Brief(self.value);
-                wrong!(self, out; "a whole number from 0 to {most} is wanted, not {value}")
+                wrong!(self, out; "expected a whole number from 0 to {most}, found {value}")
             }
         }
     }
@@ -192,7 +192,7 @@ impl<'a> Part<'a> {
                 return Some(text.len());
             }
         }
-        wrong!(self, out; "a text of zeros and ones is wanted")
+        wrong!(self, out; "expected a string of zeros and ones")
     }
 
     /// Tests that it has this many bits.
@@ -213,14 +213,14 @@ impl<'a> Part<'a> {
         wrong!(out; ", and {wanted} {are} left: {what} it by {by}")
     }
 
-    /// The number of a variable, where the pair of this path has this value.
+    /// The number of a variable, if the pair of this path has this value.
     fn number_of(self, value: &Value, var: Var, out: &mut Text) -> Option<u64> {
         if var == Var::NID_RADIO {
             let digits = value.as_str().unwrap_or("").as_bytes();
             if digits.len() == 16 && digits.iter().all(u8::is_ascii_hexdigit) {
                 return Some(0);
             }
-            wrong!(self, out; "{var} is a text of 16 hexadecimal digits");
+            wrong!(self, out; "expected a string of 16 hexadecimal digits for {var}");
         }
         let number = value.as_u64();
         match number {
@@ -231,8 +231,8 @@ impl<'a> Part<'a> {
                 None
             }
             None if is_float(value) =>
-                wrong!(self, out; "{var} has whole numbers of at most 64 bits, in {PLAIN}"),
-            None => wrong!(self, out; "{var} has whole numbers, not {}", Brief(value)),
+                wrong!(self, out; "expected a whole number of at most 64 bits for {var}, {PLAIN}"),
+            None => wrong!(self, out; "expected a whole number for {var}, found {}", Brief(value)),
         }
     }
 
@@ -241,18 +241,18 @@ impl<'a> Part<'a> {
         let value = self.value;
         let (name, number) = (value.get(0usize), value.get(1usize));
         let (Some(name), Some(number), None) = (name, number, value.get(2usize)) else {
-            wrong!(self, out; "a pair [\"{var}\", number] is wanted");
+            wrong!(self, out; "expected a pair [\"{var}\", number]");
         };
         if name.as_str() == Some(var.name()) {
             return self.number_of(number, var, out);
         }
-        wrong!(self, out; "{var} is wanted {after}, not {}", Brief(name))
+        wrong!(self, out; "expected {var} {after}, found {}", Brief(name))
     }
 
     /// How many bits the pairs of a row have.
     fn pairs(self, row: Row, out: &mut Text) -> Option<usize> {
         let Some(list) = self.value.as_array() else {
-            wrong!(self, out; "a list of pairs is wanted, not {}", Brief(self.value));
+            wrong!(self, out; "expected a list of pairs, found {}", Brief(self.value));
         };
         let mut place = Place::start(row);
         let mut after = After::Nothing;
@@ -262,7 +262,10 @@ impl<'a> Part<'a> {
             part.value = value;
             part.entry = Some(index);
             let Some(var) = place.var() else {
-                wrong!(part, out; "nothing is wanted {after}");
+                match after {
+                    After::Nothing => wrong!(part, out; "unexpected entry"),
+                    _ => wrong!(part, out; "unexpected entry {after}"),
+                }
             };
             let number = part.pair(var, after, out)?;
             place.pass(number);
@@ -274,7 +277,7 @@ impl<'a> Part<'a> {
         }
         match place.var() {
             None => Some(count),
-            Some(var) => wrong!(self, out; "{var} is wanted {after}, where the list ends"),
+            Some(var) => wrong!(self, out; "expected {var} {after}, found the end of the list"),
         }
     }
 
@@ -296,7 +299,7 @@ impl<'a> Part<'a> {
             None => ("data", "fields", "kept as bits"),
         };
         if self.has(other) {
-            wrong!(self.named(other), out; "packet {nid} is {what} here: give {name} in place of {other}");
+            wrong!(self.named(other), out; "packet {nid} is {what} here: use {name} instead of {other}");
         }
         if way == Way::ToTrain {
             self.test_names(&[name, "dir", "nid"], out)?;
@@ -312,13 +315,13 @@ impl<'a> Part<'a> {
         Some(bits.saturating_add(frame_bits(way)))
     }
 
-    /// How many bits packet 0 has, which telegrams alone may have; packet 255 is none of theirs.
+    /// How many bits packet 0 has, which only telegrams may have; packet 255 isn't listed.
     fn unframed(self, kind: Kind, nid: u8, out: &mut Text) -> Option<usize> {
         if kind == Kind::Radio {
             wrong!(self.named("nid"), out; "a message has no packet {nid}");
         }
         if nid == CLOSING {
-            wrong!(self.named("nid"), out; "packet {nid} closes each telegram, and isn't written");
+            wrong!(self.named("nid"), out; "packet {nid} ends every telegram and isn't listed");
         }
         self.test_names(&["fields", "nid"], out)?;
         self.member("fields", out)?.pairs(MARKER, out)?;
@@ -329,7 +332,7 @@ impl<'a> Part<'a> {
     fn packets(self, kind: Kind, out: &mut Text) -> Option<usize> {
         let member = self.member("packets", out)?;
         let Some(list) = member.value.as_array() else {
-            wrong!(member, out; "a list is wanted");
+            wrong!(member, out; "expected a list, found {}", Brief(member.value));
         };
         let mut count = 0usize;
         for (index, value) in list.as_slice().iter().enumerate() {
@@ -349,7 +352,7 @@ impl<'a> Part<'a> {
         if member.value.as_str() == Some(word) {
             return Some(());
         }
-        wrong!(member, out; "\"{word}\" is wanted, as --kind says, not {}", Brief(member.value))
+        wrong!(member, out; "expected \"{word}\", as in --kind, found {}", Brief(member.value))
     }
 
     /// How many bits an item has before its packets.
@@ -403,13 +406,13 @@ impl<'a> Part<'a> {
         let front = self.front_bits(kind, out)?;
         let all = self.packets(kind, out)?.saturating_add(front);
         if all > 8184 {
-            wrong!(self.named("packets"), out; "the message has {all} bits, and at most 1,023 bytes");
+            wrong!(self.named("packets"), out; "the message has {all} bits, more than 1,023 bytes");
         }
         self.member("padding", out)?
             .test_bits(7 - (all + 7) % 8, out)
     }
 
-    /// The NID_MESSAGE that it has, where such a message is typed.
+    /// Its NID_MESSAGE, if such a message is typed.
     fn typed_message(self, kind: Kind) -> Option<u8> {
         let number = self.value.get("nid")?.as_u64()?;
         let nid = low_byte(number);
@@ -440,14 +443,14 @@ impl<'a> Part<'a> {
         if count % 8 != 6 || count > 8166 {
             member.write_path(out);
             write_bits(count, out);
-            wrong!(out; ", and with the 18 before it a message has 3 to 1,023 whole bytes");
+            wrong!(out; ", but with the 18 before it a message has 3 to 1,023 whole bytes");
         }
         Some(())
     }
 }
 
 /// Why no item of the kind has a tree: the path of the first part that is wrong, after its first point, and the reason.
-/// Nothing is written where none is found.
+/// Nothing is written if none is found.
 fn test_tree(kind: Kind, tree: &Value, out: &mut Text) -> Option<()> {
     let whole = Part::whole(tree);
     match kind {
@@ -477,7 +480,7 @@ fn write_shape(kind: Kind, line: &[u8], out: &mut Text)
 {
     if line.len() > MOST_JSON {
         write!(out, "{}", line.len());
-        return out.push(" bytes, of which at most 65,536 are looked into");
+        return out.push(" bytes: the reason is only looked for in up to 65,536");
     }
     let front = shallow_front(line);
     match Value::from_slice(out.alloc(), front) {
@@ -490,7 +493,7 @@ fn write_shape(kind: Kind, line: &[u8], out: &mut Text)
     }
 }
 
-/// Appends that a bit of an item is refused which the JSON of a line stores among the bits of a packet.
+/// Appends that a bit of an item is refused, which is among the bits of a packet in the JSON of a line.
 fn write_refused(kind: Kind, line: &[u8], bit: usize, var: Var, out: &mut Text)
     ensures { IsWritten out.new }
 {
@@ -510,7 +513,7 @@ fn write_refused(kind: Kind, line: &[u8], bit: usize, var: Var, out: &mut Text)
     out.push(var.name());
 }
 
-/// Appends why a line of JSON that was answered with this fault is no item.
+/// Appends why a line of JSON is not an item, after this fault.
 pub(crate) fn write_no_item(kind: Kind, line: &[u8], fault: JsonFault, out: &mut Text)
     ensures { IsWritten out.new }
 {
@@ -521,12 +524,12 @@ pub(crate) fn write_no_item(kind: Kind, line: &[u8], fault: JsonFault, out: &mut
     }
 }
 
-/// Why a line that was answered with this fault isn't the JSON of an item of the kind: the path of the first part that is
-/// wrong, as jq has it, and the reason. It isn't empty.
+/// Returns why a line isn't the JSON of an item of the kind, after `from_line` returned this fault for it: the path of the
+/// first part that is wrong, as jq writes it, and the reason. The text isn't empty; no clause says more about it.
 ///
 /// # Errors
 ///
-/// Where memory is refused.
+/// If memory runs out.
 pub fn json_reason(
     alloc: Global,
     kind: Kind,

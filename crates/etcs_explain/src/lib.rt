@@ -1,4 +1,6 @@
-//! Items explained: each variable with its bits, its number and what it stands for; and why bytes or JSON are no item.
+//! Explains the items of an input one after another ([`explain`]): each variable with its bits, its number and its
+//! meaning, as text or as a page; and why JSON is not an item ([`json_reason`]). [`Account`] and [`why`] are from
+//! `etcs_reasons`.
 #![tactic(auto)]
 
 mod cut;

@@ -1,18 +1,19 @@
-//! Where a line stops being JSON, or has more lists and objects in one another than any item.
+//! Where a line stops being JSON, or nests lists and objects deeper than any item.
 
 ghost use Rattle.etcs_reasons.specs.Sentences.{IsWritten};
 
+use crate::quoted::Escaped;
 use etcs_reasons::inner::Text;
 use serde_json::{Error, Value};
 use std::alloc::AllocError;
 
-/// How many bytes of JSON that is no item are looked into.
+/// The most bytes of a line of JSON for which a reason is looked for.
 pub(crate) const MOST_JSON: usize = 65_536;
 
-/// How many lists and objects in one another are looked into, of which an item has 5.
+/// How deep lists and objects are looked into. An item nests them 5 deep.
 const MOST_DEEP: usize = 6;
 
-/// The front of a line before the first list or object that is in that many; all of it where there is none.
+/// The front of a line before the first list or object that is nested deeper; all of the line if there is none.
 pub(crate) fn shallow_front(line: &[u8]) -> &[u8] {
     let mut depth = 0usize;
     let mut is_text = false;
@@ -32,34 +33,56 @@ pub(crate) fn shallow_front(line: &[u8]) -> &[u8] {
     line
 }
 
-/// Appends that a list or an object at this place is in too many.
+/// Appends that a list or an object at this place is nested too deep.
 pub(crate) fn write_too_deep(place: usize, out: &mut Text)
     ensures { IsWritten out.new }
 {
     let column = place.saturating_add(1);
     write!(
         out,
-        "more than {MOST_DEEP} lists and objects are in one another at column {column}"
+        "lists and objects are nested more than {MOST_DEEP} deep at column {column}"
     );
-    out.push(", and an item has 5");
+    out.push(", and an item has 5 levels");
 }
 
 /// Appends where a line of at most that many bytes, refused with this error, stops being JSON.
 pub(crate) fn write_no_json(line: &[u8], error: &Error, out: &mut Text)
     ensures { IsWritten out.new }
 {
-    out.push("no JSON: ");
+    out.push("not JSON: ");
     if is_too_large(error, out) {
-        return out.push("the size of a number is more than 1.8e308");
+        return out.push("the magnitude of a number is more than 1.8e308");
     }
     let front = front_of(line, out);
     let column = front.len().saturating_add(1);
     if front.len() == line.len() {
-        write!(out, "it ends at column {}, inside a value", line.len());
-        return out.push("; jq -c . makes one line of several");
+        write!(
+            out,
+            "the line ends at column {}, inside a value",
+            line.len()
+        );
+        return out.push("; jq -c . joins several lines into one");
     }
-    out.push("another character is wanted at column ");
+    out.push("unexpected ");
+    write_character(line.get(front.len()..).unwrap_or(&[]), out);
+    out.push(" at column ");
     write!(out, "{column}");
+}
+
+/// Appends the character that bytes begin with, or the first byte if it isn't UTF-8.
+fn write_character(bytes: &[u8], out: &mut Text) {
+    for count in 1..5usize {
+        let front = bytes.get(..count).unwrap_or(bytes);
+        if let Ok(text) = std::str::from_utf8(front) {
+            return match text {
+                " " => out.push("space"),
+                _ => write!(out, "{}", Escaped(text)),
+            };
+        }
+    }
+    if let Some(byte) = bytes.first() {
+        write!(out, "byte {byte:02X}");
+    }
 }
 
 /// The longest front of a line with which JSON begins.
@@ -100,7 +123,7 @@ enum Escape {
 }
 
 impl Escape {
-    /// Where the line is after this byte. `None` where a half can't have it.
+    /// Where the line is after this byte. `None` if the byte can't follow half a character.
     fn after(self, byte: u8) -> Option<Escape> {
         match (self, byte) {
             (Escape::Outside, b'\\') => Some(Escape::Begun { is_other: false }),
@@ -131,8 +154,8 @@ fn rest_of(left: usize, is_half: bool) -> Escape {
     }
 }
 
-/// The front of a line before the first byte that half a character can't have; all of it where there is none. The parser
-/// reads on to the line's end before it refuses such a half.
+/// The front of a line before the first byte that can't follow half a character; all of the line if there is none. The
+/// parser reads on to the line's end before it refuses such a half.
 fn paired_front(line: &[u8]) -> &[u8] {
     let mut escape = Escape::Outside;
     for (place, byte) in line.iter().enumerate() {
@@ -174,7 +197,7 @@ fn begins_json(front: &[u8], out: &mut Text) -> bool {
     }
 }
 
-/// Whether JSON is refused since a number has no value.
+/// Whether JSON is refused because a number is too large.
 fn is_too_large(error: &Error, out: &mut Text) -> bool {
     let mut said = Text::new(out.alloc());
     write!(said, "{error}");

@@ -2,7 +2,7 @@
 
 use std::fmt;
 
-/// A text as JSON has it, in which each character that shows as none is escaped.
+/// A text as JSON has it, in which each character that doesn't show is escaped.
 #[derive(Clone, Copy)]
 pub(crate) struct Quoted<'a>(pub(crate) &'a str);
 
@@ -13,6 +13,22 @@ impl<'a> fmt::Display for Quoted<'a> {
             write_escaped(character, f)?;
         }
         f.write_str("\"")
+    }
+}
+
+/// A text as it is, except that each character that doesn't show is escaped.
+#[derive(Clone, Copy)]
+pub(crate) struct Escaped<'a>(pub(crate) &'a str);
+
+impl<'a> fmt::Display for Escaped<'a> {
+    fn fmt<W: fmt::Write>(&self, f: &mut fmt::Formatter<W>) -> fmt::Result {
+        for character in self.0.chars() {
+            match character {
+                '"' | '\\' => f.write_char(character)?,
+                _ => write_escaped(character, f)?,
+            }
+        }
+        Ok(())
     }
 }
 
@@ -31,7 +47,7 @@ fn write_escaped<W: fmt::Write>(character: char, f: &mut fmt::Formatter<W>) -> f
     }
 }
 
-/// Whether a terminal takes a character for an order: a control, or a mark of the direction of writing.
+/// Whether a terminal may act on a character: a control, or a mark of the direction of writing.
 fn is_unseen(character: char) -> bool {
     character.is_control()
         || matches!(

@@ -7,16 +7,16 @@ use etcs_runs::RunFault;
 /// What was seen of an input so far.
 #[derive(Clone, Copy)]
 pub(crate) struct Seen {
-    /// Whether something was written of it.
+    /// Whether anything was written.
     pub(crate) is_begun: bool,
-    /// How many items came.
+    /// How many items there were.
     pub(crate) items: u64,
     /// What was wrong first.
     pub(crate) first: Option<RunFault>,
 }
 
 impl Seen {
-    /// After a part more, with this many items and this fault.
+    /// After a further part, with this many items and this fault.
     pub(crate) fn after(self, items: u64, fault: Option<RunFault>) -> Seen
         ensures { IsAfter self items fault result }
     {

@@ -7,10 +7,10 @@ use etcs_text::Kind;
 /// What is to be explained, and how.
 #[derive(Clone, Copy, Debug, PartialEq, Eq)]
 pub struct Task {
-    /// What the input holds.
+    /// The kind of the input's items.
     pub kind: Kind,
     /// The form of the input.
     pub from: Form,
-    /// The form of what is written.
+    /// The form of the output.
     pub layout: Layout,
 }

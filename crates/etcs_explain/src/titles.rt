@@ -1,4 +1,4 @@
-//! What the title of an item says, and how many bytes the item has.
+//! The title of an item, and how many bytes the item has.
 
 ghost use Rattle.std.specs.Prelude.{◌≤◌};
 
@@ -20,8 +20,8 @@ pub(crate) fn write_title(kind: Kind, bytes: &[u8], end: End, out: &mut Text) {
     }
 }
 
-/// Appends the heading of an item of a page: its kind, what its header holds, and how many bytes or packets it has; or
-/// where it stops being an item.
+/// Appends the heading of an item of a page: its kind, what is in its header, and how many bytes or packets it has; or where
+/// it stops being an item.
 pub(crate) fn write_heading(kind: Kind, bytes: &[u8], account: &Account, out: &mut Text) {
     match kind {
         Kind::Long => out.push("long telegram"),
@@ -57,7 +57,7 @@ fn write_message(way: &str, account: &Account, out: &mut Text) {
     }
 }
 
-/// Appends what a variable of a header means for its item.
+/// Appends a variable of a header, if headings have it.
 fn write_known(var: Var, number: u64, out: &mut Text) {
     match var {
         Var::NID_C | Var::NID_BG => write!(out, ", {var} {number}"),

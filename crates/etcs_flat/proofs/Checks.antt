@@ -35,7 +35,7 @@ fault_end [] are over e = sym e
 fault_end (v ∷ ws) are (inl h) e = absurd cc
 fault_end (v ∷ ws) are (inr h) e = sym e ∙ ap (numbers_fault (v ∷ ws)) h
 
--- where the count and the direction are right, only numbers may be wrong
+-- if the count and the direction are right, only numbers may be wrong
 pub numbers_left : (way : Way) (o : Option (List Var)) (table : List RowItem) (dir : ℕ) (ns : List ℕ) → Some table ≡ option_map (λ vs. map One vs) o → length ns ≡ length table → direction_fault way dir ≡ None
     → (vs : List Var) × (table ≡ map One vs) × (row_fault way o dir ns ≡ numbers_fault vs ns)
 numbers_left way None table dir ns is long fine = absurd cc

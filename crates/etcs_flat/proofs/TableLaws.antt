@@ -13,7 +13,7 @@ pairs_of_none : (items : List RowItem) → table_pairs items [] ≡ []
 pairs_of_none [] = refl
 pairs_of_none (item ∷ items) = refl
 
--- where the items or the numbers end, so do the pairs
+-- the pairs end with the items or the numbers
 pub pairs_end : {items : List RowItem} {ns : List ℕ} {all : Reading} (sent : Reading) → (items ≡ []) ⊎ (ns ≡ []) → sent ++ table_pairs items ns ≡ all → sent ≡ all
 pairs_end {items} {ns} sent last e =
     let none : table_pairs items ns ≡ [] = elim last [

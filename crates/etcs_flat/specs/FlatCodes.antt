@@ -1,4 +1,5 @@
--- A packet without groups is a typed packet: what is taken for the variables of its row is what they spell.
+-- A packet without groups is a typed packet: what is taken for the variables of its row is what they spell
+-- (SUBSET-026, 7.4.2).
 use Rattle.std.proofs.Common.{◌≡◌, ℕ, List, [], ◌∷◌, length, map, Option, Some, None}
 use Rattle.etcs_vars.specs.declared.var.Var.{Var}
 use Rattle.etcs_tables.specs.declared.item.RowItem.TheVariants.{One}
@@ -29,18 +30,19 @@ pub record Flatly (way : Way) {P : Type 0} (direction : P → ℕ) (body : P →
   pub dir_is : (dir : ℕ) (ns : List ℕ) → direction (make dir ns) ≡ direction_as way dir
   pub same : (dir : ℕ) (ns : List ℕ) → body (make dir ns) ≡ ns
 
--- these variables, where there are some
+-- these variables; no variables if there are none
 abbrev pub known : Option (List Var) → List Var
 known None = []
 known (Some vs) = vs
 
+-- the packet of a direction, by its row's variables, with which what is left begins, and what is left after it
 abbrev pub row_from : {P : Type 0} → (ℕ → List ℕ → P) → Option (List Var) → ℕ → Left → Option (P × Left)
 row_from make o = directed_from (table_from (map One (known o))) never make
 
--- the packet of a direction with which what is left begins, and what is left after it
+-- the packet one way of this number and direction with which what is left begins, and what is left after it
 abbrev pub flat_from_to : {P : Type 0} → Way → (ℕ → List ℕ → P) → ℕ → ℕ → Left → Option (P × Left)
 flat_from_to way make nid = row_from make (flat_row_to way nid)
 
--- to the train
+-- the packet to the train of this number and direction with which what is left begins, and what is left after it
 abbrev pub flat_from : ℕ → ℕ → Left → Option (FlatValue × Left)
 flat_from nid = flat_from_to ToTrain flat_value nid

@@ -13,13 +13,15 @@ pub record OtherValue : Type 0 where
   pub dir : ℕ
   pub body : List Bool
 
+-- the kept packet of this number, direction and bits
 abbrev pub other_value : ℕ → ℕ → List Bool → OtherValue
 other_value nid dir body = record { nid = nid; dir = dir; body = body }
 
--- what is wrong with a direction
+-- Q_DIR, if a packet of this way may not have the direction
 abbrev pub direction_fault : Way → ℕ → Option BuildFault
 direction_fault way dir = if is_direction way dir then None else Some (NotAdmitted Q_DIR)
 
--- what is wrong with a packet of this many bits after L_PACKET
+-- the first fault of a kept packet of this number, direction and count of bits after L_PACKET: a number that isn't
+-- kept, the direction, more bits than kept_limit
 abbrev pub other_fault : Way → ℕ → ℕ → ℕ → Option BuildFault
 other_fault way nid dir bits = (if is_kept way nid then None else Some (NotAdmitted NID_PACKET)) or_else direction_fault way dir or_else (if nat_le bits (kept_limit way) then None else Some TooLong)

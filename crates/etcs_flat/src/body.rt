@@ -6,7 +6,7 @@ ghost use Rattle.etcs_flat.specs.Flats.{flat_row};
 
 use crate::flat::Flat;
 
-/// A number whose packets have a row without groups.
+/// `N` is the number of a typed packet to the train whose row has no groups.
 pub trait FlatNumber<const N: u8> {
     ghost flat: { IsSome (flat_row N) };
 }

@@ -23,11 +23,14 @@ use etcs_vars::{BuildFault, Var, check};
 use std::alloc::{AllocError, Global};
 use std::marker::Model;
 
-/// A packet to the train whose row has no groups (SUBSET-026, 7.4.2). Two of them are equal where they have the
+/// A packet to the train whose row has no groups (SUBSET-026, 7.4.2). Two of them are equal exactly if they have the
 /// same direction and the same numbers. A `NID` that isn't typed, or whose row has groups, has no packets.
 ///
-/// Its numbers are those of its row, which comes after L_PACKET: of each variable one, in the order of the row.
-/// docs/FORMAT.md has the rows of all packets. [`Var`] says what each variable means, and in which unit.
+/// Its numbers are those of its row, which comes after L_PACKET: one for each variable, in the order of the row.
+/// docs/FORMAT.md has the rows of all packets. [`Var`] has the meaning and the unit of each variable.
+///
+/// It is [`Packetlike`](crate::Packetlike), `Framed` and `Variables` for the sixteen numbers 2, 16, 42, 45, 57, 64, 65,
+/// 66, 131, 132, 135, 137, 140, 141, 145 and 254.
 #[derive(Clone, Debug, Drop, PartialEq, Eq)]
 pub struct Flat<const NID: u8> {
     dir: u8,
@@ -49,12 +52,12 @@ impl<const NID: u8> Model for Flat<NID> {
 }
 
 impl<const NID: u8> Flat<NID> {
-    /// A packet of this Q_DIR (0 reverse, 1 nominal, 2 both directions) and of the numbers of its row, in order.
-    /// Takes no memory.
+    /// The packet of this Q_DIR (0 reverse, 1 nominal, 2 both directions) and of the numbers of its row, in order;
+    /// returned exactly if none of the errors below applies. Takes no memory.
     ///
     /// # Errors
     ///
-    /// The first of these that holds:
+    /// The first of these that applies:
     ///
     /// - `NotAdmitted(NID_PACKET)`: `NID` isn't typed, or its row has groups.
     /// - `Count`: there are more or fewer numbers than variables in the row.
@@ -80,7 +83,8 @@ impl<const NID: u8> Flat<NID> {
         self.numbers.as_slice()
     }
 
-    /// Takes the packet of a direction that the numbers begin with, if they begin with one. Takes no memory.
+    /// Takes the packet of a direction that the numbers begin with; `None` exactly if they begin with none. Takes no
+    /// memory.
     fn taken<L: Numbers>(dir: u8, numbers: &mut L) -> Option<Self>
         requires flat { IsSome (flat_row NID) }
         requires dir { IsTrue (admits Q_DIR dir) }
@@ -158,16 +162,17 @@ where
     }
 }
 
-/// Looks for what is wrong with a packet of this number; `Ok` if nothing is.
+/// Checks the parts of a packet without groups of this way, number and direction: `Ok` exactly if none of the errors
+/// below applies. There are then at most six numbers.
 ///
 /// # Errors
 ///
-/// The first that holds:
+/// The first of these that applies:
 ///
-/// - `NotAdmitted(NID_PACKET)` if this number of this way is no typed packet without groups.
-/// - `Count` if it has more or fewer numbers than its row.
-/// - `NotAdmitted(Q_DIR)` if a packet of this way may not have the direction.
-/// - `NotAdmitted` with the first variable that doesn't admit its number.
+/// - `NotAdmitted(NID_PACKET)`: no packet of this way and number is typed and without groups.
+/// - `Count`: there are more or fewer numbers than variables in the row.
+/// - `NotAdmitted(Q_DIR)`: a packet of this way may not have the direction.
+/// - `NotAdmitted` with the first variable, in order, that doesn't admit its number.
 pub fn check_flat(way: Way, nid: u8, dir: u8, numbers: &[u64]) -> Result<(), BuildFault>
     ensures ok { OnOk result (flat_fault_to way nid dir numbers.now ≡ None) }
     ensures short { OnOk result (length numbers.now ≤ 6) }
@@ -183,7 +188,7 @@ pub fn check_flat(way: Way, nid: u8, dir: u8, numbers: &[u64]) -> Result<(), Bui
     check_numbers(table, numbers)
 }
 
-/// The table of the packet's row, where it has no groups.
+/// The table of the packet's row; `None` exactly if the packet isn't typed or its row has groups.
 #[tactic(auto, using(crate::specs::laws::TableLaws::flat_table))]
 pub(crate) fn flat_row(way: Way, nid: u8) -> Option<&'static [RowItem]>
     ensures { option_map (λ table. table.now) result ≡ option_map (λ vs. map One vs) (flat_row_to way nid) }
@@ -199,7 +204,7 @@ fn is_flat(table: &[RowItem]) -> bool
     table.iter().all(|item| matches!(item, RowItem::One(_)))
 }
 
-/// Looks for the first variable of a table without groups that doesn't admit its number.
+/// `Ok` exactly if each variable of a table without groups admits its number, else the first that doesn't.
 fn check_numbers(table: &[RowItem], numbers: &[u64]) -> Result<(), BuildFault>
     ensures ok { (vs : List Var) → table.now ≡ map One vs → OnOk result (numbers_fault vs numbers.now ≡ None) }
     ensures fault { (vs : List Var) → table.now ≡ map One vs → IfErr result (λ e. numbers_fault vs numbers.now ≡ Some e) }

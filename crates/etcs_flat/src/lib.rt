@@ -1,4 +1,4 @@
-//! Packets without groups, packets that are kept as bits, and the virtual balise cover marker.
+//! Packets to the train without groups, packets that are kept as bits, and packet 0, the virtual balise cover marker.
 #![tactic(auto)]
 
 mod body;

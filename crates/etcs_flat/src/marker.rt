@@ -30,7 +30,7 @@ impl Model for Marker {
 }
 
 impl Marker {
-    /// A marker of this number, as `inner::marker` says.
+    /// The marker of this number, as `inner::marker` promises it.
     pub(crate) fn new(number: u8) -> Result<Marker, BuildFault>
         ensures ok { IfOk result (λ m. m ≡ number) }
         ensures fits { OnOk result (number_fault NID_VBCMK number ≡ None) }
@@ -40,7 +40,7 @@ impl Marker {
         Ok(Marker { number })
     }
 
-    /// NID_VBCMK: 0 to 63.
+    /// NID_VBCMK, an admitted number: 0 to 63.
     pub fn number(&self) -> u8
         ensures value { result ≡ self.now }
         ensures admitted { IsTrue (admits NID_VBCMK result) }

@@ -11,7 +11,7 @@ use etcs_vars::{BuildFault, Var};
 use std::alloc::{AllocError, Global};
 use std::marker::Model;
 
-/// A packet to the train that isn't typed, kept as bits (SUBSET-026, 7.4). Two of them are equal where they have
+/// A packet to the train that isn't typed, kept as bits (SUBSET-026, 7.4). Two of them are equal exactly if they have
 /// the same number, direction and bits.
 #[derive(Debug, Drop, PartialEq, Eq)]
 pub struct Other {
@@ -35,13 +35,16 @@ impl Model for Other {
 }
 
 impl Other {
-    /// A packet of this NID_PACKET and Q_DIR, with the bits after L_PACKET. Takes no memory.
+    /// The packet of this NID_PACKET and Q_DIR, with the bits after L_PACKET; returned exactly if none of the errors
+    /// below applies. Takes no memory.
     ///
     /// # Errors
     ///
-    /// The first of these that holds, with the same bits: `NotAdmitted(NID_PACKET)` for 0, 255 and the numbers of
-    /// typed packets; `NotAdmitted(Q_DIR)` for a direction above 2; `TooLong` for more than 8,168 bits, which
-    /// L_PACKET can't count.
+    /// The first of these that applies, with the bits that were given:
+    ///
+    /// - `NotAdmitted(NID_PACKET)`: the number is 0, 255 or that of a typed packet.
+    /// - `NotAdmitted(Q_DIR)`: the direction is above 2.
+    /// - `TooLong`: there are more than 8,168 bits, which L_PACKET can't count.
     pub fn new(nid: u8, dir: u8, body: Bits) -> Result<Other, (BuildFault, Bits)>
         ensures ok { IfOk result (λ p. p ≡ other_value nid dir body) }
         ensures fits { OnOk result (other_fault ToTrain nid dir (length body) ≡ None) }
@@ -54,7 +57,7 @@ impl Other {
         }
     }
 
-    /// As `new`, where nothing is wrong.
+    /// As `new`, of parts to which no error applies.
     #[inline(always)]
     pub(crate) fn sound(nid: u8, dir: u8, body: Bits) -> Other
         requires { other_fault ToTrain nid dir (length body) ≡ None }
@@ -85,7 +88,7 @@ impl Other {
         self.body.as_slice()
     }
 
-    /// How many bits follow L_PACKET.
+    /// How many bits are after L_PACKET: at most 8,168.
     #[tactic(auto, using(crate::specs::laws::OtherLaws::other_short))]
     pub fn bits(&self) -> usize
         ensures bits { result ≡ length self.now.body }
@@ -98,7 +101,7 @@ impl Other {
     ///
     /// # Errors
     ///
-    /// `AllocError` where there is no memory.
+    /// `AllocError`: out of memory.
     pub fn try_clone(&self, alloc: Global) -> Result<Other, AllocError>
         ensures { IfOk result (λ p. p ≡ self.now) }
     {
@@ -110,7 +113,7 @@ impl Other {
     }
 }
 
-/// Looks for what is wrong with a direction.
+/// `Ok` exactly if a packet of this way may have the direction.
 pub(crate) fn check_direction(way: Way, dir: u8) -> Result<(), BuildFault>
     ensures ok { OnOk result (direction_fault way dir ≡ None) }
     ensures fault { IfErr result (λ e. direction_fault way dir ≡ Some e) }
@@ -122,15 +125,16 @@ pub(crate) fn check_direction(way: Way, dir: u8) -> Result<(), BuildFault>
     }
 }
 
-/// Looks for what is wrong with a packet of this many bits after L_PACKET; `Ok` if nothing is.
+/// Checks the parts of a kept packet of this way, number and direction, of this many bits after L_PACKET: `Ok` exactly
+/// if none of the errors below applies.
 ///
 /// # Errors
 ///
-/// The first that holds:
+/// The first of these that applies:
 ///
-/// - `NotAdmitted(NID_PACKET)` if packets of this number and way aren't kept as bits.
-/// - `NotAdmitted(Q_DIR)` if a packet of this way may not have the direction.
-/// - `TooLong` if it has more bits than a kept packet of this way may have.
+/// - `NotAdmitted(NID_PACKET)`: packets of this way and number aren't kept as bits.
+/// - `NotAdmitted(Q_DIR)`: a packet of this way may not have the direction.
+/// - `TooLong`: it has more bits than a kept packet of this way may have, 8,168 to the train and 8,170 to the track.
 pub fn check_other(way: Way, nid: u8, dir: u8, bits: usize) -> Result<(), BuildFault>
     ensures ok { OnOk result (other_fault way nid dir bits ≡ None) }
     ensures fault { IfErr result (λ e. other_fault way nid dir bits ≡ Some e) }

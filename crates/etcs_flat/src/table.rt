@@ -13,7 +13,9 @@ use etcs_tables::{RowItem, Way};
 use etcs_vars::inner::VarSink;
 use std::alloc::AllocError;
 
-/// The table of a packet whose row has no groups.
+/// The items of a packet's row after L_PACKET, each a variable, at most six.
+///
+/// Requires that packets of this way and number are typed and without groups.
 #[tactic(auto, using(crate::specs::laws::TableLaws::table_short))]
 pub fn table_of(way: Way, nid: u8) -> &'static [RowItem]
     requires { IsSome (flat_row_to way nid) }
@@ -26,7 +28,7 @@ pub fn table_of(way: Way, nid: u8) -> &'static [RowItem]
     }
 }
 
-/// How many bits the variables of a table take.
+/// How many bits the variables of a table take; at most 384. Requires that there are at most six items.
 #[tactic(auto, using(crate::specs::laws::TableLaws::item_narrow, crate::specs::laws::TableLaws::width_narrow))]
 pub fn table_bits(table: &[RowItem]) -> usize
     requires { length table.now ≤ 6 }
@@ -42,11 +44,12 @@ pub fn table_bits(table: &[RowItem]) -> usize
     bits
 }
 
-/// Sends the variables of a table, each with its number.
+/// Sends the variables of a table, each with its number, in order, as far as there are both. An item that is a group
+/// and its number are skipped.
 ///
 /// # Errors
 ///
-/// That of the sink.
+/// `AllocError`: the sink failed; its `failed` then holds.
 pub fn send_table<S: VarSink>(
     table: &[RowItem],
     numbers: &[u64],
@@ -63,7 +66,10 @@ pub fn send_table<S: VarSink>(
     Ok(())
 }
 
-/// Takes the numbers of a table's variables. `None` where a variable doesn't admit its number, or there are too few.
+/// Takes the numbers of a table's variables off what is left, in order. `None` exactly if the table has a group, a
+/// variable doesn't admit its number, or there are too few numbers; nothing is promised of what is then left.
+///
+/// Requires that the table has at most six items.
 #[tactic(auto, using(crate::specs::laws::TableLaws::taken_more, crate::specs::laws::TableLaws::taken_none))]
 pub fn take_table<L: Numbers>(table: &[RowItem], numbers: &mut L) -> Option<ArrayVec<u64, 6>>
     requires { length table.now ≤ 6 }
@@ -80,7 +86,7 @@ pub fn take_table<L: Numbers>(table: &[RowItem], numbers: &mut L) -> Option<Arra
     Some(taken)
 }
 
-/// The same numbers, at most six.
+/// The same numbers as an array. Requires that there are at most six.
 pub fn few(numbers: &[u64]) -> ArrayVec<u64, 6>
     requires { length numbers.now ≤ 6 }
     ensures { result.items ≡ numbers.now }

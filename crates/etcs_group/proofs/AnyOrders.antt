@@ -20,7 +20,7 @@ Fit-sym t u f = record {
   same = λ e. sym (f.same (sym e));
 }
 
--- where none is refused, what is held is what the list has
+-- if none is refused, what is held is what the list has
 
 pub list_from_held : (ts : List TelegramContent) (u : TelegramContent) → NoneRefused ts → HeldOf ts u → Contains ts u
 list_from_held [] u none h = absurd h
@@ -69,7 +69,7 @@ none_refused (t ∷ earlier) good fit =
       rest,
     )
 
--- where a place of the exchanged list was before
+-- the place before of each place of the exchanged list
 abbrev Stood : ℕ → ℕ → ℕ → ℕ → Type 0
 Stood a b k m = ((k ≡ a) × (m ≡ b)) ⊎ (((k ≡ b) × (m ≡ a)) ⊎ ((k ≢ a) × (k ≢ b) × (m ≡ k)))
 

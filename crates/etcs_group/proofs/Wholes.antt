@@ -11,12 +11,12 @@ use Rattle.etcs_group.proofs.Places.{contains_place, place_contains}
 abbrev pub HasTotal : List (Option TelegramContent) → ℕ → Type 0
 HasTotal slots total = ((t : TelegramContent) × Holds slots t) × ((t : TelegramContent) → Holds slots t → t.header.n_total ≡ total)
 
--- so a position is missing where it is lacking and isn't after this N_TOTAL
+-- so a position is missing if it is lacking and isn't after this N_TOTAL
 pub missing_iff : (slots : List (Option TelegramContent)) (total p : ℕ) → HasTotal slots total → ((p < total + 1) × IsLacking slots p) ↔ IsMissing slots p
 missing_iff slots total p held =
     (λ h. let same = held.1 held.0.0 held.0.1 in ((held.0.0, held.0.1, omega (arith, same, h.0)), h.1), λ m. let same = held.1 m.0.0 m.0.1 in (omega (arith, same, m.0.2), m.1))
 
--- where something is held, the group is whole where none is reported as missing
+-- if something is held, the group is whole if none is reported as missing
 pub none_missing : (slots : List (Option TelegramContent)) (missing : List Bool) (b : Bool) → ((t : TelegramContent) × Holds slots t) → ((p : ℕ) → (slice_get missing p ≡ Some true) ↔ IsMissing slots p) → Decides b (Contains missing true) → Decides (not b) (IsWhole slots)
 none_missing slots missing b held marked among = (
   λ e. (held, λ p m. both_ways b (not-true b e) (among.1 (place_contains missing p true ((marked p).1 m)))),

@@ -10,7 +10,7 @@ use Rattle.etcs_group.specs.GroupLines.{AreGroupLines}
 abbrev pub OneList : Type 0
 OneList = (ts : List TelegramContent) (gs gs' : List Group) → AreGroupsOf ts gs → AreGroupsOf ts gs' → gs ≡ gs'
 
--- and no two of these are of the same numbers
+-- no two groups of such a list have the same NID_C and NID_BG
 abbrev pub OneOfEach : Type 0
 OneOfEach = (ts : List TelegramContent) (gs : List Group) → AreGroupsOf ts gs → AreDistinct gs
 
@@ -18,11 +18,11 @@ OneOfEach = (ts : List TelegramContent) (gs : List Group) → AreGroupsOf ts gs 
 abbrev pub OneText : Type 0
 OneText = (gs : List Group) (text text' : List ℕ) → AreGroupLines gs text → AreGroupLines gs text' → text ≡ text'
 
--- of telegrams, those of these numbers
+-- the telegrams of a list that are of these numbers, in their order
 abbrev pub own : ℕ → ℕ → List TelegramContent → List TelegramContent
 own nid_c nid_bg ts = filter (λ t. (t.header.nid_c == nid_c) && (t.header.nid_bg == nid_bg)) ts
 
--- of adds, the last of them first, how many find a set that they don't join, up to 2 ^ 64 - 1
+-- n is how many of these adds, the last of them first, find a set that they don't join, up to 2 ^ 64 - 1
 abbrev pub RefusedOf : List TelegramContent → ℕ → Type 0
 RefusedOf [] n = n ≡ 0
 RefusedOf (t ∷ earlier) n =
@@ -33,6 +33,6 @@ RefusedOf (t ∷ earlier) n =
 abbrev pub IsMadeOf : List TelegramContent → Group → Type 0
 IsMadeOf ts g = IsHeldOf ts g.held × RefusedOf ts g.clashes
 
--- a group is what adds of its own telegrams make, in their order
+-- each group holds what its own telegrams make, in their order, and its clashes are those of them that are refused
 abbrev pub OwnTelegrams : Type 0
 OwnTelegrams = (ts : List TelegramContent) (gs : List Group) (g : Group) → AreGroupsOf ts gs → Contains gs g → IsMadeOf (own g.nid_c g.nid_bg (reverse ts)) g

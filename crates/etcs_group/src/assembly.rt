@@ -21,7 +21,8 @@ pub enum Added {
 }
 
 /// The telegrams of a balise group, in whatever order they come (SUBSET-026, 3.16.2.4): at most one for each of the eight
-/// positions. It allocates nothing: it holds the telegrams that it is given.
+/// positions. It allocates nothing: it holds the telegrams that it is given. Telegrams are compared by `==`, which is
+/// equality of their values.
 #[derive(Debug, Drop)]
 pub struct Assembly {
     held: [Option<Telegram>; 8],
@@ -41,7 +42,7 @@ impl Model for Assembly {
 }
 
 impl Assembly {
-    /// Nothing is held.
+    /// An assembly that holds nothing.
     pub fn new() -> Assembly
         ensures none { HoldsNone result }
         ensures places { result ≡ replicate 8 None }
@@ -51,12 +52,17 @@ impl Assembly {
         }
     }
 
-    /// Holds the telegram if it fits those that are held. If all telegrams of a list are accepted in one order, they are
-    /// in every order, and what is held afterwards is the same (`laws::any_order`).
+    /// Holds the telegram if its position and M_DUP are possible and it fits every telegram that is held:
+    /// [`Added::New`] exactly if it then wasn't held before, [`Added::Repeat`] exactly if it was. So after any calls,
+    /// what is held is the set that their telegrams make of the empty one.
+    ///
+    /// If all telegrams of a list are accepted in one order, they are in every order, and what is held afterwards is
+    /// the same (`laws::any_order`). Takes no memory.
     ///
     /// # Errors
     ///
-    /// The first [`Clash`] that the telegram has with what is held, and the telegram itself. What is held stays as it was.
+    /// Else the first [`Clash`], in the order of its variants, that the telegram has with what is held, and the same
+    /// telegram. What is held stays as it was.
     pub fn add(&mut self, telegram: Telegram) -> Result<Added, (Clash, Telegram)>
         ensures held { HeldAfter self.old telegram self.new }
         ensures placed { IsGroup self.new }
@@ -79,8 +85,9 @@ impl Assembly {
         Ok(Added::New)
     }
 
-    /// For each of the positions 0 to 7, whether it is missing: it is at most N_TOTAL and not held, and neither is the
-    /// position before it held with M_DUP 1, nor the one after it with M_DUP 2. If nothing is held, none is missing.
+    /// True at exactly the positions, of 0 to 7, that are missing: those at most N_TOTAL that aren't held, of which
+    /// neither the position before is held with M_DUP 1, nor the one after with M_DUP 2. If nothing is held, none is
+    /// missing.
     pub fn missing(&self) -> [bool; 8]
         ensures { (p : ℕ) → (slice_get result p ≡ Some true) ↔ IsMissing self.now p }
     {
@@ -93,7 +100,7 @@ impl Assembly {
         missing
     }
 
-    /// Whether something is held and no position is missing.
+    /// True exactly if something is held and no position is missing.
     pub fn is_complete(&self) -> bool
         ensures { IsTrue result ↔ IsWhole self.now }
     {
@@ -110,7 +117,7 @@ impl Assembly {
         first_in(&self.held)
     }
 
-    /// N_TOTAL of the telegrams that are held, if there are any.
+    /// N_TOTAL of the telegrams that are held, if any are.
     fn total(&self) -> Option<usize>
         ensures small { IfSome result (λ total. total < 8) }
         ensures held { IfSome result (λ total. (t : TelegramContent) × Holds self.now t) }

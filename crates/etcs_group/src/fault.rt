@@ -11,7 +11,7 @@ use std::fmt;
 pub enum GroupFault {
     /// Nothing is held, or a position is missing.
     NotWhole,
-    /// Memory was refused.
+    /// Out of memory.
     Memory,
 }
 
@@ -23,7 +23,7 @@ impl fmt::Display for GroupFault {
     fn fmt<W: fmt::Write>(&self, f: &mut fmt::Formatter<W>) -> fmt::Result {
         f.write_str(match self {
             GroupFault::NotWhole => "the group isn't whole",
-            GroupFault::Memory => "memory was refused",
+            GroupFault::Memory => "out of memory",
         })
     }
 }

@@ -80,12 +80,16 @@ impl Groups {
         }
     }
 
-    /// Adds the telegram to its group, which begins with it if there is none yet. If it clashes with what the group holds
-    /// ([`Assembly::add`]), it is dropped and the group counts a clash.
+    /// Adds the telegram to the group of its NID_C and NID_BG. If it clashes with what that group holds
+    /// ([`Assembly::add`]), it is dropped and the group counts a clash, up to 2^64 - 1; all other groups are as before.
+    /// If there is no such group, it begins, after all others.
+    ///
+    /// So after any calls that succeed, the groups are those of their telegrams in this order, and no two have the same
+    /// numbers.
     ///
     /// # Errors
     ///
-    /// Where memory is refused. The groups are then as before, and the telegram is dropped.
+    /// `AllocError` if out of memory. The groups are then as before, and the telegram is dropped.
     pub fn add(&mut self, telegram: Telegram) -> Result<(), AllocError>
         ensures ok { OnOk result (Adds self.old telegram self.new) }
         // So after any calls, the groups are those of the telegrams that were added.
@@ -99,12 +103,13 @@ impl Groups {
         Ok(())
     }
 
-    /// Appends a line for each group, in their order: its numbers, what is held of it, and how many telegrams clashed,
-    /// if any.
+    /// Appends a line for each group, in their order: `group`, NID_C and NID_BG; `complete`, `missing` with exactly the
+    /// positions that are missing, or `empty` if nothing is held; and `clashes` with how many telegrams clashed, if any
+    /// did.
     ///
     /// # Errors
     ///
-    /// Where memory is refused. Nothing is then appended.
+    /// `AllocError` if out of memory. Nothing is then appended.
     pub fn write(&self, out: &mut Vec<u8>) -> Result<(), AllocError>
         ensures ok { OnOk result ((text : List ℕ) × AreGroupLines self.now text × (out.new.items ≡ out.old.items ++ text)) }
         ensures err { OnErr result (out.new.items ≡ out.old.items) }

@@ -10,7 +10,7 @@ use crate::inner;
 use etcs_telegram::Telegram;
 
 impl Assembly {
-    /// The telegram that is held at a position of the group, 0 to 7, if one is: the one of this N_PIG.
+    /// The one held telegram of this N_PIG, 0 to 7. `None` exactly if none is held at this position.
     pub fn telegram(&self, position: usize) -> Option<&Telegram>
         ensures some { IfSome result (λ t. Holds self.now t.now × (t.now.header.n_pig ≡ position)) }
         ensures only { IfSome result (λ t. (u : TelegramContent) → Holds self.now u → u.header.n_pig ≡ position → u ≡ t.now) }
@@ -19,7 +19,7 @@ impl Assembly {
         self.at(position)
     }
 
-    /// NID_C and NID_BG of the telegrams that are held, if there are any.
+    /// NID_C and NID_BG, which all held telegrams have. `None` exactly if nothing is held.
     pub fn group(&self) -> Option<(u16, u16)>
         ensures held { IfSome result (λ g. (t : TelegramContent) × Holds self.now t) }
         ensures group { IfSome result (λ g. (t : TelegramContent) → Holds self.now t → (t.header.nid_c ≡ g.0) × (t.header.nid_bg ≡ g.1)) }

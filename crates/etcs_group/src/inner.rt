@@ -7,7 +7,7 @@ ghost use Rattle.etcs_group.specs.Groups.{Holds, HoldsNone};
 use crate::assembly::Assembly;
 pub use crate::states::{write_number, write_positions};
 
-/// NID_C and NID_BG of the telegrams that are held, if there are any.
+/// NID_C and NID_BG, which all held telegrams have. `None` exactly if nothing is held.
 pub fn group(assembly: &Assembly) -> Option<(u16, u16)>
     ensures held { IfSome result (λ g. (t : TelegramContent) × Holds assembly.now t) }
     ensures group { IfSome result (λ g. (t : TelegramContent) → Holds assembly.now t → (t.header.nid_c ≡ g.0) × (t.header.nid_bg ≡ g.1)) }

@@ -3,8 +3,8 @@
 ghost use Rattle.etcs_group.specs.OneGroups.{OneList, OneOfEach, OneText, OwnTelegrams};
 ghost use Rattle.etcs_group.specs.Orders.{AnyOrder};
 
-/// If no telegram of a list is refused by the held set that those before it make, then none is in any other order of the
-/// list, and the held set is the same.
+/// If no telegram of a list is refused by what those before it make, none is in any other order of the list, and what
+/// is held then is the same.
 pub fn any_order()
     ensures { AnyOrder }
 {}
@@ -17,8 +17,8 @@ pub fn one_list()
     ensures text { OneText }
 {}
 
-/// A group is what its own telegrams make, in their order: it holds what an `Assembly` holds after these alone, and it
-/// counts as clashes those that the `Assembly` refuses.
+/// A group holds what an `Assembly` holds after the group's own telegrams alone, in their order, and its clashes are
+/// those of them that the `Assembly` refuses.
 pub fn own_telegrams()
     ensures { OwnTelegrams }
 {}

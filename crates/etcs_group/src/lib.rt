@@ -1,5 +1,6 @@
-//! Balise groups: telegrams put together in any order, and the packets of the whole group; and the groups of many
-//! telegrams ([`Groups`]).
+//! Balise groups: [`Assembly`] takes the telegrams of one group in any order, reports each [`Clash`] and what is
+//! missing, and returns the packets of the whole group (`message`, or a [`GroupFault`]). [`Groups`] sorts many
+//! telegrams by group and writes a line for each.
 //!
 //! ```rust
 //! let mut assembly = Assembly::new();

@@ -9,13 +9,14 @@ use etcs_packets::Packet;
 use std::alloc::{AllocError, Global};
 
 impl Assembly {
-    /// The group's message (SUBSET-026, 3.16.2.4): copies of the packets of the held telegrams, by rising position. A
-    /// position gives none if the one before it is held and one of the two is the other's duplicate.
+    /// The group's message (SUBSET-026, 3.16.2.4). If it succeeds, the group is whole, and the packets are equal to
+    /// those of the held telegrams, by rising position; a position gives none if the one before it is held and one of
+    /// the two is the other's duplicate.
     ///
     /// # Errors
     ///
-    /// - [`GroupFault::NotWhole`] exactly where nothing is held or a position is missing;
-    /// - [`GroupFault::Memory`] where neither is so, and memory for the copies is refused.
+    /// - [`GroupFault::NotWhole`] exactly if nothing is held or a position is missing;
+    /// - [`GroupFault::Memory`] if the group is whole, and it is out of memory for the copies.
     ///
     /// What is held doesn't change.
     pub fn message(&self, alloc: Global) -> Result<Vec<Packet>, GroupFault>

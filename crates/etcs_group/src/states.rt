@@ -14,7 +14,7 @@ use std::alloc::AllocError;
 ///
 /// # Errors
 ///
-/// Where memory is refused. A part of the text may then be in the page, after what was there.
+/// `AllocError` if out of memory. A part of the text may then be in the page, after what was there.
 #[tactic(auto, using(etcs_packet_text::specs::laws::Fronts::begins_more))]
 pub(crate) fn write_state(assembly: &Assembly, page: &mut Page) -> Result<(), AllocError>
     ensures ok { OnOk result ((text : List ℕ) × StateText assembly.now text × (page.new ≡ page.old ++ text)) }
@@ -30,11 +30,11 @@ pub(crate) fn write_state(assembly: &Assembly, page: &mut Page) -> Result<(), Al
     write_positions(&assembly.missing(), page)
 }
 
-/// Appends the positions of those that are true, each after a blank.
+/// Appends in decimal, in rising order, the positions at which the list is true, each after a blank.
 ///
 /// # Errors
 ///
-/// Where memory is refused. A part of the text may then be in the page, after what was there.
+/// `AllocError` if out of memory. A part of the text may then be in the page, after what was there.
 #[tactic(auto, using(etcs_packet_text::specs::laws::Fronts::begins_more))]
 pub fn write_positions(marked: &[bool; 8], page: &mut Page) -> Result<(), AllocError>
     ensures ok { OnOk result (page.new ≡ page.old ++ positions_text (trues 8 marked.now)) }
@@ -48,11 +48,11 @@ pub fn write_positions(marked: &[bool; 8], page: &mut Page) -> Result<(), AllocE
     Ok(())
 }
 
-/// Appends a number after what comes before it.
+/// Appends the bytes of `front` and a number in decimal after them.
 ///
 /// # Errors
 ///
-/// Where memory is refused. A part of the text may then be in the page, after what was there.
+/// `AllocError` if out of memory. A part of the text may then be in the page, after what was there.
 #[tactic(auto, using(etcs_packet_text::specs::laws::Fronts::begins_more))]
 pub fn write_number(front: &[u8], number: u64, page: &mut Page) -> Result<(), AllocError>
     ensures ok { OnOk result (page.new ≡ page.old ++ (front.now ++ decimal number)) }

@@ -10,28 +10,34 @@ use Rattle.etcs_bodies.specs.Formats.{listed}
 use Rattle.etcs_bodies.specs.PacketFormats.{PacketFormat, packet_of, packet_fault, IsPacketOf, packet_reading}
 use Rattle.etcs_parts.specs.BalisesAt.{BaliseAtValue, balise_at_format}
 
+-- a list of balise groups: its direction and its numbers and parts
 pub record BaliseListValue : Type 0 where
   pub dir : ℕ
   pub balises : List BaliseAtValue
 
+-- a list of balise groups, of this direction and these numbers and parts, in the order of the constructor's
 abbrev pub balise_list_value : ℕ → List BaliseAtValue → BaliseListValue
 balise_list_value dir balises = record { dir = dir; balises = balises }
 
+-- the format of a list of balise groups: its direction, and its variables after L_PACKET in the order of sending
 abbrev pub balise_list_packet : PacketFormat (List BaliseAtValue) BaliseListValue
 balise_list_packet =
     packet_of (λ p. p.dir) (λ p. p.balises) (λ dir b. balise_list_value dir b) (
     listed N_ITER balise_at_format)
 
--- no other numbers have lists
+-- NID_PACKET, if the number is neither 49 nor 63
 abbrev pub nid_fault : ℕ → Option BuildFault
 nid_fault nid = if nid == 49 then None else if nid == 63 then None else Some (NotAdmitted NID_PACKET)
 
--- why it is none with this number, where each of its groups is one
+-- the first fault of a list of balise groups: a number that is neither 49 nor 63, the direction, then the
+-- count of groups; the groups aren't looked at again
 abbrev pub balise_list_fault : ℕ → BaliseListValue → Option BuildFault
 balise_list_fault nid p = nid_fault nid or_else packet_fault balise_list_packet p
 
+-- nothing is wrong with a list of balise groups, nor with any part inside it
 abbrev pub IsBaliseList : ℕ → BaliseListValue → Type 0
 IsBaliseList nid p = (nid_fault nid ≡ None) × IsPacketOf balise_list_packet p
 
+-- the variables of a list of balise groups after L_PACKET, in the order of sending
 abbrev pub balise_list_reading : BaliseListValue → Reading
 balise_list_reading = packet_reading balise_list_packet

@@ -7,6 +7,7 @@ use Rattle.etcs_bodies.specs.Formats.{number, ◌⊗◌, part}
 use Rattle.etcs_bodies.specs.PacketFormats.{PacketFormat, packet_of, packet_fault, IsPacketOf, packet_reading}
 use Rattle.etcs_parts.specs.Authorities.{AuthorityValue, authority_format}
 
+-- packet 15: its direction and its numbers and parts
 pub record Level23MaValue : Type 0 where
   pub dir : ℕ
   pub q_scale : ℕ
@@ -14,9 +15,11 @@ pub record Level23MaValue : Type 0 where
   pub t_loa : ℕ
   pub authority : AuthorityValue
 
+-- packet 15, of this direction and these numbers and parts, in the order of the constructor's
 abbrev pub level23_ma_value : ℕ → ℕ → ℕ → ℕ → AuthorityValue → Level23MaValue
 level23_ma_value dir q_scale v_loa t_loa authority = record { dir = dir; q_scale = q_scale; v_loa = v_loa; t_loa = t_loa; authority = authority }
 
+-- the format of packet 15: its direction, and its variables after L_PACKET in the order of sending
 abbrev pub level23_ma_packet : PacketFormat (ℕ × (ℕ × (ℕ × AuthorityValue))) Level23MaValue
 level23_ma_packet =
     packet_of (λ p. p.dir)
@@ -24,12 +27,15 @@ level23_ma_packet =
     (λ dir b. level23_ma_value dir b.0 b.1.0 b.1.1.0 b.1.1.1) (
     number Q_SCALE ⊗ number V_LOA ⊗ number T_LOA ⊗ part authority_format)
 
--- why it is none, where its authority is one
+-- the first fault of packet 15: the direction, then its numbers in the order of the variables; the authority
+-- isn't looked at again
 abbrev pub level23_ma_fault : Level23MaValue → Option BuildFault
 level23_ma_fault = packet_fault level23_ma_packet
 
+-- nothing is wrong with packet 15, nor with any part inside it
 abbrev pub IsLevel23Ma : Level23MaValue → Type 0
 IsLevel23Ma = IsPacketOf level23_ma_packet
 
+-- the variables of packet 15 after L_PACKET, in the order of sending
 abbrev pub level23_ma_reading : Level23MaValue → Reading
 level23_ma_reading = packet_reading level23_ma_packet

@@ -11,37 +11,46 @@ use Rattle.etcs_grouped.specs.declared.track_state.TrackState.TheVariants.{Initi
 
 -- ---- From where on the initial states are resumed, or a first condition and further ones.
 
+-- a distance, or a first condition and further ones
 abbrev pub StateValue : Type 0
 StateValue = ℕ ⊎ (ConditionValue × List ConditionValue)
 
+-- the state that packet 68 gives, without the memory that holds it: a distance, or a first condition and further ones
 abbrev pub state_of : TrackState → StateValue
 state_of (Initial n) = inl n
 state_of (Conditions first further) = inr (first, further.items)
 
+-- the format of such a state: after Q_TRACKINIT, D_TRACKINIT if it is 1, else the conditions
 abbrev pub state_format : Format StateValue
 state_format = either Q_TRACKINIT (number D_TRACKINIT) (entries condition_format)
 
 -- ---- The packet.
 
+-- packet 68: its direction and its numbers and parts
 pub record TrackConditionValue : Type 0 where
   pub dir : ℕ
   pub q_scale : ℕ
   pub state : StateValue
 
+-- packet 68, of this direction and these numbers and parts, in the order of the constructor's
 abbrev pub track_condition_value : ℕ → ℕ → StateValue → TrackConditionValue
 track_condition_value dir q_scale state = record { dir = dir; q_scale = q_scale; state = state }
 
+-- the format of packet 68: its direction, and its variables after L_PACKET in the order of sending
 abbrev pub track_condition_packet : PacketFormat (ℕ × StateValue) TrackConditionValue
 track_condition_packet =
     packet_of (λ p. p.dir) (λ p. (p.q_scale, p.state)) (λ dir b. track_condition_value dir b.0 b.1) (
     number Q_SCALE ⊗ state_format)
 
--- why it is none, where each of its conditions is one
+-- the first fault of packet 68: the direction, the scale, then the distance or the count of further conditions;
+-- the conditions aren't looked at again
 abbrev pub track_condition_fault : TrackConditionValue → Option BuildFault
 track_condition_fault = packet_fault track_condition_packet
 
+-- nothing is wrong with packet 68, nor with any part inside it
 abbrev pub IsTrackCondition : TrackConditionValue → Type 0
 IsTrackCondition = IsPacketOf track_condition_packet
 
+-- the variables of packet 68 after L_PACKET, in the order of sending
 abbrev pub track_condition_reading : TrackConditionValue → Reading
 track_condition_reading = packet_reading track_condition_packet

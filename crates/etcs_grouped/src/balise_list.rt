@@ -40,15 +40,19 @@ impl<const NID: u8> Model for BaliseList<NID> {
 }
 
 impl<const NID: u8> BaliseList<NID> {
-    /// The list.
+    /// The list of these groups, returned exactly if none of the errors below applies. Groups are values already, and
+    /// aren't checked again.
     ///
     /// - `dir`: Q_DIR, for which direction of the train it holds (0 reverse, 1 nominal, 2 both);
     /// - `balises`: the groups; without any, the train may run over none.
     ///
     /// # Errors
     ///
-    /// The first of these, and the groups: [`BuildFault::NotAdmitted`] with NID_PACKET, where `NID` is neither 49 nor
-    /// 63, or with Q_DIR, above 2; [`BuildFault::TooMany`] with N_ITER, where there are more than 31 groups.
+    /// The first of these that applies, with the groups that were given:
+    ///
+    /// - `NotAdmitted(NID_PACKET)`: `NID` is neither 49 nor 63.
+    /// - `NotAdmitted(Q_DIR)`: the direction is above 2.
+    /// - `TooMany(N_ITER)`: there are more than 31 groups.
     pub fn new(dir: u8, balises: Vec<BaliseAt>) -> Result<Self, (BuildFault, Vec<BaliseAt>)>
         ensures ok { IfOk result (λ p. p ≡ balise_list_value dir balises.items) }
         ensures none { IfOk result (λ p. balise_list_fault NID (balise_list_value dir balises.items) ≡ None) }
@@ -86,7 +90,7 @@ impl<const NID: u8> BaliseList<NID> {
     }
 }
 
-/// Refuses a number of other packets, or a direction that is none.
+/// Refuses a number of other packets, or a direction that Q_DIR doesn't admit.
 fn check_head(nid: u8, dir: u8) -> Result<(), BuildFault>
     ensures nid { OnOk result (nid_fault nid ≡ None) }
     ensures dir { OnOk result (number_fault Q_DIR dir ≡ None) }
@@ -98,7 +102,7 @@ fn check_head(nid: u8, dir: u8) -> Result<(), BuildFault>
     }
 }
 
-/// A number whose packets are lists of balise groups.
+/// `N` is 49 or 63, the numbers whose packets are lists of balise groups.
 pub trait ListNumber<const N: u8> {
     ghost listed: { nid_fault N ≡ None };
 

@@ -17,7 +17,7 @@ use std::marker::Model;
 /// How many bits of its row the length of a packet can count.
 const ROW_LIMIT: usize = 8168;
 
-/// The entry of a packet that has a scale, a first entry and further ones.
+/// An entry of packets that have a scale, a first entry and further ones, with their number.
 pub trait Chained: Entry {
     ghost use Rattle.std.specs.Prelude.{ℕ};
 
@@ -29,7 +29,7 @@ pub trait Chained: Entry {
     ghost typed: { row_to ToTrain PACKET ≡ Some (chain_row Self.Part.row whole) };
 }
 
-/// A packet of a scale, a first entry and further ones.
+/// A packet of a scale, a first entry and further ones, each a value of the entry's type: packet 5, 21, 27 or 80.
 #[derive(Debug, Drop, PartialEq, Eq)]
 pub struct Chain<E: Entry> {
     dir: u8,
@@ -71,7 +71,7 @@ impl<E: Entry> Chain<E> {
         self.entries.first()
     }
 
-    /// The packet of these entries, or the first fault and the entries.
+    /// The packet of these entries, returned exactly if it has no fault; else the first fault, with the entries.
     pub(crate) fn build(
         dir: u8,
         q_scale: u8,

@@ -12,7 +12,7 @@ use etcs_vars::{BuildFault, Var};
 use std::alloc::{AllocError, Global};
 use std::marker::Model;
 
-/// The conditional level transition order: to one of these levels, where the train isn't in one of them (packet 46;
+/// The conditional level transition order: to one of these levels, if the train isn't in one of them (packet 46;
 /// SUBSET-026, 7.4.2).
 #[derive(Debug, Drop, PartialEq, Eq)]
 pub struct ConditionalLevelOrder {
@@ -33,7 +33,8 @@ impl Model for ConditionalLevelOrder {
 }
 
 impl ConditionalLevelOrder {
-    /// The order.
+    /// The order to these levels, returned exactly if none of the errors below applies. Levels are values already, and
+    /// aren't checked again.
     ///
     /// - `dir`: Q_DIR, for which direction of the train it holds (0 reverse, 1 nominal, 2 both);
     /// - `first`: the level of the highest priority;
@@ -41,8 +42,10 @@ impl ConditionalLevelOrder {
     ///
     /// # Errors
     ///
-    /// The first of these, and the further levels: [`BuildFault::NotAdmitted`] with Q_DIR, above 2;
-    /// [`BuildFault::TooMany`] with N_ITER, where `further` has more than 31 levels.
+    /// The first of these that applies, with the further levels that were given:
+    ///
+    /// - `NotAdmitted(Q_DIR)`: the direction is above 2.
+    /// - `TooMany(N_ITER)`: `further` has more than 31 levels.
     pub fn new(
         dir: u8,
         first: Level,

@@ -39,7 +39,8 @@ impl Model for FixedText {
 }
 
 impl FixedText {
-    /// The message.
+    /// The message of these parts, returned exactly if the error below doesn't apply. The frame is a value already, and
+    /// isn't checked again.
     ///
     /// - `dir`: Q_DIR, for which direction of the train it holds (0 reverse, 1 nominal, 2 both);
     /// - `frame`: when and where the text is shown, and how it is confirmed;
@@ -47,7 +48,7 @@ impl FixedText {
     ///
     /// # Errors
     ///
-    /// [`BuildFault::NotAdmitted`] with Q_DIR, above 2.
+    /// `NotAdmitted(Q_DIR)`: the direction is above 2.
     pub fn new(dir: u8, frame: TextFrame, q_text: u8) -> Result<FixedText, BuildFault>
         ensures ok { IfOk result (λ p. p ≡ fixed_text_value dir frame q_text) }
         ensures none { IfOk result (λ p. fixed_text_fault (fixed_text_value dir frame q_text) ≡ None) }

@@ -34,17 +34,15 @@ impl Model for InfillLocation {
 }
 
 impl InfillLocation {
-    /// The location.
+    /// The location at this group, returned exactly if none of the errors below applies.
     ///
     /// - `dir`: Q_DIR, for which direction of the train it holds (0 reverse, 1 nominal, 2 both);
-    /// - `nid_c`: the country or region of the group, 0 to 1,023, where it is another than that of the group that sends
-    ///   the packet;
+    /// - `nid_c`: the country or region of the group, 0 to 1,023, if it isn't that of the group that sends the packet;
     /// - `nid_bg`: the number of the group, 0 to 16,383.
     ///
     /// # Errors
     ///
-    /// The first of these: [`BuildFault::NotAdmitted`] with Q_DIR, above 2, with NID_C, above 1,023, or with NID_BG,
-    /// above 16,383.
+    /// `NotAdmitted` with the first of Q_DIR (0 to 2), NID_C (10 bits) and NID_BG (14) that doesn't admit its number.
     pub fn new(dir: u8, nid_c: Option<u16>, nid_bg: u16) -> Result<InfillLocation, BuildFault>
         ensures ok { IfOk result (λ p. p ≡ infill_location_value dir nid_c nid_bg) }
         ensures none { IfOk result (λ p. infill_location_fault (infill_location_value dir nid_c nid_bg) ≡ None) }
@@ -55,7 +53,7 @@ impl InfillLocation {
         Ok(InfillLocation { dir, balise })
     }
 
-    /// NID_C: the country or region of the group, where it is another than that of the group that sends the packet.
+    /// NID_C: the country or region of the group, if it isn't that of the group that sends the packet.
     pub fn nid_c(&self) -> Option<u16>
         ensures { result ≡ self.now.nid_c }
     {

@@ -42,7 +42,8 @@ impl Model for Level23Ma {
 }
 
 impl Level23Ma {
-    /// A movement authority.
+    /// The movement authority of these parts, returned exactly if none of the errors below applies. `authority` is a
+    /// value already, and isn't checked again.
     ///
     /// - `dir`: Q_DIR, for which direction of the train it holds (0 reverse, 1 nominal, 2 both);
     /// - `q_scale`: the unit of all distances (0: 10 cm, 1: 1 m, 2: 10 m);
@@ -52,8 +53,8 @@ impl Level23Ma {
     ///
     /// # Errors
     ///
-    /// [`BuildFault::NotAdmitted`] with the first of Q_DIR, Q_SCALE, V_LOA or T_LOA that doesn't admit its number: Q_DIR and Q_SCALE
-    /// above 2, a speed above 120, a time above 1,023; and the authority.
+    /// `NotAdmitted` with the first of Q_DIR (0 to 2), Q_SCALE (0 to 2), V_LOA (0 to 120) and T_LOA (10 bits) that
+    /// doesn't admit its number, with the authority that was given.
     pub fn new(
         dir: u8,
         q_scale: u8,

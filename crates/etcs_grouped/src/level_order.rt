@@ -19,7 +19,7 @@ macro_rules! fields {
     ($then:ident: $($with:tt)*) => { $then! { { $($with)* } q_scale: Q_SCALE u8, d_leveltr: D_LEVELTR u16; levels: Entries } };
 }
 
-/// The level transition order: to which level the train goes over, and where (packet 41; SUBSET-026, 7.4.2).
+/// The level transition order: to which level the train changes, and where (packet 41; SUBSET-026, 7.4.2).
 #[derive(Debug, Drop, PartialEq, Eq)]
 pub struct LevelOrder {
     dir: u8,
@@ -41,7 +41,8 @@ impl Model for LevelOrder {
 }
 
 impl LevelOrder {
-    /// The order.
+    /// The order to these levels, returned exactly if none of the errors below applies. Levels are values already, and
+    /// aren't checked again.
     ///
     /// - `dir`: Q_DIR, for which direction of the train it holds (0 reverse, 1 nominal, 2 both);
     /// - `q_scale`: the unit of the distance and of the lengths of acknowledgement (0: 10 cm, 1: 1 m, 2: 10 m);
@@ -51,8 +52,11 @@ impl LevelOrder {
     ///
     /// # Errors
     ///
-    /// The first of these, and the further levels: [`BuildFault::NotAdmitted`] with Q_DIR or Q_SCALE, above 2, or
-    /// with D_LEVELTR, above 32,767; [`BuildFault::TooMany`] with N_ITER, where `further` has more than 31 levels.
+    /// The first of these that applies, with the further levels that were given:
+    ///
+    /// - `NotAdmitted` with the first of Q_DIR (0 to 2), Q_SCALE (0 to 2) and D_LEVELTR (15 bits) that doesn't admit
+    ///   its number.
+    /// - `TooMany(N_ITER)`: `further` has more than 31 levels.
     pub fn new(
         dir: u8,
         q_scale: u8,

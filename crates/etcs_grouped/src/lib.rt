@@ -1,4 +1,7 @@
-//! The packets to the train with groups or lists.
+//! The packets to the train with groups or lists: 5, 12, 15, 21, 27, 41, 46, 49, 58, 63, 68, 72, 76, 80 and 136.
+//!
+//! Each is [`Packetlike`], `Framed` and `Variables`: a packet and its variables determine each other. Packets 5, 21, 27
+//! and 80 are one generic packet, [`Chain`].
 #![tactic(auto)]
 
 mod balise_list;

@@ -21,7 +21,8 @@ impl Chained for Link {
 }
 
 impl Chain<Link> {
-    /// The groups ahead.
+    /// The packet of these groups, returned exactly if none of the errors below applies. Groups are values already, and
+    /// aren't checked again.
     ///
     /// - `dir`: Q_DIR, for which direction of the train they hold (0 reverse, 1 nominal, 2 both);
     /// - `q_scale`: the unit of all distances (0: 10 cm, 1: 1 m, 2: 10 m);
@@ -30,8 +31,10 @@ impl Chain<Link> {
     ///
     /// # Errors
     ///
-    /// The first of these, and the further groups: [`BuildFault::NotAdmitted`] with Q_DIR or Q_SCALE, above 2;
-    /// [`BuildFault::TooMany`] with N_ITER, where `further` has more than 31 groups.
+    /// The first of these that applies, with the further groups that were given:
+    ///
+    /// - `NotAdmitted` with Q_DIR, then with Q_SCALE: the number is above 2.
+    /// - `TooMany(N_ITER)`: `further` has more than 31 groups.
     pub fn new(
         dir: u8,
         q_scale: u8,

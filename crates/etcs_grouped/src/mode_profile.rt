@@ -22,7 +22,8 @@ impl Chained for ModeSection {
 }
 
 impl Chain<ModeSection> {
-    /// The areas ahead.
+    /// The packet of these areas, returned exactly if none of the errors below applies. Areas are values already, and
+    /// aren't checked again.
     ///
     /// - `dir`: Q_DIR, for which direction of the train they hold (0 reverse, 1 nominal, 2 both);
     /// - `q_scale`: the unit of all distances (0: 10 cm, 1: 1 m, 2: 10 m);
@@ -31,8 +32,10 @@ impl Chain<ModeSection> {
     ///
     /// # Errors
     ///
-    /// The first of these, and the further areas: [`BuildFault::NotAdmitted`] with Q_DIR or Q_SCALE, above 2;
-    /// [`BuildFault::TooMany`] with N_ITER, where `further` has more than 31 areas.
+    /// The first of these that applies, with the further areas that were given:
+    ///
+    /// - `NotAdmitted` with Q_DIR, then with Q_SCALE: the number is above 2.
+    /// - `TooMany(N_ITER)`: `further` has more than 31 areas.
     pub fn new(
         dir: u8,
         q_scale: u8,

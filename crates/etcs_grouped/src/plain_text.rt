@@ -39,7 +39,8 @@ impl Model for PlainText {
 }
 
 impl PlainText {
-    /// The message.
+    /// The message of these parts, returned exactly if none of the errors below applies. The frame is a value already,
+    /// and isn't checked again.
     ///
     /// - `dir`: Q_DIR, for which direction of the train it holds (0 reverse, 1 nominal, 2 both);
     /// - `frame`: when and where the text is shown, and how it is confirmed;
@@ -47,8 +48,10 @@ impl PlainText {
     ///
     /// # Errors
     ///
-    /// The first of these, and the text: [`BuildFault::NotAdmitted`] with Q_DIR, above 2; [`BuildFault::TooMany`] with
-    /// L_TEXT, where the text has more than 255 bytes.
+    /// The first of these that applies, with the text that was given:
+    ///
+    /// - `NotAdmitted(Q_DIR)`: the direction is above 2.
+    /// - `TooMany(L_TEXT)`: the text has more than 255 bytes.
     pub fn new(dir: u8, frame: TextFrame, text: Vec<u8>) -> Result<PlainText, (BuildFault, Vec<u8>)>
         ensures ok { IfOk result (λ p. p ≡ plain_text_value dir frame text.items) }
         ensures none { IfOk result (λ p. plain_text_fault (plain_text_value dir frame text.items) ≡ None) }

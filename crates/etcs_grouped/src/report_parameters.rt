@@ -45,7 +45,8 @@ impl Model for ReportParameters {
 }
 
 impl ReportParameters {
-    /// The parameters.
+    /// The parameters of these numbers and places, returned exactly if none of the errors below applies. Places are
+    /// values already, and aren't checked again.
     ///
     /// - `dir`: Q_DIR, for which direction of the train they hold (0 reverse, 1 nominal, 2 both);
     /// - `q_scale`: the unit of all distances (0: 10 cm, 1: 1 m, 2: 10 m);
@@ -56,8 +57,11 @@ impl ReportParameters {
     ///
     /// # Errors
     ///
-    /// The first of these, and the places: [`BuildFault::NotAdmitted`] with Q_DIR or Q_SCALE, above 2, with D_CYCLOC,
-    /// above 32,767, or with M_LOC, above 7; [`BuildFault::TooMany`] with N_ITER, where there are more than 31 places.
+    /// The first of these that applies, with the places that were given:
+    ///
+    /// - `NotAdmitted` with the first of Q_DIR (0 to 2), Q_SCALE (0 to 2), D_CYCLOC (15 bits) and M_LOC (3) that
+    ///   doesn't admit its number.
+    /// - `TooMany(N_ITER)`: there are more than 31 places.
     pub fn new(
         dir: u8,
         q_scale: u8,

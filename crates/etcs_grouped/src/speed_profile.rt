@@ -21,7 +21,8 @@ impl Chained for Speed {
 }
 
 impl Chain<Speed> {
-    /// A profile of speeds.
+    /// The profile of these speeds, returned exactly if none of the errors below applies. Speeds are values already,
+    /// and aren't checked again.
     ///
     /// - `dir`: Q_DIR, for which direction of the train it holds (0 reverse, 1 nominal, 2 both);
     /// - `q_scale`: the unit of all distances (0: 10 cm, 1: 1 m, 2: 10 m);
@@ -30,9 +31,11 @@ impl Chain<Speed> {
     ///
     /// # Errors
     ///
-    /// The first of these, and the speeds: [`BuildFault::NotAdmitted`] with Q_DIR or Q_SCALE, above 2;
-    /// [`BuildFault::TooMany`] with N_ITER, where `further` has more than 31 speeds; [`BuildFault::TooLong`], where
-    /// the variables after L_PACKET take more than 8,168 bits.
+    /// The first of these that applies, with the first speed and the further ones that were given:
+    ///
+    /// - `NotAdmitted` with Q_DIR, then with Q_SCALE: the number is above 2.
+    /// - `TooMany(N_ITER)`: `further` has more than 31 speeds.
+    /// - `TooLong`: the variables after L_PACKET take more than 8,168 bits.
     pub fn new(
         dir: u8,
         q_scale: u8,

@@ -36,7 +36,8 @@ impl Model for TrackCondition {
 }
 
 impl TrackCondition {
-    /// The track conditions.
+    /// The packet of this state, returned exactly if none of the errors below applies. Conditions are values already,
+    /// and aren't checked again.
     ///
     /// - `dir`: Q_DIR, for which direction of the train they hold (0 reverse, 1 nominal, 2 both);
     /// - `q_scale`: the unit of all distances (0: 10 cm, 1: 1 m, 2: 10 m);
@@ -45,9 +46,11 @@ impl TrackCondition {
     ///
     /// # Errors
     ///
-    /// The first of these, and the state: [`BuildFault::NotAdmitted`] with Q_DIR or Q_SCALE, above 2, or
-    /// with D_TRACKINIT, above 32,767; [`BuildFault::TooMany`] with N_ITER, where there are more than 31 further
-    /// conditions.
+    /// The first of these that applies, with a state of the same distance or conditions:
+    ///
+    /// - `NotAdmitted` with the first of Q_DIR (0 to 2), Q_SCALE (0 to 2) and D_TRACKINIT (15 bits) that doesn't admit
+    ///   its number.
+    /// - `TooMany(N_ITER)`: there are more than 31 further conditions.
     pub fn new(
         dir: u8,
         q_scale: u8,

@@ -1,4 +1,4 @@
-//! What track conditions say.
+//! The state of the track that packet 68 gives.
 
 ghost use Rattle.std.specs.Prelude.{◌≡◌, ◌≤◌, None, Some, length, OnOk, OnErr, IfOk, IfErr, IfSome, IfNone};
 ghost use Rattle.etcs_vars.specs.Reading.{spelled};
@@ -13,7 +13,8 @@ use etcs_vars::inner::{VarSink, Variables};
 use etcs_vars::{BuildFault, Var};
 use std::alloc::{AllocError, Global};
 
-/// What packet 68 says (SUBSET-026, 7.4.2). Distances are in steps of Q_SCALE.
+/// The state of the track that packet 68 gives (SUBSET-026, 7.4.2). Distances are in steps of Q_SCALE. Contracts see
+/// its distance or its conditions, and not the memory that holds them.
 #[derive(Debug, Drop, PartialEq, Eq)]
 pub enum TrackState {
     /// The initial states are resumed from this distance on, D_TRACKINIT.
@@ -101,7 +102,7 @@ pub(crate) fn copy_state(alloc: Global, state: &TrackState) -> Result<TrackState
     })
 }
 
-/// Whether both say the same.
+/// Whether both have the same distance, or the same conditions.
 pub(crate) fn same_state(first: &TrackState, second: &TrackState) -> bool
     ensures { result ≡ equal state_format (state_of first.now) (state_of second.now) }
 {

@@ -117,14 +117,16 @@ pub between_taken : (way : Way) (nid : ℕ) (old one two new : List ℕ) → old
 between_taken way nid old one two new kinded numbered named =
     taken (way_member way) (decimal nid ++ codes ",\"packets\":") old one new kinded (taken (decimal nid) (codes ",\"packets\":") one two new numbered named)
 
--- its packets and PADDING
-pub after_taken : (way : Way) (vs : List PacketValue) (padding : List Bool) (old one two three new : List ℕ) → old ≡ compact_text (packets_tree way vs) ++ one → one ≡ codes ",\"padding\":\"" ++ two → two ≡ map bit_digit padding ++ three → three ≡ codes "\"}" ++ new → old ≡ message_after way vs padding ++ new
-after_taken way vs padding old one two three new listed named padded last =
-    let z = compact_text (packets_tree way vs) in
-    let b = codes ",\"padding\":\"" in
+-- its PADDING, and its end
+pub padding_taken : (padding : List Bool) (old one two new : List ℕ) → old ≡ codes ",\"padding\":\"" ++ one → one ≡ map bit_digit padding ++ two → two ≡ codes "\"}" ++ new → old ≡ (codes ",\"padding\":\"" ++ (map bit_digit padding ++ codes "\"}")) ++ new
+padding_taken padding old one two new named padded last =
     let x = map bit_digit padding in
     let e = codes "\"}" in
-    taken z (b ++ (x ++ e)) old one new listed (taken b (x ++ e) one two new named (taken x e two three new padded last))
+    taken (codes ",\"padding\":\"") (x ++ e) old one new named (taken x e one two new padded last)
+
+-- its packets, and what comes after them
+pub after_taken : (way : Way) (vs : List PacketValue) (padding : List Bool) (old one new : List ℕ) → old ≡ compact_text (packets_tree way vs) ++ one → one ≡ (codes ",\"padding\":\"" ++ (map bit_digit padding ++ codes "\"}")) ++ new → old ≡ message_after way vs padding ++ new
+after_taken way vs padding old one new listed padded = taken (compact_text (packets_tree way vs)) (codes ",\"padding\":\"" ++ (map bit_digit padding ++ codes "\"}")) old one new listed padded
 
 -- the text of a message
 abbrev message_text : Way → MessageValue → List ℕ

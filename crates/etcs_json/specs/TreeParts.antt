@@ -1,4 +1,4 @@
--- Parts of trees, and what parts stand for.
+-- A typed message put together from its parts, as a tree and as a value.
 use Rattle.std.specs.Prelude.{ℕ, Bool, List, codes}
 use Rattle.serde_json.specs.Data.{Data, number, unsigned, string, object, no_members, member}
 use Rattle.etcs_tables.specs.declared.row.Way.{Way}

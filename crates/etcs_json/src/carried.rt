@@ -23,11 +23,11 @@ use etcs_vars::inner::Variables;
 use serde_json::Value;
 use std::alloc::Global;
 
-/// The item that a tree says, of which `entry` is the one with stand-ins. To the track there are none.
+/// The item whose tree the value is, where `entry` is that item with stand-ins. To the track there are none.
 ///
 /// # Errors
 ///
-/// `Refused` where no item has these bits; `Memory` where memory was refused.
+/// `Refused` if no item has these bits; `Memory` if out of memory.
 pub(crate) fn stored(
     alloc: Global,
     kind: Kind,
@@ -106,7 +106,7 @@ fn rename_item(bytes: &mut [u8], entry: &Entry, trees: &[Value])
 ///
 /// # Errors
 ///
-/// `Refused` where they are no item's; `Memory` where memory was refused.
+/// `Refused` if they are no item's; `Memory` if out of memory.
 fn read(alloc: Global, kind: Kind, bytes: &[u8]) -> Result<Entry, JsonFault>
     requires kind { kind ≢ Kind.Train }
     requires length { HasLength kind (bits bytes.now) }
@@ -122,7 +122,7 @@ fn read(alloc: Global, kind: Kind, bytes: &[u8]) -> Result<Entry, JsonFault>
     }
 }
 
-/// The telegram of these bytes, as of [`read`].
+/// The telegram of these bytes, as for [`read`].
 fn read_telegram(alloc: Global, size: Size, bytes: &[u8]) -> Result<Entry, JsonFault>
     requires { HasLength (kind_of size) (bits bytes.now) }
     ensures ok { IfOk result (λ e. (r : Reading) × EntryReads (kind_of size) (entry_value e) r × (spelled r ≡ bits bytes.now)) }
@@ -139,7 +139,7 @@ fn read_telegram(alloc: Global, size: Size, bytes: &[u8]) -> Result<Entry, JsonF
     }
 }
 
-/// The message of these bytes, as of [`read`].
+/// The message of these bytes, as for [`read`].
 fn read_message(alloc: Global, bytes: &[u8]) -> Result<Entry, JsonFault>
     requires { HasLength kind_is.Radio (bits bytes.now) }
     ensures ok { IfOk result (λ e. (r : Reading) × EntryReads kind_is.Radio (entry_value e) r × (spelled r ≡ bits bytes.now)) }
@@ -156,7 +156,7 @@ fn read_message(alloc: Global, bytes: &[u8]) -> Result<Entry, JsonFault>
     }
 }
 
-/// What a reader's fault is here.
+/// The fault that a reader's fault becomes here.
 fn fault_of(fault: ReadFault) -> JsonFault
     ensures refused { (i : ℕ) (x : Var) → result ≡ JsonFault.Refused i x → fault ≡ ReadFault.Refused i x }
     ensures shape { result ≢ JsonFault.Shape }

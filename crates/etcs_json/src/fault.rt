@@ -6,15 +6,15 @@ use etcs_vars::Var;
 use std::error::Error;
 use std::fmt;
 
-/// Why a JSON value is no item.
+/// Why a JSON value is no item. It is printed as its text (`json_fault_text`).
 #[derive(Clone, Copy, Debug, PartialEq, Eq)]
 pub enum JsonFault {
     /// It isn't the tree of an item of the kind.
     Shape,
-    /// It is a tree that was stored when fewer packets were typed, and its bits are no item's: `bit` is the first with
-    /// which no item continues, counted from 0, and `var` the variable that holds it.
+    /// It is a tree that was stored when fewer packets were typed, and no item of the kind has its bits: `bit` is the first
+    /// with which none continues, counted from 0, and `var` the variable that holds it.
     Refused { bit: usize, var: Var },
-    /// Memory was refused.
+    /// Out of memory.
     Memory,
 }
 
@@ -29,7 +29,7 @@ impl fmt::Display for JsonFault {
             JsonFault::Refused { bit, var } => {
                 write!(f, "the bits of no item: refused at bit {bit}, {var}")
             }
-            JsonFault::Memory => f.write_str("memory was refused"),
+            JsonFault::Memory => f.write_str("out of memory"),
         }
     }
 }

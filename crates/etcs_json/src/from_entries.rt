@@ -1,4 +1,4 @@
-//! Items of their trees.
+//! Items read from their trees.
 
 ghost use Rattle.std.specs.Prelude.{◌≡◌, ℕ, Err, IfOk, IfSome, IsSome};
 ghost use Rattle.serde_json.specs.View.{view};
@@ -20,21 +20,25 @@ use etcs_text::{Entry, Kind};
 use serde_json::Value;
 use std::alloc::{AllocError, Global};
 
-/// The item of the kind whose tree the value is: an object of exactly the members of a telegram of the kind's size, or of
-/// a message of the kind's way, whose pairs are in the order of sending and whose numbers are whole numbers without
-/// fraction or exponent. The digits of NID_RADIO may be in either case. A packet 49, 57, 58, 63, 68, 80 or 131 to the train
-/// may be in the form of packets that are kept as bits, as it was stored before these were typed: the item is then the one
-/// that has these bits.
+/// Returns the one item of the kind whose tree the value is. A packet 49, 57, 58, 63, 68, 80 or 131 to the train may be
+/// kept as bits in the tree, as it was stored before these were typed: the item is then the one of the kind that has the
+/// same bits.
 ///
-/// The caller makes the value, and bears what that takes: with serde_json some 120 bytes for each byte of the text, and stack
-/// for each level, which matters if the text isn't trusted. [`from_line`] makes no more of a line than an item may have.
+/// A tree of an item is an object of exactly the members of a telegram of the kind's size, or of a message of the kind's
+/// way, as [`to_value`](crate::to_value) lists them. Its pairs are in the order of sending, its numbers are whole, without
+/// fraction or exponent, and the digits of NID_RADIO may be in either case. With a tree that `to_value` makes of an item
+/// that has a spelling, and that item's kind, the result is never `Shape` or `Refused`.
+///
+/// The caller makes the value, and bears what that takes: with serde_json some 120 bytes for each byte of the text, and
+/// stack for each level, which matters if the text isn't trusted. [`from_line`] makes no more of a line than an item
+/// may have.
 ///
 /// # Errors
 ///
-/// - [`JsonFault::Shape`] where no item of the kind has this tree;
-/// - [`JsonFault::Refused`] where it has packets of this older form, and its bits are no item's: with the first bit with
-///   which no item of the kind continues, and the variable that holds it. Never of a message to the track;
-/// - [`JsonFault::Memory`] where memory was refused, whatever the value is.
+/// - [`JsonFault::Shape`] only if the value is no tree of an item of the kind, and none of this older form;
+/// - [`JsonFault::Refused`] only if it is such a tree and no item of the kind has its bits: with the first bit with which
+///   none continues, and the variable that holds it;
+/// - [`JsonFault::Memory`] if out of memory, whatever the value is.
 pub fn from_value(alloc: Global, kind: Kind, value: &Value) -> Result<Entry, JsonFault>
     ensures ok { IfOk result (λ e. TreeSays kind (view value.now) (entry_value e)) }
     ensures refused { (i : ℕ) (x : Var) → result ≡ Err (JsonFault.Refused i x) → TreeRefused kind (view value.now) i x }
@@ -47,14 +51,17 @@ pub fn from_value(alloc: Global, kind: Kind, value: &Value) -> Result<Entry, Jso
     }
 }
 
-/// The item of the kind whose JSON the line is. No more is made of the line than an item may have: in all that was tried, a
-/// line of 1 MiB took at most some 6 MB.
+/// Returns the one item of the kind whose JSON the line is: the line is UTF-8, and is read as a tree of this item, or of
+/// older JSON with the same bits, as described for [`from_value`]. No more is made of the line than an item may have: in all
+/// that was tried, a line of 1 MiB took at most some 6 MB.
 ///
 /// # Errors
 ///
-/// - [`JsonFault::Shape`] where the line isn't UTF-8 or JSON, or no item of the kind has its tree;
-/// - [`JsonFault::Refused`] as of [`from_value`];
-/// - [`JsonFault::Memory`] where memory was refused, whatever the line is.
+/// - [`JsonFault::Shape`] only if the line isn't UTF-8, has no tree, or has one that is no tree of an item of the kind, and
+///   none of this older form;
+/// - [`JsonFault::Refused`] only if it has such a tree and no item of the kind has its bits: with the first bit with which
+///   none continues, and the variable that holds it;
+/// - [`JsonFault::Memory`] if out of memory, whatever the line is.
 pub fn from_line(alloc: Global, kind: Kind, line: &[u8]) -> Result<Entry, JsonFault>
     ensures ok { IfOk result (λ e. SaysItem kind line.now (entry_value e)) }
     ensures refused { (i : ℕ) (x : Var) → result ≡ Err (JsonFault.Refused i x) → SaysRefused kind line.now i x }
@@ -67,7 +74,7 @@ pub fn from_line(alloc: Global, kind: Kind, line: &[u8]) -> Result<Entry, JsonFa
     }
 }
 
-/// The item of the kind whose JSON the line is, by way of its tree. The errors are those of [`from_line`].
+/// The item of the kind whose JSON the line is, read by way of its tree. The errors are those of [`from_line`].
 fn from_any_line(alloc: Global, kind: Kind, line: &[u8]) -> Result<Entry, JsonFault>
     ensures ok { IfOk result (λ e. SaysItem kind line.now (entry_value e)) }
     ensures refused { (i : ℕ) (x : Var) → result ≡ Err (JsonFault.Refused i x) → SaysRefused kind line.now i x }

@@ -1,4 +1,4 @@
-//! Messages of their trees.
+//! Messages read from their trees.
 
 ghost use Rattle.std.specs.Prelude.{◌≡◌, ◌<◌, ◌^◌, [], All, Some, IfOk, IfSome, IsSome, map, option_map};
 ghost use Rattle.serde_json.specs.Data.{Data};
@@ -26,7 +26,7 @@ use etcs_tables::{Way, head_row, message_row};
 use serde_json::Value;
 use std::alloc::{AllocError, Global};
 
-/// The header of the list of its pairs, if there is one.
+/// The header whose pairs the value lists, if there is one.
 fn head_in<H: Head>(alloc: Global, value: &Value) -> Result<Option<H>, AllocError>
     ensures some { IfOk result (λ o. IfSome o (λ h. IsHead H.head h × ReadsFields (head_row H.Packet.WAY) (H.head.reading h) × IsPairList (H.head.reading h) (view value.now))) }
     ensures only { IfOk result (λ o. (r : Reading) → ReadsFields (head_row H.Packet.WAY) r → IsPairList r (view value.now) → option_map H.head.reading o ≡ Some r) }
@@ -37,7 +37,7 @@ fn head_in<H: Head>(alloc: Global, value: &Value) -> Result<Option<H>, AllocErro
     }
 }
 
-/// The body of the list of its pairs, if there is one of this number.
+/// The body whose pairs the value lists, if there is one of this number.
 fn body_in<H: Head, B: Own<Front = H>>(
     alloc: Global,
     nid: u8,

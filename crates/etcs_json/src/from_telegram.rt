@@ -1,4 +1,4 @@
-//! Telegrams of their trees.
+//! Telegrams read from their trees.
 
 ghost use Rattle.std.specs.Prelude.{◌≡◌, All, Some, IfOk, IfSome, IsSome, map};
 ghost use Rattle.serde_json.specs.Data.{Data};
@@ -20,7 +20,7 @@ use etcs_telegram::{Header, Size, Telegram};
 use serde_json::Value;
 use std::alloc::{AllocError, Global};
 
-/// The header of the list of its pairs, if there is one.
+/// The header whose pairs the value lists, if there is one.
 fn header_in(alloc: Global, value: &Value) -> Result<Option<Header>, AllocError>
     ensures some { IfOk result (λ o. IfSome o (λ h. IsAdmitted (header_reading h) × IsPairList (header_reading h) (view value.now))) }
     ensures only { IfOk result (λ o. (h : HeaderValue) → IsAdmitted (header_reading h) → IsPairList (header_reading h) (view value.now) → o ≡ Some h) }

@@ -13,7 +13,8 @@ ghost use Rattle.etcs_json.specs.JsonLines.{SaysItem, SaysRefused};
 ghost use Rattle.etcs_json.specs.Loose.{TreeRefused, TreeSays};
 ghost use Rattle.etcs_json.specs.TreeReading.{IsTreeOf};
 
-/// The JSON of an item is read as its tree. It is UTF-8, and no end of a line is in it.
+/// For each item that has a spelling: the compact text of its tree is read as this tree, is UTF-8, and has neither LF nor
+/// CR in it.
 pub fn read_tree()
     ensures tree { (e : EntryValue) (r : Reading) → Spells e r → read (compact_text (json_tree e)) ≡ Some (json_tree e) }
     ensures utf8 { (e : EntryValue) (r : Reading) → Spells e r → IsUtf8 (compact_text (json_tree e)) }
@@ -21,15 +22,17 @@ pub fn read_tree()
     ensures without_cr { (e : EntryValue) (r : Reading) → Spells e r → All (λ c. c ≢ 13) (compact_text (json_tree e)) }
 {}
 
-/// No line says two items of one kind, none is refused in two ways, and none is both.
+/// A line is the JSON of at most one item of a kind, is refused at no two bits or variables, and isn't both the JSON of
+/// an item of a kind and refused for that kind.
 pub fn one_line()
     ensures said { (kind : Kind) (line : List ℕ) (e e' : EntryValue) → SaysItem kind line e → SaysItem kind line e' → e ≡ e' }
     ensures refused { (kind : Kind) (line : List ℕ) (i j : ℕ) (x y : Var) → SaysRefused kind line i x → SaysRefused kind line j y → (i ≡ j) × (x ≡ y) }
     ensures either { (kind : Kind) (line : List ℕ) (e : EntryValue) (i : ℕ) (x : Var) → SaysItem kind line e → SaysRefused kind line i x → ⊥ }
 {}
 
-/// The JSON of an item is a tree of it and says it. No tree says two items of one kind, none is refused in two ways, and
-/// none is both.
+/// The tree that [`to_value`](crate::to_value) makes of an item is a tree of the item, and if the item has a spelling, of
+/// that item of its kind. A tree is that of at most one item of a kind, is refused at no two bits or variables, and isn't
+/// both that of an item of a kind and refused for that kind.
 pub fn one_tree()
     ensures own { (e : EntryValue) → IsTreeOf e (json_tree e) }
     ensures says { (kind : Kind) (e : EntryValue) (r : Reading) → EntryReads kind e r → TreeSays kind (json_tree e) e }

@@ -1,10 +1,12 @@
-//! Items as JSON, and items of JSON.
+//! Items as JSON and back: [`to_value`] makes an item's tree; [`from_value`] and [`from_line`] make the item of a
+//! tree or a line, or report a [`JsonFault`]. `etcs_text` writes JSON without a tree; `etcs_json_trees` has the trees
+//! of lines and of packets.
 //!
 //! ```rust
 //! match from_line(alloc, Kind::Short, line) {
 //!     Ok(entry) => Some(entry),
 //!     Err(JsonFault::Shape) => None,          // not the JSON of a telegram of 210 bits
-//!     Err(JsonFault::Refused { .. }) => None, // of an older form, and its bits are no telegram's
+//!     Err(JsonFault::Refused { .. }) => None, // of an older form, with bits that are no telegram
 //!     Err(JsonFault::Memory) => None,
 //! }
 //! ```

@@ -22,7 +22,7 @@ use etcs_text::Entry;
 use serde_json::{Value, json};
 use std::alloc::{AllocError, Global};
 
-/// The kind of the telegrams of a size.
+/// The word for the kind of the telegrams of a size.
 pub(crate) fn size_word(size: Size) -> &'static str
     ensures { result.now ≡ kind_word size }
 {
@@ -32,7 +32,7 @@ pub(crate) fn size_word(size: Size) -> &'static str
     }
 }
 
-/// A telegram.
+/// The tree of a telegram.
 fn telegram_json(alloc: Global, telegram: &Telegram) -> Result<Value, AllocError>
     ensures { IfOk result (λ v. view v ≡ telegram_tree (telegram_value telegram.now)) }
 {
@@ -43,7 +43,7 @@ fn telegram_json(alloc: Global, telegram: &Telegram) -> Result<Value, AllocError
     json!(in alloc; {"fill": fill, "header": header, "kind": kind, "packets": packets})
 }
 
-/// The kind of the messages of a way.
+/// The word for the kind of the messages of a way.
 pub(crate) fn way_word(way: Way) -> &'static str
     ensures { result.now ≡ way_word way }
 {
@@ -53,7 +53,7 @@ pub(crate) fn way_word(way: Way) -> &'static str
     }
 }
 
-/// The PADDING of a message.
+/// The tree of the PADDING of a message.
 fn padding_json<H: Head, B: Own<Front = H>>(
     alloc: Global,
     message: &MessageOf<H, B>,
@@ -68,7 +68,7 @@ fn padding_json<H: Head, B: Own<Front = H>>(
     }
 }
 
-/// The members of a typed message.
+/// The tree of a typed message with these members.
 fn typed_object(
     alloc: Global,
     way: Way,
@@ -83,7 +83,7 @@ fn typed_object(
     json!(in alloc; {"fields": fields, "header": header, "kind": way_word(way), "nid": nid, "packets": packets, "padding": padding})
 }
 
-/// A typed message.
+/// The tree of a typed message.
 fn typed_json<H: Head, B: Own<Front = H>>(
     alloc: Global,
     message: &MessageOf<H, B>,
@@ -109,7 +109,7 @@ fn typed_json<H: Head, B: Own<Front = H>>(
     )
 }
 
-/// A message.
+/// The tree of a message.
 fn message_json<H: Head, B: Own<Front = H>>(
     alloc: Global,
     message: &MessageOf<H, B>,
@@ -123,7 +123,7 @@ fn message_json<H: Head, B: Own<Front = H>>(
     json!(in alloc; {"data": data, "kind": way_word(H::Packet::WAY), "nid": message.nid()})
 }
 
-/// The JSON tree of an item, an object.
+/// Returns the JSON tree of an item, an object with these members:
 ///
 /// - Of a telegram: `fill`, a text of the digits 0 and 1; `header`, its ten variables; `kind`, `"short"` or `"long"`;
 ///   `packets`, a list.
@@ -138,7 +138,7 @@ fn message_json<H: Head, B: Own<Front = H>>(
 ///
 /// # Errors
 ///
-/// `AllocError` where there is no memory.
+/// `AllocError` if out of memory.
 pub fn to_value(alloc: Global, entry: &Entry) -> Result<Value, AllocError>
     ensures { IfOk result (λ v. view v ≡ json_tree (entry_value entry.now)) }
 {

@@ -16,13 +16,13 @@ use etcs_telegram::Size;
 use etcs_text::{Entry, Kind};
 use std::alloc::Global;
 
-/// An item of the kind that `json_line` writes as this line, without its LF.
+/// Reads an item of the kind that `json_line` writes as this line, without its LF. If it succeeds, the line is the compact
+/// text of the item's tree. When it succeeds isn't promised.
 ///
 /// # Errors
 ///
-/// - [`Miss::Shape`] where there is none, which says nothing: the line may still be JSON of an item, as with blanks between
-///   its parts;
-/// - [`Miss::Memory`] where memory was refused; nothing is kept.
+/// - [`Miss::Shape`] if none was found: the line may still be JSON of an item, for instance with blanks between its parts;
+/// - [`Miss::Memory`] if out of memory; nothing is kept.
 pub(crate) fn written_item(alloc: Global, kind: Kind, line: &[u8]) -> Result<Entry, Miss>
     ensures { IfOk result (λ e. (r : Reading) × EntryReads kind (entry_value e) r × (line.now ≡ compact_text (json_tree (entry_value e)))) }
 {

@@ -1,4 +1,4 @@
--- Pairs of name and number as a text of JSON has them, and the pairs that a text is.
+-- Pairs of a name and a number: how they are written in a text of JSON, and which pairs a text is.
 use Rattle.std.specs.Prelude.{◌≡◌, ℕ, zero, suc, ◌+◌, ◌/◌, ◌%◌, ◌^◌, ◌<◌, ◌==◌, ◌&&◌, Bool, true, false, List, [], ◌∷◌, ◌++◌, length, take, drop, Option, Some, None, bytes_eq, nat_lt, if◌then◌else◌, decimal}
 use Rattle.std.specs.Str.Parse.{digits_value}
 use Rattle.serde_json.specs.Written.{comma_if}
@@ -8,7 +8,7 @@ use Rattle.etcs_packet_text.specs.Show.{hex_digits}
 
 -- ---- What is written.
 
--- sixteen hexadecimal digits of a number
+-- a number as sixteen hexadecimal digits
 unfoldable pub hex_text : ℕ → List ℕ
 hex_text n = hex_digits 16 n
 
@@ -21,36 +21,36 @@ number_text true n = 34 ∷ (hex_text n ++ 34 ∷ [])
 abbrev pub name_front : List ℕ → List ℕ
 name_front name = 91 ∷ 34 ∷ (name ++ 34 ∷ 44 ∷ [])
 
--- a pair of name and number
+-- a pair of a name and a number
 abbrev pub pair_text : Named → List ℕ
 pair_text p = name_front p.0.0 ++ (number_text p.0.1 p.1 ++ 93 ∷ [])
 
--- pairs one after another, the first of them after a comma where it isn't the first of its list
+-- pairs one after another, with commas between them, and one before the first if later is true
 abbrev pub listed_text : Bool → List Named → List ℕ
 listed_text later [] = []
 listed_text later (p ∷ ps) = comma_if later ++ (pair_text p ++ listed_text true ps)
 
--- the pairs of a list
+-- names with their numbers as `json_line` writes them: a list without its brackets
 abbrev pub pairs_text : List Named → List ℕ
 pairs_text ps = listed_text false ps
 
 -- ---- What is read.
 
--- the numbers that are read are below this: in decimal those of nineteen digits at most
+-- the numbers that are read are below this: decimal ones have at most nineteen digits
 abbrev pub limit : Bool → ℕ
 limit false = 10 ^ 19
 limit true = 2 ^ 64
 
--- no decimal digit is first
+-- the text doesn't begin with a decimal digit
 abbrev pub NoDigit : List ℕ → Type 0
 NoDigit t = (d : ℕ) (s : List ℕ) → d < 10 → t ≡ (48 + d) ∷ s → ⊥
 
--- what comes before the first such byte
+-- what comes before the first byte c
 abbrev pub before : ℕ → List ℕ → List ℕ
 before c [] = []
 before c (x ∷ t) = if x == c then [] else x ∷ before c t
 
--- a quotation mark is first
+-- the text begins with a quotation mark
 abbrev pub is_quoted : List ℕ → Bool
 is_quoted [] = false
 is_quoted (c ∷ t) = c == 34
@@ -66,39 +66,39 @@ pair_in t =
     let number = before 93 (drop (length (name_front name)) t) in
     ((name, is_quoted number), number_in number)
 
--- the pair, where the text begins with it, and what is after it
+-- the pair and what is after it, if the text begins with it
 abbrev pub taken_as : Named → Bool → List ℕ → Option (Named × List ℕ)
 taken_as p later t =
     let front = comma_if later ++ pair_text p in
     if bytes_eq front (take (length front) t) && nat_lt p.1 (limit p.0.1) then Some (p, drop (length front) t) else None
 
--- the pair that a text begins with, and what is after it
+-- the pair that a text begins with, and what is after it, if it begins with one
 unfoldable pub first_pair : Bool → List ℕ → Option (Named × List ℕ)
 first_pair later t = taken_as (pair_in (drop (length (comma_if later)) t)) later t
 
--- what a text counts as that doesn't continue as a pair: no variable has this name
+-- what stands for a text that doesn't continue as a pair: no variable has this name
 abbrev pub unread : Named
 unread = (([], false), 0)
 
--- a pair and those after it
+-- a pair and those after it; if there is none, what stands for such a text
 abbrev pub with_more : Option (Named × List ℕ) → (List ℕ → List Named) → List Named
 with_more None more = unread ∷ []
 with_more (Some x) more = x.0 ∷ more x.1
 
--- the pairs of a text that has no more of them than this
+-- the pairs that a text is, if it has at most k
 abbrev pub named_from : ℕ → Bool → List ℕ → List Named
 named_from k later [] = []
 named_from zero later (c ∷ t) = unread ∷ []
 named_from (suc k) later (c ∷ t) = with_more (first_pair later (c ∷ t)) (λ s. named_from k true s)
 
--- the pairs that a text is, the first of them after a comma where it isn't the first of its list
+-- the pairs that a text is, the first of them after a comma if later is true
 unfoldable pub named_left : Bool → List ℕ → List Named
 named_left later t = named_from (length t) later t
 
--- the pairs that a text is
+-- the names with numbers that a text is; if it doesn't continue as a pair, something that no variable is
 abbrev pub named_in : List ℕ → List Named
 named_in t = named_left false t
 
--- the text doesn't begin with a pair of the variable
+-- the text doesn't begin with a pair of the variable v, after a comma if later is true
 abbrev pub Lacks : Bool → Var → List ℕ → Type 0
 Lacks later v t = (n : ℕ) (s : List ℕ) → n < limit (in_hexadecimal v) → t ≡ comma_if later ++ (pair_text (named_as (v, n)) ++ s) → ⊥

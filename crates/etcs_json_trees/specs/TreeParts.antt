@@ -4,12 +4,12 @@ use Rattle.etcs_tables.specs.declared.row.Way.{Way}
 use Rattle.etcs_tables.specs.declared.row.Way.TheVariants.{ToTrain, ToTrack}
 use Rattle.etcs_packets.specs.PacketValues.{PacketValue, dir_of}
 
--- a tree of a packet says this direction: to the track, where it has no member, it is 0
+-- a packet's tree may have the direction dir: to the track, where it has no member for it, that is 0
 abbrev pub SaysDirection : Way → ℕ → Type 0
 SaysDirection ToTrain dir = Unit {0}
 SaysDirection ToTrack dir = dir ≡ 0
 
--- the direction of a packet that has a member
+-- the direction of a packet, if its tree has a member for it: to the track it has none
 abbrev pub member_dir : Way → PacketValue → Option ℕ
 member_dir ToTrain v = dir_of v
 member_dir ToTrack v = None

@@ -16,7 +16,7 @@ use etcs_packets::Packet;
 use etcs_tables::Way;
 use serde_json::Value;
 
-/// Whether stored JSON may have packets of this number as bits.
+/// Whether stored JSON may have packets of this number as bits, though they are typed by now.
 fn is_carried(way: Way, nid: u8) -> bool
     ensures { result ≡ is_carried way nid }
 {
@@ -41,7 +41,8 @@ fn kept_number(tree: &Value) -> Option<u8>
     Some(nid)
 }
 
-/// Whether no packet of these trees needs a stand-in.
+/// Whether no packet of these trees, to the train, needs a stand-in for its number: `true` only if none does. That it
+/// is `true` whenever none does isn't promised.
 pub fn are_named(trees: &[Value]) -> bool
     ensures { IsTrue result → (vs : List PacketValue) → All IsPacket (map (unnamed ToTrain) vs) → ArePacketTrees ToTrain vs (items_view trees.now) → map (unnamed ToTrain) vs ≡ vs }
 {
@@ -55,7 +56,11 @@ pub fn are_named(trees: &[Value]) -> bool
     true
 }
 
-/// Puts the numbers of these trees in place of those of the packets, of which the first begins at the bit `at`.
+/// Puts the numbers of these trees over those of the packets, of which the first begins at the bit `at`; no other bit
+/// changes. This is promised if the packets are those of the trees, with stand-ins, and their bits are there one after
+/// another. The bytes keep their length in any case.
+///
+/// Requires that the packets end within the bytes (`room`), and that these have fewer than 2^64 bits (`small`).
 pub fn rename(bytes: &mut [u8], at: usize, packets: &[Packet], trees: &[Value])
     requires room { at + length (spelled (packets_reading (map packet_value packets.now))) ≤ length (bits bytes.old) }
     requires small { length (bits bytes.old) < 2 ^ 64 }

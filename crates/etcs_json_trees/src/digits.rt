@@ -10,11 +10,11 @@ use etcs_bits::Bits;
 use serde_json::Value;
 use std::alloc::{AllocError, Global};
 
-/// The bits of a text of digits 0 and 1, in its order; `None` of any other value.
+/// Returns the bits of a text of the digits 0 and 1, in its order; `None` exactly if the value is anything else.
 ///
 /// # Errors
 ///
-/// `AllocError` where there is no memory.
+/// `AllocError` if out of memory.
 pub fn bits_in(alloc: Global, value: &Value) -> Result<Option<Bits>, AllocError>
     ensures some { IfOk result (λ o. IfSome o (λ b. view value.now ≡ bits_tree b)) }
     ensures only { IfOk result (λ o. (b : List Bool) → view value.now ≡ bits_tree b → o ≡ Some b) }
@@ -25,7 +25,8 @@ pub fn bits_in(alloc: Global, value: &Value) -> Result<Option<Bits>, AllocError>
     }
 }
 
-/// The number of a whole number without fraction or exponent that a byte holds; `None` of any other value.
+/// Returns the number if the value is a whole number below 256, without fraction or exponent; `None` exactly if it is
+/// anything else.
 pub fn byte_in(value: &Value) -> Option<u8>
     ensures some { IfSome result (λ n. view value.now ≡ plain n) }
     ensures only { (n : ℕ) → n < 256 → view value.now ≡ plain n → result ≡ Some n }

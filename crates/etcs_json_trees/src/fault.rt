@@ -1,13 +1,13 @@
-//! Why a text has no value.
+//! Why no value is read from a text.
 
 use std::alloc::{AllocError, AllocFailed};
 
-/// Why a text has no value.
+/// Why no value is read from a text.
 #[derive(Clone, Copy, Debug, PartialEq, Eq)]
 pub(crate) enum Fault {
     /// It isn't JSON.
     Invalid,
-    /// Memory was refused.
+    /// Out of memory.
     Memory,
 }
 

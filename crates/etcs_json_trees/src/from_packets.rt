@@ -1,4 +1,4 @@
-//! Packets of their trees.
+//! Packets read from their trees.
 
 ghost use Rattle.std.specs.Prelude.{◌≡◌, ◌≢◌, ◌<◌, ◌∷◌, [], ◌++◌, ℕ, All, List, Bool, None, Some, IfOk, IfSome, IsSome, IsTrue, OnOk, map, option_map};
 ghost use Rattle.serde_json.specs.Data.{Data, Members};
@@ -67,7 +67,7 @@ fn typed_by<P: AnyPacket>(
     }
 }
 
-/// The direction of a packet, which comes next to the train. To the track it is 0 and has no member.
+/// The direction of a packet: to the train that of the member that comes next, to the track 0, without a member.
 fn direction(way: Way, members: &mut Rest<'_>) -> Option<u8>
     ensures some { IfSome result (λ dir. SaysDirection way dir × (members_view members.old.members ≡ with_dir way dir (members_view members.new.members))) }
     ensures none { (dir : ℕ) (ms : Members) → dir < 256 → members_view members.old.members ≡ with_dir way dir ms → IsSome result }
@@ -134,7 +134,7 @@ fn kept_in<P: AnyPacket>(
 /// NID_VBCMK.
 static MARKER: [RowItem; 1] = [RowItem::One(Var::NID_VBCMK)];
 
-/// The packet 0 of its number.
+/// Packet 0 with this number of NID_VBCMK.
 fn marker_by<P: AnyPacket>(numbers: &[u64]) -> P
     requires way { P.WAY ≡ ToTrain }
     requires number { (n : ℕ) × (numbers.now ≡ n ∷ []) × IsTrue (admits NID_VBCMK n) }
@@ -206,12 +206,13 @@ fn packet_in<P: AnyPacket>(alloc: Global, value: &Value) -> Result<Option<P>, Al
     marker_in(alloc, value)
 }
 
-/// The packets of the trees of a list, in its order, with stand-ins for numbers that are kept as bits and typed by now;
-/// `None` where a tree is no packet's.
+/// Returns the packets whose trees the value lists, in its order; `None` exactly if it isn't the list of the trees of
+/// packets of this way. To the train, a packet that is kept as bits may have the number 49, 57, 58, 63, 68, 80 or 131
+/// in its tree; the packet returned then has the stand-in 44 for it.
 ///
 /// # Errors
 ///
-/// `AllocError` where there is no memory.
+/// `AllocError` if out of memory.
 pub fn packets_in<P: AnyPacket>(alloc: Global, value: &Value) -> Result<Option<Vec<P>>, AllocError>
     ensures made { IfOk result (λ o. IfSome o (λ ps. All (λ p. (P.form p).made) ps.items × All (IsPacketTo P.WAY) (map (λ p. (P.form p).value) ps.items))) }
     ensures some { IfOk result (λ o. IfSome o (λ ps. ListHasStandIns P.WAY (view value.now) (map (λ p. (P.form p).value) ps.items))) }
@@ -223,7 +224,7 @@ pub fn packets_in<P: AnyPacket>(alloc: Global, value: &Value) -> Result<Option<V
     }
 }
 
-/// The same of the list.
+/// The packets of these trees, as [`packets_in`] returns them.
 fn packets_by<P: AnyPacket>(alloc: Global, list: &[Value]) -> Result<Option<Vec<P>>, AllocError>
     ensures made { IfOk result (λ o. IfSome o (λ ps. All (λ p. (P.form p).made) ps.items × All (IsPacketTo P.WAY) (map (λ p. (P.form p).value) ps.items))) }
     ensures some { IfOk result (λ o. IfSome o (λ ps. HaveStandIns P.WAY (items_view list.now) (map (λ p. (P.form p).value) ps.items))) }

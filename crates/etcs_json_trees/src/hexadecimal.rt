@@ -1,4 +1,4 @@
-//! Numbers of their digits.
+//! Numbers read from their digits.
 
 ghost use Rattle.std.specs.Prelude.{◌≡◌, ◌<◌, ◌≤◌, ◌^◌, ℕ, Some, IfSome, IsNone, length, map};
 ghost use Rattle.etcs_bits.specs.Bits.{num};
@@ -20,8 +20,8 @@ fn digit_value(digit: u8) -> Option<u8>
     }
 }
 
-/// The number below 2^64 of exactly sixteen hexadecimal digits of either case, the first one the highest, as a pair of
-/// NID_RADIO has them. `None` for any other text.
+/// Returns the number below 2^64 of exactly sixteen hexadecimal digits of either case, the first one the highest, as a pair
+/// of NID_RADIO has them. `None` exactly if the text is anything else.
 pub fn hex_number(text: &[u8]) -> Option<u64>
     ensures some { IfSome result (λ n. map lower text.now ≡ hex_digits 16 n) }
     ensures only { (n : ℕ) → n < 2 ^ 64 → map lower text.now ≡ hex_digits 16 n → result ≡ Some n }
@@ -36,8 +36,8 @@ pub fn hex_number(text: &[u8]) -> Option<u64>
     Some(number)
 }
 
-/// The number of the bits of PADDING, the first one the highest. `None` for more than seven bits, which no message has
-/// after its packets, since it ends on a whole byte (SUBSET-026, 8).
+/// Returns the number of the bits of PADDING, the first one the highest. `None` exactly if there are more than seven, which
+/// no message has after its packets, since it ends on a whole byte (SUBSET-026, 8).
 pub fn padding_number(bits: &Bits) -> Option<u8>
     ensures some { IfSome result (λ n. (length bits.now ≤ 7) × (n < 2 ^ length bits.now) × (bits.now ≡ num (length bits.now) n)) }
     ensures none { IsNone result → 7 < length bits.now }

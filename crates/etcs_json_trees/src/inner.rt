@@ -1,5 +1,5 @@
-//! For the crates above: packets of their trees and of a text, their trees, and the parts of JSON from which items are
-//! made, too.
+//! For the crates above: packets read from their trees and from text, the trees of packets, and the parts of JSON from
+//! which items are made.
 
 pub use crate::carried::{are_named, rename};
 pub use crate::digits::{bits_in, byte_in};

@@ -1,6 +1,6 @@
-//! JSON trees: what a line holds, of which no more is made than the largest item needs; the trees of variables and of
-//! packets, and packets of trees; and packets of a text, without a tree. `etcs_json::from_line` is the call that makes an
-//! item of a line.
+//! JSON trees: the tree of a line, of which no more is made than the largest item needs; the trees of variables and of
+//! packets; packets read from trees; and packets read from text, without a tree. `etcs_json::from_line` is the call that
+//! reads an item from a line.
 #![tactic(auto)]
 
 mod carried;

@@ -7,7 +7,7 @@ ghost use Rattle.serde_json.specs.View.{number_view};
 use fast_float::Numeral;
 use serde_json::Number;
 
-/// The number that a text of JSON is: none where it is too large for a float.
+/// The number that a text of JSON is; `None` if it is too large for a float.
 #[inline(never)]
 pub(crate) fn number(text: &str) -> Option<Number>
     ensures { option_map number_view result ≡ number_of text.now }

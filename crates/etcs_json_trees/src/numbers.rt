@@ -1,4 +1,4 @@
-//! The numbers of a row's variables.
+//! The numbers of a row's variables, read from their pairs.
 
 ghost use Rattle.std.specs.Prelude.{◌≡◌, ℕ, ◌<◌, ◌^◌, [], IsTrue, Some, IfOk, IfSome, option_map};
 ghost use Rattle.serde_json.specs.Data.{Items, array};
@@ -17,7 +17,7 @@ use etcs_vars::Var;
 use serde_json::Value;
 use std::alloc::{AllocError, Global};
 
-/// The number of a variable.
+/// The number of a variable that the value is, if it is one.
 fn number_in(var: Var, value: &Value) -> Option<u64>
     ensures some { IfSome result (λ n. SaysNumber var n (view value.now)) }
     ensures only { (n : ℕ) → n < 2 ^ 64 → SaysNumber var n (view value.now) → result ≡ Some n }
@@ -28,7 +28,7 @@ fn number_in(var: Var, value: &Value) -> Option<u64>
     value.as_u64()
 }
 
-/// The number in a variable's pair.
+/// The number in a variable's pair, if the value is its pair.
 fn pair_number(var: Var, value: &Value) -> Option<u64>
     ensures some { IfSome result (λ n. IsPairTree (var, n) (view value.now)) }
     ensures only { (n : ℕ) → n < 2 ^ 64 → IsPairTree (var, n) (view value.now) → result ≡ Some n }
@@ -43,7 +43,7 @@ fn pair_number(var: Var, value: &Value) -> Option<u64>
     number_in(var, &list[1])
 }
 
-/// The number of the variable that comes next, where this is its pair and it admits the number.
+/// The number of the variable that comes next, if this is its pair and it admits the number.
 fn next_number(place: &Place, value: &Value) -> Option<u64>
     ensures some { IfSome result (λ n. (v : Var) × (first_variable place.now ≡ Some v) × IsTrue (admits v n) × IsPairTree (v, n) (view value.now)) }
     ensures only { (v : Var) (n : ℕ) → first_variable place.now ≡ Some v → IsTrue (admits v n) → IsPairTree (v, n) (view value.now) → result ≡ Some n }
@@ -56,7 +56,7 @@ fn next_number(place: &Place, value: &Value) -> Option<u64>
     Some(number)
 }
 
-/// The numbers of the row's variables, where these are their pairs.
+/// The numbers of the row's variables, if these are their pairs.
 fn numbers_by(alloc: Global, row: Row, list: &[Value]) -> Result<Option<Vec<u64>>, AllocError>
     ensures some { IfOk result (λ o. IfSome o (λ f. (r : Reading) × Reads (layout row.items.now) [] r × ArePairTrees r (items_view list.now) × (numbers r ≡ f.items))) }
     ensures only { IfOk result (λ o. (r : Reading) → Reads (layout row.items.now) [] r → ArePairTrees r (items_view list.now) → option_map (λ f. f.items) o ≡ Some (numbers r)) }
@@ -76,11 +76,12 @@ fn numbers_by(alloc: Global, row: Row, list: &[Value]) -> Result<Option<Vec<u64>
     }
 }
 
-/// The numbers of the row's variables, where the value is the list of their pairs; else `None`.
+/// Returns the numbers of the row's variables if the value is the list of their pairs, in order and with numbers that
+/// the row admits; `None` exactly if it isn't.
 ///
 /// # Errors
 ///
-/// `AllocError` where there is no memory.
+/// `AllocError` if out of memory.
 pub fn numbers_in(alloc: Global, row: Row, value: &Value) -> Result<Option<Vec<u64>>, AllocError>
     ensures some { IfOk result (λ o. IfSome o (λ f. (r : Reading) × (ps : Items) × (view value.now ≡ array ps) × Reads (layout row.items.now) [] r × ArePairTrees r ps × (numbers r ≡ f.items))) }
     ensures only { IfOk result (λ o. (r : Reading) (ps : Items) → view value.now ≡ array ps → Reads (layout row.items.now) [] r → ArePairTrees r ps → option_map (λ f. f.items) o ≡ Some (numbers r)) }

@@ -11,7 +11,7 @@ use etcs_vars::{Var, pairs_of};
 use serde_json::{Value, json};
 use std::alloc::{AllocError, Global};
 
-/// The digit of four bits, in lower case.
+/// The hexadecimal digit of four bits, in lower case.
 fn hex_digit_of(bits: u8) -> char
     requires { bits < 16 }
     ensures digit { result ≡ hex_digit bits }
@@ -24,7 +24,7 @@ fn hex_digit_of(bits: u8) -> char
     }
 }
 
-/// Appends the last digits of a number in hexadecimal, this many of them.
+/// Appends the last `count` hexadecimal digits of a number.
 fn write_hex(count: usize, number: u64, text: &mut String) -> Result<(), AllocError>
     ensures { OnOk result (string_bytes text.new ≡ string_bytes text.old ++ hex_digits count number) }
 {
@@ -35,7 +35,7 @@ fn write_hex(count: usize, number: u64, text: &mut String) -> Result<(), AllocEr
     text.push(hex_digit_of((number % 16) as u8))
 }
 
-/// The number of a variable: that of NID_RADIO as its sixteen digits of four bits.
+/// The number of a variable: that of NID_RADIO as sixteen hexadecimal digits.
 fn number_json(alloc: Global, var: Var, number: u64) -> Result<Value, AllocError>
     ensures { IfOk result (λ v. view v ≡ number_tree var number) }
 {
@@ -66,11 +66,11 @@ pub(crate) fn pairs_json(alloc: Global, pairs: &[(Var, u64)]) -> Result<Value, A
     Ok(Value::Array(list))
 }
 
-/// Bits as a text of the digits 0 and 1.
+/// Returns the tree of bits: a text of the digits 0 and 1, in their order.
 ///
 /// # Errors
 ///
-/// `AllocError` where there is no memory.
+/// `AllocError` if out of memory.
 pub fn bits_json(alloc: Global, bits: &BitSlice<'_>) -> Result<Value, AllocError>
     ensures { IfOk result (λ v. view v ≡ bits_tree bits.now) }
 {
@@ -85,11 +85,12 @@ pub fn bits_json(alloc: Global, bits: &BitSlice<'_>) -> Result<Value, AllocError
     json!(in alloc; text)
 }
 
-/// The variables of a run, each as a pair of its name and its number.
+/// Returns the tree of variables: a list of pairs in the order of sending, each of a name and a number. The number of
+/// NID_RADIO is a text of sixteen hexadecimal digits in lower case.
 ///
 /// # Errors
 ///
-/// `AllocError` where there is no memory.
+/// `AllocError` if out of memory.
 pub fn variables_json<V: Variables>(alloc: Global, variables: &V) -> Result<Value, AllocError>
     ensures { IfOk result (λ v. view v ≡ pairs_tree (V.reading_of variables.now)) }
 {

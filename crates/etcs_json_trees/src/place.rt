@@ -5,18 +5,19 @@ ghost use Rattle.serde_json.specs.Data.{Items, Members, array, object, string};
 ghost use Rattle.etcs_json_trees.specs.Fits.{Fits};
 ghost use Rattle.etcs_json_trees.specs.Places.{is_object, items_place, limit, member_place};
 
-/// What may be at a place in the tree of an item.
+/// What may be at a place in the tree of an item: an object at `Item` and `Packet`, a list at `Own`, `Packets`, `Pairs` and
+/// `Pair`, a number or a text at `Scalar`.
 #[derive(Clone, Copy, Debug, PartialEq, Eq)]
 pub enum Place {
     /// An item: an object.
     Item,
-    /// The pairs of a header, or those that a message has in addition to packets.
+    /// The list of the pairs of a header, or of those that a message has in addition to packets.
     Own,
     /// A list of packets.
     Packets,
     /// A packet: an object.
     Packet,
-    /// The pairs of a packet.
+    /// The list of the pairs of a packet.
     Pairs,
     /// A pair: a list of a name and a number.
     Pair,
@@ -39,7 +40,7 @@ impl Place {
         }
     }
 
-    /// How much a value may weigh here, where its object has this room.
+    /// How much a value may weigh here if its object has this room.
     pub(crate) fn room(self, room: usize) -> usize
         ensures { result ≡ min room (limit self) }
     {
@@ -53,7 +54,7 @@ impl Place {
         self == Place::Scalar && room > 0
     }
 
-    /// Of a list with this room: the place of its items, and the room for them.
+    /// The place of the items of a list with this room, and the room for them; `None` if no list fits here.
     pub(crate) fn list(self, room: usize) -> Option<(Place, usize)>
         ensures { MatchOption result ((ds : Items) → Fits self room (array ds) → ⊥)
             (λ p. (items_place self ≡ Some p.0) × (1 + p.1 ≡ room)) }
@@ -61,7 +62,7 @@ impl Place {
         Some((self.items()?, room.checked_sub(1)?))
     }
 
-    /// The place of the items of a list.
+    /// The place of the items of a list; `None` if no list may be here.
     fn items(self) -> Option<Place>
         ensures { result ≡ items_place self }
     {
@@ -73,7 +74,7 @@ impl Place {
         }
     }
 
-    /// Of an object with this room: the room for its members.
+    /// The room for the members of an object with this room; `None` if no object fits here.
     pub(crate) fn object(self, room: usize) -> Option<usize>
         ensures { MatchOption result ((ms : Members) → Fits self room (object ms) → ⊥)
             (λ left. IsTrue (is_object self) × (16 + left ≡ room)) }
@@ -91,7 +92,7 @@ impl Place {
         matches!(self, Place::Item | Place::Packet)
     }
 
-    /// The place of an object's member of this name.
+    /// The place of an object's member of this name; `None` if there may be no such member.
     pub(crate) fn member(self, name: &str) -> Option<Place>
         ensures { result ≡ member_place self name.now }
     {
@@ -103,7 +104,7 @@ impl Place {
     }
 }
 
-/// The place of an item's member of this name.
+/// The place of an item's member of this name; `None` if an item has no such member.
 fn of_item(name: &str) -> Option<Place>
     ensures { result ≡ member_place Place.Item name.now }
 {
@@ -120,7 +121,7 @@ fn of_item(name: &str) -> Option<Place>
     }
 }
 
-/// The place of a packet's member of this name.
+/// The place of a packet's member of this name; `None` if a packet has no such member.
 fn of_packet(name: &str) -> Option<Place>
     ensures { result ≡ member_place Place.Packet name.now }
 {

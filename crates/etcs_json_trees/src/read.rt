@@ -1,4 +1,4 @@
-//! Reading values: only those are made that an item may have at their place.
+//! Reading values: only those that an item may have at their place are made.
 
 ghost use Rattle.std.specs.Prelude.{◌≡◌, ◌≤◌, ◌<◌, ◌⊎◌, ◌++◌, [], ◌∷◌, Err, IfOk, MatchOption, None, OnOk, length, option_map};
 ghost use Rattle.json.specs.Json.{parse_map};
@@ -16,7 +16,7 @@ use json::{Reader, Token};
 use serde_json::{Map, Value};
 use std::alloc::{AllocError, Global};
 
-/// The next value in which lists and objects nest at most `depth` deep: none where it doesn't fit its place and the room.
+/// Reads the next value, in which lists and objects nest at most `depth` deep: `None` if it doesn't fit its place and room.
 #[cycle(read)]
 pub(crate) fn read(
     alloc: Global,
@@ -60,7 +60,7 @@ pub(crate) fn read(
     }
 }
 
-/// The list whose bracket was taken.
+/// Reads the list whose bracket was taken.
 #[cycle(read)]
 fn read_array(
     alloc: Global,
@@ -80,7 +80,7 @@ fn read_array(
     Ok(read_items(alloc, reader, depth, inner, left)?.map(Value::Array))
 }
 
-/// The items of a list.
+/// Reads the items of a list.
 #[cycle(read)]
 fn read_items(
     alloc: Global,
@@ -120,7 +120,7 @@ fn add(found: &mut Vec<Value>, item: Value) -> Result<(), AllocError>
     Ok(())
 }
 
-/// The object whose brace was taken.
+/// Reads the object whose brace was taken.
 #[cycle(read)]
 fn read_object(
     alloc: Global,
@@ -140,7 +140,7 @@ fn read_object(
     Ok(read_members(alloc, reader, depth, place, left)?.map(Value::Object))
 }
 
-/// The members of an object. One that doesn't fit is null until its name comes again.
+/// Reads the members of an object. One that doesn't fit is null until its name comes again.
 #[cycle(read)]
 fn read_members(
     alloc: Global,
@@ -166,7 +166,7 @@ fn read_members(
     Ok(finished(found, room))
 }
 
-/// The value of a member of this name, which is null before it is read.
+/// Reads the value of the member of this name, which is null until then.
 #[cycle(read)]
 fn read_member(
     alloc: Global,
@@ -202,7 +202,7 @@ fn set(
     Ok(())
 }
 
-/// The members, if none is null and they have the room.
+/// The members, if none is null and they fit the room.
 fn finished(found: Map<String, Value>, room: usize) -> Option<Map<String, Value>>
     ensures { let ms = members_view found.entries in MatchOption result (HasNull ms ⊎ (room < members_weight ms)) (λ m. (members_view m.entries ≡ ms) × (HasNull ms → ⊥) × (members_weight ms ≤ room)) }
 {

@@ -50,7 +50,8 @@ fn end_items(reader: &mut Reader<'_>) -> bool
     reader.take_end_array()
 }
 
-/// Takes the name of a member, and says that there is one, or the brace that closes the object. Not inlined, as [`begin`].
+/// Takes the name of a member and returns `true`, or takes the brace that closes the object and returns `false`. Not
+/// inlined, as [`begin`].
 #[inline(never)]
 fn begin_member(reader: &mut Reader<'_>) -> Result<bool, Invalid>
     ensures more { result ≡ Ok true → (name : List ℕ) × (read_key reader.old ≡ Some (Some name, reader.new)) }

@@ -17,16 +17,17 @@ use std::alloc::{AllocError, Global};
 /// How deep lists and objects of JSON may nest.
 const MAX_DEPTH: usize = 127;
 
-/// The JSON of a line, if an item may have such a tree: an object of the members that items have, with lists and texts at
-/// their places, and no larger than that of the largest item. Of two members of one name the last counts. `None` where the
-/// line isn't UTF-8 or JSON, or no item has such a tree.
+/// Returns the tree of a line of JSON if an item may have such a tree. `None` if the line isn't UTF-8, has no tree, or has
+/// one that no item may have.
 ///
-/// Nothing is made of what doesn't fit. With lines of 1 MiB of many shapes it took at most 4 MB in addition to the line,
-/// twice its length included, and 24 KB of stack.
+/// An item may have a tree if the names in each object are those of an item or of a packet, lists, numbers and texts are at
+/// their places, and nothing is larger than its place admits. Of two members of one name the last counts. Nothing is made
+/// of what doesn't fit. In tests, lines of 1 MiB of many shapes took at most 4 MB in addition to the line, twice its length
+/// included, and 24 KB of stack.
 ///
 /// # Errors
 ///
-/// `AllocError` where memory was refused, whatever the line is.
+/// `AllocError` if out of memory, whatever the line is.
 #[inline(never)]
 pub fn tree_of(alloc: Global, line: &[u8]) -> Result<Option<Value>, AllocError>
     ensures some { IfOk result (λ o. IfSome o (λ v. IsUtf8 line.now × (read_text line.now ≡ Some (view v)) × FitsItem (view v))) }
@@ -43,7 +44,7 @@ pub fn tree_of(alloc: Global, line: &[u8]) -> Result<Option<Value>, AllocError>
     }
 }
 
-/// The JSON of a text, if an item may have such a tree.
+/// The tree of a text of JSON, if an item may have such a tree.
 fn whole(alloc: Global, text: &str, scratch: &mut Scratch) -> Result<Option<Value>, Fault>
     ensures ok { IfOk result (λ o. FindsTree (read_text text.now) (option_map view o)) }
     ensures err { result ≡ Err Fault.Invalid → read_text text.now ≡ None }

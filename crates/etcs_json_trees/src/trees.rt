@@ -15,7 +15,7 @@ use etcs_vars::inner::PairList;
 use serde_json::{Value, json};
 use std::alloc::{AllocError, Global};
 
-/// The variables of a packet, each as a pair.
+/// The tree of a packet's variables, each as a pair.
 fn fields_json<P: AnyPacket>(alloc: Global, packet: &P) -> Result<Value, AllocError>
     ensures { IfOk result (λ v. view v ≡ pairs_tree (variables_of (P.form packet.now).value)) }
 {
@@ -24,7 +24,7 @@ fn fields_json<P: AnyPacket>(alloc: Global, packet: &P) -> Result<Value, AllocEr
     pairs_json(alloc, sent.into_vec().as_slice())
 }
 
-/// The direction of a packet, where it has a member: to the train packet 0 has none, and to the track no packet has one.
+/// The direction of a packet, if its tree has a member for it: to the train packet 0 has none, to the track no packet.
 fn member_dir<P: AnyPacket>(packet: &P) -> Option<u8>
     ensures { result ≡ member_dir P.WAY (P.form packet.now).value }
 {
@@ -34,7 +34,7 @@ fn member_dir<P: AnyPacket>(packet: &P) -> Option<u8>
     }
 }
 
-/// A packet that isn't kept as bits.
+/// The tree of a packet that isn't kept as bits.
 fn sent_json<P: AnyPacket>(alloc: Global, packet: &P) -> Result<Value, AllocError>
     requires { values.kept_of (P.form packet.now).value ≡ None }
     ensures { IfOk result (λ v. view v ≡ packet_tree P.WAY (P.form packet.now).value) }
@@ -47,7 +47,7 @@ fn sent_json<P: AnyPacket>(alloc: Global, packet: &P) -> Result<Value, AllocErro
     }
 }
 
-/// A packet that is kept as these bits.
+/// The tree of a packet that is kept as these bits.
 fn kept_json<P: AnyPacket>(
     alloc: Global,
     packet: &P,
@@ -64,7 +64,7 @@ fn kept_json<P: AnyPacket>(
     }
 }
 
-/// A packet.
+/// The tree of a packet.
 fn packet_json<P: AnyPacket>(alloc: Global, packet: &P) -> Result<Value, AllocError>
     ensures { IfOk result (λ v. view v ≡ packet_tree P.WAY (P.form packet.now).value) }
 {
@@ -74,11 +74,11 @@ fn packet_json<P: AnyPacket>(alloc: Global, packet: &P) -> Result<Value, AllocEr
     }
 }
 
-/// The trees of packets, as a list in their order.
+/// Returns the list of the trees of packets, in their order.
 ///
 /// # Errors
 ///
-/// `AllocError` where there is no memory.
+/// `AllocError` if out of memory.
 pub fn packets_json<P: AnyPacket>(alloc: Global, packets: &[P]) -> Result<Value, AllocError>
     ensures { IfOk result (λ v. view v ≡ packets_tree P.WAY (map (λ p. (P.form p).value) packets.now)) }
 {

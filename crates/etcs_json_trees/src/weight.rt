@@ -7,7 +7,7 @@ ghost use Rattle.etcs_json_trees.specs.Found.{HasNull};
 
 use serde_json::{Map, Value};
 
-/// What the value leaves of the room, if it is enough.
+/// The room that the value leaves; `None` if the value is heavier than the room.
 #[cycle(spend)]
 pub(crate) fn spend(value: &Value, room: usize) -> Option<usize>
     ensures { MatchOption result (room < weight (view value.now)) (λ left. weight (view value.now) + left ≡ room) }
@@ -19,7 +19,7 @@ pub(crate) fn spend(value: &Value, room: usize) -> Option<usize>
     }
 }
 
-/// What the items of a list leave.
+/// The room that the items of a list leave.
 #[cycle(spend)]
 fn spend_items(items: &Vec<Value>, room: usize) -> Option<usize>
     ensures { MatchOption result (room < items_weight (items_view items.now.items)) (λ left. items_weight (items_view items.now.items) + left ≡ room) }
@@ -31,7 +31,7 @@ fn spend_items(items: &Vec<Value>, room: usize) -> Option<usize>
     Some(left)
 }
 
-/// What the members of an object leave.
+/// The room that the members of an object leave.
 #[cycle(spend)]
 pub(crate) fn spend_members(members: &Map<String, Value>, room: usize) -> Option<usize>
     ensures { MatchOption result (room < members_weight (members_view members.now.entries)) (λ left. members_weight (members_view members.now.entries) + left ≡ room) }

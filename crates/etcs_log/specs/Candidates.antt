@@ -21,7 +21,7 @@ contains kinds Short = kinds.short
 contains kinds Radio = kinds.radio
 contains kinds Train = kinds.train
 
--- and with this kind too
+-- these kinds, and this one
 abbrev pub added : Kinds → Kind → Kinds
 added kinds Long = record kinds { long = true }
 added kinds Short = record kinds { short = true }
@@ -39,7 +39,7 @@ telegram_bytes Short = 27
 telegram_bytes Radio = 0
 telegram_bytes Train = 0
 
--- L_MESSAGE, the ten bits after NID_MESSAGE, says this number of bytes
+-- L_MESSAGE, the ten bits after NID_MESSAGE, is this number of bytes
 abbrev pub says_length : List ℕ → Bool
 says_length bytes = nat_lt 2 (length bytes) && (length bytes == slice_index bytes 1 * 4 + slice_index bytes 2 / 64)
 
@@ -47,7 +47,7 @@ says_length bytes = nat_lt 2 (length bytes) && (length bytes == slice_index byte
 abbrev pub is_to_track : ℕ → Bool
 is_to_track number = nat_lt 128 number && nat_lt number 160
 
--- the kind of a message: where both ways are asked for, that of its number
+-- the kind of a message: if both ways are asked for, that of its number
 abbrev pub message_way : Kinds → List ℕ → Kind
 message_way kinds bytes = if kinds.train && (not kinds.radio || is_to_track (slice_index bytes 0)) then Train else Radio
 
@@ -56,17 +56,19 @@ pub record Candidate : Type 0 where
   pub kind : Kind
   pub bytes : List ℕ
 
--- one, where it is asked for
+-- these bytes as this kind, if it is asked for
 abbrev pub where_asked : Bool → Kind → List ℕ → List Candidate
 where_asked asked kind bytes = if asked then record { kind = kind; bytes = bytes } ∷ [] else []
 
--- all bytes of a line; or, where its digits are the bits of a telegram, the bytes of these bits
+-- all bytes of a line; or, if its digits are the bits of a telegram of the kind, the bytes of these bits
 abbrev pub whole_bytes : Kind → List ℕ → List ℕ
 whole_bytes kind bytes = if are_bits kind bytes then take (telegram_bytes kind) (packed bytes) else bytes
 
+-- all bytes of a line as a telegram of the kind, if it is asked for
 abbrev pub whole_candidate : Kinds → Kind → List ℕ → List Candidate
 whole_candidate kinds kind bytes = where_asked (contains kinds kind) kind (whole_bytes kind bytes)
 
+-- all bytes of a line as a message, if a way is asked for
 abbrev pub message_candidate : Kinds → List ℕ → List Candidate
 message_candidate kinds bytes = where_asked (kinds.radio || kinds.train) (message_way kinds bytes) bytes
 
@@ -74,14 +76,15 @@ message_candidate kinds bytes = where_asked (kinds.radio || kinds.train) (messag
 abbrev pub last_bytes : Kind → List ℕ → List ℕ
 last_bytes kind bytes = drop (length bytes - telegram_bytes kind) bytes
 
+-- the last bytes of a line as a telegram of the kind, if it is asked for and there are more bytes
 abbrev pub last_candidate : Kinds → Kind → List ℕ → List Candidate
 last_candidate kinds kind bytes = where_asked (contains kinds kind && nat_lt (telegram_bytes kind) (length bytes)) kind (last_bytes kind bytes)
 
--- what all bytes of a line may be
+-- what all bytes of a line may be: a long telegram, a short one, a message
 abbrev pub whole_candidates : Kinds → List ℕ → List Candidate
 whole_candidates kinds bytes = whole_candidate kinds Long bytes ++ (whole_candidate kinds Short bytes ++ message_candidate kinds bytes)
 
--- and the last of them
+-- what the last of them may be: a long telegram, a short one
 abbrev pub last_candidates : Kinds → List ℕ → List Candidate
 last_candidates kinds bytes = last_candidate kinds Long bytes ++ last_candidate kinds Short bytes
 
@@ -110,11 +113,11 @@ may_have Train count = true
 abbrev pub is_wanted : List ℕ → Bool
 is_wanted bytes = (length bytes == 104) || (length bytes == 27) || says_length bytes
 
--- some kind that is asked for has
+-- some kind that is asked for has items of this number of bytes
 abbrev pub is_asked : Kinds → List ℕ → Bool
 is_asked kinds bytes = (kinds.long && (length bytes == 104)) || (kinds.short && (length bytes == 27)) || ((kinds.radio || kinds.train) && says_length bytes)
 
--- only a kind that isn't asked for has
+-- only a kind that isn't asked for has items of this number of bytes
 abbrev pub is_other : Kinds → List ℕ → Bool
 is_other kinds bytes = not (is_asked kinds bytes) && is_wanted bytes
 
@@ -125,6 +128,6 @@ kind_name Short = codes "short"
 kind_name Radio = codes "radio"
 kind_name Train = codes "train"
 
--- and how each of several kinds is named before an item of it
+-- what is written of the kind before an item: its name and a blank if there are several kinds
 abbrev pub named : Kinds → Kind → List ℕ
 named kinds kind = if several kinds then kind_name kind ++ codes " " else []

@@ -20,77 +20,79 @@ use Rattle.etcs_log.specs.LogGroups.{AreGroups, telegram_of}
 use Rattle.etcs_log.specs.Candidates.{AreNone, Candidate, IsFirst, candidates, is_other, named}
 use Rattle.etcs_log.specs.JsonLines.{IsJsonItem}
 
--- it is passed over; after this front it has this item of this kind; it has this number of bytes, as items of another kind
--- have; it is bad
+-- what a line is: passed over; this item of this kind, after this front; of another kind, with this number of bytes; bad
 pub data Answer : Type 0 where
   passed : Answer
   item : Kind → List ℕ → EntryValue → Answer
   other : ℕ → Answer
   bad : Answer
 
--- a line of at most 1,048,576 characters whose digits say these bytes
+-- the line has at most 1,048,576 characters, isn't passed over, and its digits are those of these bytes
 pub record SaysBytes (line bytes : List ℕ) : Type 0 where
   pub short : length line ≤ 1048576
   pub read : is_passed_over line ≡ false
   pub digits : decode_of (line_digits line) ≡ Ok bytes
 
--- what these bytes are, which have this before their digits
+-- what these bytes of a line are, with this before their digits: the first candidate that is an item; of another kind if
+-- none is, and by their number; else bad
 abbrev pub IsBytesAnswer : Kinds → List ℕ → List ℕ → Answer → Type 0
 IsBytesAnswer kinds front bytes passed = ⊥
 IsBytesAnswer kinds front bytes (item kind before e) = (before ≡ front) × IsFirst (candidates kinds bytes) kind e
 IsBytesAnswer kinds front bytes (other count) = AreNone (candidates kinds bytes) × (is_other kinds bytes ≡ true) × (count ≡ length bytes)
 IsBytesAnswer kinds front bytes bad = AreNone (candidates kinds bytes) × (is_other kinds bytes ≡ false)
 
--- what a line is: a bad one is too long, or says no bytes that are anything else
+-- what a line is: a bad one is too long or isn't passed over, and if it has bytes they are bad
 abbrev pub IsAnswer : Kinds → List ℕ → Answer → Type 0
 IsAnswer kinds line passed = (length line ≤ 1048576) × (is_passed_over line ≡ true)
 IsAnswer kinds line (item kind before e) = (bytes : List ℕ) × SaysBytes line bytes × IsBytesAnswer kinds (line_front line) bytes (item kind before e)
 IsAnswer kinds line (other count) = (bytes : List ℕ) × SaysBytes line bytes × IsBytesAnswer kinds (line_front line) bytes (other count)
 IsAnswer kinds line bad = ((1048576 < length line) ⊎ (is_passed_over line ≡ false)) × ((bytes : List ℕ) → SaysBytes line bytes → IsBytesAnswer kinds (line_front line) bytes bad)
 
--- one for each line, in order; a CR at its end isn't a character of it
+-- one result for each line, in order; a CR at its end isn't a character of it
 abbrev pub AreAnswers : Kinds → List (List ℕ) → List Answer → Type 0
 AreAnswers kinds [] [] = Unit {0}
 AreAnswers kinds [] (a ∷ others) = ⊥
 AreAnswers kinds (line ∷ lines) [] = ⊥
 AreAnswers kinds (line ∷ lines) (a ∷ others) = IsAnswer kinds (strip_cr line) a × AreAnswers kinds lines others
 
--- they are written
+-- good lines are written
 abbrev pub is_written : Good → Bool
 is_written Left = false
 is_written Digits = true
 is_written Json = true
 
--- the line of an item: its digits in upper case, and before them its kind, where there are several; or JSON
+-- what is written of an item: nothing; its digits in upper case, and before them its kind if there are several; or JSON
 abbrev pub GoodText : Good → Kinds → ℕ → Kind → List ℕ → EntryValue → List ℕ → Type 0
 GoodText Left kinds n kind before e text = text ≡ []
 GoodText Digits kinds n kind before e text = (bytes : List ℕ) × IsEncoded e bytes × (text ≡ named kinds kind ++ (encode_upper bytes ++ 10 ∷ []))
 GoodText Json kinds n kind before e text = IsJsonItem n before e text
 
--- what is reported of the bad line of this number: a line with a reason
+-- what is reported of the bad line of this number: a line with its number and some text
 abbrev pub IsNote : ℕ → List ℕ → Type 0
 IsNote number text = (reason : List ℕ) × (text ≡ codes "line " ++ decimal number ++ codes ": " ++ reason ++ codes "\n")
 
--- as which items have this number of bytes
+-- which items have this number of bytes
 abbrev pub other_words : ℕ → List ℕ
 other_words count = if count == 104 then codes " bytes, as a long telegram has\n" else if count == 27 then codes " bytes, as a short telegram has\n" else codes " bytes, as a radio message whose L_MESSAGE says so\n"
 
--- what is reported of a line of another kind
+-- what is reported of the line of this number, which is of another kind and has this many bytes
 abbrev pub other_note : ℕ → ℕ → List ℕ
 other_note number count = codes "line " ++ decimal number ++ codes ": other: " ++ decimal count ++ other_words count
 
--- what is written of the line of this number: where good ones are asked for, of those, and else of all others
+-- what is written of the line of this number: only of good lines if they are written, else only of bad lines and of those
+-- of another kind
 abbrev pub IsSaid : LogJob → ℕ → Answer → List ℕ → Type 0
 IsSaid job n passed text = text ≡ []
 IsSaid job n (item kind before e) text = GoodText job.good job.kinds n kind before e text
 IsSaid job n (other count) text = (is_written job.good ≡ true → text ≡ []) × (is_written job.good ≡ false → text ≡ other_note n count)
 IsSaid job n bad text = (is_written job.good ≡ true → text ≡ []) × (is_written job.good ≡ false → IsNote n text)
 
--- of lines one after another, of which the first has this number
+-- what is written of lines one after another, of which the first has this number
 abbrev pub Outputs : LogJob → ℕ → List Answer → List ℕ → Type 0
 Outputs job n [] text = text ≡ []
 Outputs job n (a ∷ others) text = (said : List ℕ) × (rest : List ℕ) × IsSaid job n a said × (text ≡ said ++ rest) × Outputs job (n + 1) others rest
 
+-- how many lines are items
 abbrev pub items_in : List Answer → ℕ
 items_in [] = 0
 items_in (passed ∷ others) = items_in others
@@ -98,6 +100,7 @@ items_in (item kind before e ∷ others) = 1 + items_in others
 items_in (other count ∷ others) = items_in others
 items_in (bad ∷ others) = items_in others
 
+-- how many lines are bad
 abbrev pub bad_in : List Answer → ℕ
 bad_in [] = 0
 bad_in (passed ∷ others) = bad_in others
@@ -105,6 +108,7 @@ bad_in (item kind before e ∷ others) = bad_in others
 bad_in (other count ∷ others) = bad_in others
 bad_in (bad ∷ others) = 1 + bad_in others
 
+-- how many lines are of another kind
 abbrev pub other_in : List Answer → ℕ
 other_in [] = 0
 other_in (passed ∷ others) = other_in others
@@ -120,21 +124,22 @@ telegrams_in (item kind before e ∷ others) = telegram_of e ++ telegrams_in oth
 telegrams_in (other count ∷ others) = telegrams_in others
 telegrams_in (bad ∷ others) = telegrams_in others
 
--- how many lines are of other kinds, where there are any
+-- the line with how many lines are of other kinds, if there are any
 abbrev pub other_count : ℕ → List ℕ
 other_count count = if count == 0 then [] else codes "other " ++ decimal count ++ codes "\n"
 
--- how many lines are items, how many are bad and how many are of other kinds, a line each
+-- how many lines are items, how many are bad and, if any, how many are of other kinds, one count per line
 abbrev pub counts_front : LogTally → List ℕ
 counts_front tally = codes "items " ++ decimal tally.items ++ codes "\nbad " ++ decimal tally.bad ++ codes "\n" ++ other_count tally.other
 
--- what is written after the last line: counts where they are asked for and good lines aren't
+-- what is written after the last line: these counts and some further text if counts are asked for and good lines aren't
+-- written, else nothing
 abbrev pub CountsText : LogJob → LogTally → List ℕ → Type 0
 CountsText job tally text =
     ((is_written job.good ≡ true) ⊎ (job.summary ≡ false) → text ≡ [])
     × (is_written job.good ≡ false → job.summary ≡ true → (further : List ℕ) × (text ≡ counts_front tally ++ further))
 
--- what is written after them: a line of each group, where groups are asked for and good lines aren't
+-- what is written after them: a line for each group if groups are asked for and good lines aren't written, else nothing
 abbrev pub GroupsText : LogJob → List Group → List ℕ → Type 0
 GroupsText job gs text =
     ((is_written job.good ≡ true) ⊎ (job.groups ≡ false) → text ≡ [])
@@ -144,11 +149,11 @@ GroupsText job gs text =
 abbrev pub EndText : LogJob → LogTally → List Group → List ℕ → Type 0
 EndText job tally gs text = (counts : List ℕ) × (lines : List ℕ) × CountsText job tally counts × GroupsText job gs lines × (text ≡ counts ++ lines)
 
--- the answer for the line of this number, the text written about it, and how it is counted
+-- the result for the line of this number, the text written about it, and how it is counted
 abbrev pub Counted : LogJob → ℕ → Answer → LogTally → LogTally → List ℕ → List ℕ → Type 0
 Counted job n a before after text text' = (said : List ℕ) × IsSaid job n a said × (text' ≡ text ++ said) × (after.items ≡ before.items + items_in (a ∷ [])) × (after.bad ≡ before.bad + bad_in (a ∷ [])) × (after.other ≡ before.other + other_in (a ∷ []))
 
--- where groups are asked for, the telegram that the line has, if any, was added to them
+-- if groups are asked for, the telegram of the line, if it is one, was added to them
 abbrev pub Grouped : LogJob → Answer → List Group → List Group → Type 0
 Grouped job a old new = job.groups ≡ true → (vs : List TelegramValue) → AreGroups vs old → AreGroups (vs ++ telegrams_in (a ∷ [])) new
 
@@ -156,11 +161,11 @@ Grouped job a old new = job.groups ≡ true → (vs : List TelegramValue) → Ar
 abbrev pub Noted : LogJob → ℕ → Answer → Seen → Seen → List ℕ → List ℕ → Type 0
 Noted job n a before after text text' = Counted job n a before.tally after.tally text text' × Grouped job a before.groups after.groups
 
--- a line was answered
+-- a line was classified and counted
 abbrev pub Answered : LogJob → ℕ → List ℕ → Seen → Seen → List ℕ → List ℕ → Type 0
 Answered job n line before after text text' = (a : Answer) × IsAnswer job.kinds line a × Noted job n a before after text text'
 
--- the bytes of a line were answered, with what is before their digits
+-- the same of the bytes of a line, with what is before their digits
 abbrev pub BytesAnswered : LogJob → ℕ → List ℕ → List ℕ → Seen → Seen → List ℕ → List ℕ → Type 0
 BytesAnswered job n front bytes before after text text' = (a : Answer) × IsBytesAnswer job.kinds front bytes a × Noted job n a before after text text'
 
@@ -169,7 +174,9 @@ abbrev pub Tried : List Candidate → Bool → LogJob → ℕ → List ℕ → S
 Tried cs true job n front before after text text' = (kind : Kind) × (e : EntryValue) × IsFirst cs kind e × Noted job n (item kind front e) before after text text'
 Tried cs false job n front before after text text' = AreNone cs × (after ≡ before) × (text' ≡ text)
 
--- a whole log: each of its lines, of which the last may be empty and has no LF, is answered once and in order
+-- a whole log: the bytes given are its lines, of which the last has no LF and may be empty. Each gets one result, in
+-- order. Output is what is written of them, then the counts and the groups; the tally has how many are items, bad, and of
+-- other kinds
 pub record IsLog (job : LogJob) (given output : List ℕ) (tally : LogTally) : Type 0 where
   pub lines : List (List ℕ)
   pub last : List ℕ

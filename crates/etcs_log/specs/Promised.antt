@@ -7,14 +7,14 @@ use Rattle.etcs_log.specs.declared.job.LogJob.{LogJob}
 use Rattle.etcs_log.specs.declared.job.LogTally.{LogTally}
 use Rattle.etcs_log.specs.Logs.{Answer, AreAnswers, Outputs, IsLog}
 
--- these lines are answered one after another, and this is the text of them
+-- each of these lines gets its result, and this is what is written of them, one after another
 pub record LinesOutput (job : LogJob) (lines : List (List ℕ)) (output : List ℕ) : Type 0 where
   pub answers : List Answer
   pub are_answers : AreAnswers job.kinds lines answers
   pub outputs : Outputs job 1 answers output
 
--- the text of the first lines of an input: of those that have a LF; or also of a part of the next one, which is too long
--- however it continues
+-- what is written of some first lines of an input, all before the rest, each with a LF; or also of a part of the next one,
+-- which is too long however it continues
 pub record FrontOutput (job : LogJob) (given rest output : List ℕ) : Type 0 where
   pub lines : List (List ℕ)
   pub part : List ℕ
@@ -22,7 +22,7 @@ pub record FrontOutput (job : LogJob) (given rest output : List ℕ) : Type 0 wh
   pub are_lines : All IsLine lines × IsLine part
   pub lines_output : LinesOutput job lines output ⊎ ((1048577 < length part) × LinesOutput job (lines ++ part ∷ []) output)
 
--- the text of all lines of an input, without counts
+-- what is written of all lines of an input, without counts and groups
 pub record AllOutput (job : LogJob) (given output : List ℕ) : Type 0 where
   pub lines : List (List ℕ)
   pub last : List ℕ
@@ -30,15 +30,15 @@ pub record AllOutput (job : LogJob) (given output : List ℕ) : Type 0 where
   pub are_lines : All IsLine lines × IsLine last
   pub lines_output : LinesOutput job (lines ++ last ∷ []) output
 
--- of all lines that are whole in what is given
+-- what is written of all lines that have a LF in what is given, and perhaps of one after them that is too long
 abbrev pub WholeOutput : LogJob → List ℕ → List ℕ → Type 0
 WholeOutput job given output = FrontOutput job given [] output
 
--- of the first ones
+-- what is written of some first lines
 abbrev pub FirstOutput : LogJob → List ℕ → List ℕ → Type 0
 FirstOutput job given output = (rest : List ℕ) × FrontOutput job given rest output
 
--- no fault but refused memory ends a log
+-- no fault of its own ends a log, except if memory runs out
 abbrev pub log_promises : LogJob → Promises LogTally
 log_promises job = record {
   Outputs = λ given output. WholeOutput job given output;

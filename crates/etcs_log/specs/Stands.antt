@@ -6,7 +6,7 @@ use Rattle.etcs_log.specs.declared.seen.Seen.{Seen}
 use Rattle.etcs_log.specs.LogGroups.{AreGroups}
 use Rattle.etcs_log.specs.Logs.{Answer, AreAnswers, Outputs, items_in, bad_in, other_in, telegrams_in}
 
--- these lines were answered one after another, and this text was written of them
+-- these lines were classified one after another, and this text was written of them
 pub record AreAnswered (job : LogJob) (lines : List (List ℕ)) (seen : Seen) (output : List ℕ) : Type 0 where
   pub answers : List Answer
   pub are_answers : AreAnswers job.kinds lines answers
@@ -16,7 +16,7 @@ pub record AreAnswered (job : LogJob) (lines : List (List ℕ)) (seen : Seen) (o
   pub other_are : seen.tally.other ≡ other_in answers
   pub groups_are : job.groups ≡ true → AreGroups (telegrams_in answers) seen.groups
 
--- these lines were there, and their number
+-- these lines were classified, and this is their number
 pub record LogTook (job : LogJob) (line : ℕ) (seen : Seen) (lines : List (List ℕ)) (output : List ℕ) : Type 0 where
   pub are_lines : All IsLine lines
   pub line_is : line ≡ length lines

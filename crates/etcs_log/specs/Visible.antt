@@ -1,11 +1,11 @@
--- Text of JSON that a terminal shows and doesn't obey.
+-- Text of JSON in which a terminal acts on no character.
 use Rattle.std.specs.Prelude.{ℕ, ◌/◌, ◌%◌, Bool, ◌||◌, ◌==◌, if◌then◌else◌, List, [], ◌∷◌, ◌++◌, codes, flat_map}
 use Rattle.std.specs.Char.{encode_utf8}
 use Rattle.std.specs.Int.{is_in_range}
 use Rattle.std.specs.Str.{chars}
 use Rattle.hex.specs.Hex.{encode_lower}
 
--- a terminal may obey the character, and JSON has it as it is: DEL and C1, ends of lines and paragraphs, and marks of the
+-- a terminal may act on the character, and JSON has it as it is: DEL and C1, ends of lines and paragraphs, and marks of the
 -- direction of writing
 abbrev pub is_unseen : ℕ → Bool
 is_unseen c =

@@ -1,4 +1,4 @@
-//! What a log has.
+//! Counts what a log has.
 
 ghost use Rattle.std.specs.Prelude.{◌≡◌, ◌<◌, ◌++◌, ℕ, List, codes, OnErr, OnOk};
 ghost use Rattle.std.specs.Fmt.{decimal};
@@ -18,7 +18,7 @@ use std::alloc::{AllocError, Global};
 /// All kinds, in the order in which they are counted.
 const KINDS: [Kind; 4] = [Kind::Long, Kind::Short, Kind::Radio, Kind::Train];
 
-/// What items have, and where bad lines are refused, where that is asked for. No count passes 2^64 - 1.
+/// What items have, and at which variables bad lines are refused, if that is asked for. No count passes 2^64 - 1.
 #[derive(Drop)]
 pub(crate) struct Counts {
     asked: bool,
@@ -43,7 +43,7 @@ fn count_packets<P: AnyPacket>(packets: &[P], counts: &mut [u64; 256]) {
     }
 }
 
-/// Appends a line of each packet's number that was counted.
+/// Appends a line for each packet's number that was counted.
 fn write_packets(counts: &[u64; 256], out: &mut String) -> Result<(), AllocError> {
     for number in 0..256 {
         if counts[number] > 0 {
@@ -62,7 +62,7 @@ fn other_way(kinds: Kinds, number: u8) -> &'static str {
     }
 }
 
-/// Appends a line of each message's number that was counted.
+/// Appends a line for each message's number that was counted.
 fn write_messages(kinds: Kinds, counts: &[u64; 256], out: &mut String) -> Result<(), AllocError> {
     for number in 0..256 {
         if counts[number] > 0 {
@@ -85,7 +85,7 @@ fn place_of(kind: Kind) -> usize
     }
 }
 
-/// Of several kinds, appends a line of each: how many items are of it.
+/// If there are several kinds, appends a line for each: how many items are of it.
 fn write_kinds(kinds: Kinds, counts: &[u64; 4], out: &mut String) -> Result<(), AllocError> {
     for kind in KINDS {
         if kinds.several() && kinds.contains(kind) {
@@ -139,7 +139,7 @@ impl Counts {
     ///
     /// # Errors
     ///
-    /// Where memory is refused.
+    /// If memory runs out.
     pub(crate) fn add_refused(&mut self, var: Var) -> Result<(), AllocError> {
         if !self.asked {
             return Ok(());
@@ -159,7 +159,7 @@ impl Counts {
     ///
     /// # Errors
     ///
-    /// Where memory is refused. A part of the text may then be in `out`.
+    /// If memory runs out. A part of the text may then be in `out`.
     pub(crate) fn write(&self, kinds: Kinds, out: &mut String) -> Result<(), AllocError> {
         write_kinds(kinds, &self.items, out)?;
         if self.kept > 0 {
@@ -178,7 +178,7 @@ impl Counts {
 ///
 /// # Errors
 ///
-/// Where memory is refused.
+/// If memory runs out.
 pub(crate) fn append_counts(
     tally: &LogTally,
     further: &str,
@@ -199,7 +199,7 @@ pub(crate) fn append_counts(
 ///
 /// # Errors
 ///
-/// Where memory is refused. A part of them may then be in `out`.
+/// If memory runs out. A part of them may then be in `out`.
 #[tactic(auto, using(etcs_packet_text::specs::laws::Fronts::begins_more, std::proofs::Common::append_assoc))]
 fn write_all_counts(tally: &LogTally, further: &str, out: &mut Vec<u8>) -> Result<(), AllocError>
     ensures ok { OnOk result (out.new.items ≡ out.old.items ++ (counts_front tally.now ++ further.now)) }
@@ -214,11 +214,11 @@ fn write_all_counts(tally: &LogTally, further: &str, out: &mut Vec<u8>) -> Resul
     out.extend_from_slice(further.as_bytes())
 }
 
-/// Appends how many lines are of another kind, where there are any.
+/// Appends how many lines are of another kind, if there are any.
 ///
 /// # Errors
 ///
-/// Where memory is refused. A part of the line may then be in `out`.
+/// If memory runs out. A part of the line may then be in `out`.
 #[tactic(auto, using(etcs_packet_text::specs::laws::Fronts::begins_more, std::proofs::Common::append_assoc))]
 fn write_other(count: u64, out: &mut Vec<u8>) -> Result<(), AllocError>
     ensures ok { OnOk result (out.new.items ≡ out.old.items ++ other_count count) }

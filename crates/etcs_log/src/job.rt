@@ -1,4 +1,4 @@
-//! What is asked of a log, and what it has.
+//! What to do with a log, and its counts.
 
 ghost use Rattle.std.specs.Prelude.{◌≡◌};
 ghost use Rattle.etcs_log.specs.Logs.{is_written};
@@ -12,12 +12,13 @@ pub enum Good {
     Left,
     /// Their digits in upper case, with the name of the kind before them if several kinds are asked for.
     Digits,
-    /// A line of JSON each: the line's number, what is before its digits, and its item.
+    /// One line of JSON each: the line's number, what is before its digits, and its item.
     Json,
 }
 
 impl Good {
-    /// Whether good lines are written. What is reported of all other lines, the counts and the groups then go to the notes.
+    /// Whether good lines are written, and thus nothing else to the sink: the counts, the groups and what is reported of other
+    /// lines are for the notes then.
     pub(crate) fn is_written(self) -> bool
         ensures { result ≡ is_written self }
     {
@@ -28,26 +29,26 @@ impl Good {
     }
 }
 
-/// What is asked of a log.
+/// What to do with a log.
 #[derive(Clone, Copy, Debug, PartialEq, Eq)]
 pub struct LogJob {
-    /// What a line may hold.
+    /// The kinds of items that a line may hold.
     pub kinds: Kinds,
     /// What is written of the good lines.
     pub good: Good,
-    /// Whether counts are written at the end.
+    /// Whether counts are written after the last line.
     pub summary: bool,
-    /// Whether a line of each balise group is written at the end, after the counts.
+    /// Whether a line for each balise group is written after that.
     pub groups: bool,
 }
 
-/// What a whole log has.
+/// How many lines of a whole log are what. All other lines are blank or comments.
 #[derive(Clone, Copy, Debug, PartialEq, Eq)]
 pub struct LogTally {
     /// How many lines are items.
     pub items: u64,
-    /// How many are bad.
+    /// How many are bad: neither of these, nor blank, nor a comment.
     pub bad: u64,
-    /// How many are no item, and have a number of bytes that only items of a kind that isn't asked for have.
+    /// How many aren't an item of the kinds, and have a number of bytes that only items of a kind that isn't asked for have.
     pub other: u64,
 }

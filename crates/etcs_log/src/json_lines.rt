@@ -20,7 +20,7 @@ use std::str;
 ///
 /// # Errors
 ///
-/// Where memory is refused.
+/// If memory runs out.
 fn append_front(front: &[u8], out: &mut Vec<u8>) -> Result<(), AllocError>
     ensures ok { OnOk result (out.new.items ≡ out.old.items ++ visible (compact_text (string (utf8_lossy front.now)))) }
     ensures err { OnErr result (out.new.items ≡ out.old.items) }
@@ -36,7 +36,7 @@ fn append_front(front: &[u8], out: &mut Vec<u8>) -> Result<(), AllocError>
 ///
 /// # Errors
 ///
-/// Where memory is refused.
+/// If memory runs out.
 fn append_item(item: &Entry, out: &mut Vec<u8>) -> Result<(), AllocError>
     ensures ok { OnOk result (out.new.items ≡ out.old.items ++ compact_text (json_tree (entry_value item.now))) }
     ensures err { OnErr result (out.new.items ≡ out.old.items) }
@@ -51,7 +51,7 @@ fn append_item(item: &Entry, out: &mut Vec<u8>) -> Result<(), AllocError>
 ///
 /// # Errors
 ///
-/// Where memory is refused. A part of it may then be in `out`.
+/// If memory runs out. A part of it may then be in `out`.
 #[tactic(auto, using(etcs_packet_text::specs::laws::Fronts::begins_more, std::proofs::Common::append_assoc))]
 fn write_json_item(
     number: u64,
@@ -73,12 +73,12 @@ fn write_json_item(
 
 /// Appends the line of an item as JSON, or nothing: an object with the line's number (`line`), what is before its digits
 /// (`front`), and the item as `convert --to json` writes it (`item`). Bytes before the digits that aren't UTF-8 are written
-/// as U+FFFD. Characters that a terminal may obey are escaped: not only those below U+0020, but also U+007F to U+009F,
+/// as U+FFFD. Characters that a terminal may act on are escaped: not only those below U+0020, but also U+007F to U+009F,
 /// U+061C, U+200E, U+200F, U+2028 to U+202E and U+2066 to U+2069.
 ///
 /// # Errors
 ///
-/// Where memory is refused.
+/// If memory runs out.
 pub(crate) fn append_json_item(
     number: u64,
     front: &[u8],

@@ -1,4 +1,4 @@
-//! Which kinds of items a log has.
+//! The kinds of items that a log has.
 
 ghost use Rattle.std.specs.Prelude.{◌≡◌, ◌≤◌};
 ghost use Rattle.etcs_log.specs.Candidates.{added, contains, is_other, kind_name, message_way, only, says_length, several, telegram_bytes};
@@ -20,7 +20,7 @@ pub struct Kinds {
 }
 
 impl Kinds {
-    /// This kind alone.
+    /// Returns this kind alone.
     pub fn of(kind: Kind) -> Kinds
         ensures { result ≡ only kind }
     {
@@ -32,7 +32,7 @@ impl Kinds {
         }
     }
 
-    /// Whether this kind is one of them.
+    /// Returns whether this kind is one of them.
     pub fn contains(self, kind: Kind) -> bool
         ensures { result ≡ contains self kind }
     {
@@ -44,7 +44,7 @@ impl Kinds {
         }
     }
 
-    /// These kinds and this one.
+    /// Returns these kinds and this one.
     pub fn with(self, kind: Kind) -> Kinds
         ensures { result ≡ added self kind }
     {
@@ -58,7 +58,7 @@ impl Kinds {
         kinds
     }
 
-    /// Whether there are two or more of them.
+    /// Returns whether there are two or more of them.
     pub fn several(self) -> bool
         ensures { result ≡ several self }
     {
@@ -67,7 +67,7 @@ impl Kinds {
             || (self.radio && self.train)
     }
 
-    /// The kind of a message of these bytes: where both ways are asked for, that of its number (SUBSET-026, 8.5).
+    /// The kind of a message of these bytes: if both ways are asked for, that of its number (SUBSET-026, 8.5).
     pub(crate) fn message_way(self, bytes: &[u8]) -> Kind
         ensures { result ≡ message_way self bytes.now }
     {
@@ -91,7 +91,7 @@ pub(crate) fn telegram_bytes(kind: Kind) -> usize
     }
 }
 
-/// Whether L_MESSAGE says this number of bytes.
+/// Whether L_MESSAGE is this number of bytes.
 pub(crate) fn says_length(bytes: &[u8]) -> bool
     ensures { result ≡ says_length bytes.now }
 {

@@ -1,4 +1,6 @@
-//! Log lines: an item a line, each read by itself.
+//! Reads logs with at most one item per line ([`run_log`]). Each line is read by itself: a bad one is reported and
+//! skipped, unlike in `etcs_stream`. A [`LogJob`] has the [`Kinds`] that are asked for and what is written; a
+//! [`LogTally`] has the counts.
 #![tactic(auto)]
 
 mod counts;

@@ -29,7 +29,7 @@ use std::alloc::{AllocError, Global};
 ///
 /// # Errors
 ///
-/// Where memory is refused.
+/// If memory runs out.
 fn write_digits(bytes: &[u8], out: &mut Vec<u8>) -> Result<(), AllocError>
     ensures ok { OnOk result (out.new.items ≡ out.old.items ++ (encode_upper bytes.now ++ 10 ∷ [])) }
     ensures err { OnErr result (out.new.items ≡ out.old.items) }
@@ -39,11 +39,11 @@ fn write_digits(bytes: &[u8], out: &mut Vec<u8>) -> Result<(), AllocError>
     to_digits(out, start)
 }
 
-/// Appends what a kind is called, where there are several, and a blank.
+/// Appends what a kind is called and a blank, if there are several kinds.
 ///
 /// # Errors
 ///
-/// Where memory is refused. A part of it may then be in `out`.
+/// If memory runs out. A part of it may then be in `out`.
 #[tactic(auto, using(etcs_packet_text::specs::laws::Fronts::begins_more))]
 fn write_front(kinds: Kinds, kind: Kind, out: &mut Vec<u8>) -> Result<(), AllocError>
     ensures ok { OnOk result (out.new.items ≡ out.old.items ++ named kinds kind) }
@@ -60,7 +60,7 @@ fn write_front(kinds: Kinds, kind: Kind, out: &mut Vec<u8>) -> Result<(), AllocE
 ///
 /// # Errors
 ///
-/// Where memory is refused.
+/// If memory runs out.
 fn write_good(kinds: Kinds, kind: Kind, bytes: &[u8], out: &mut Vec<u8>) -> Result<(), AllocError>
     ensures ok { OnOk result (out.new.items ≡ out.old.items ++ (named kinds kind ++ (encode_upper bytes.now ++ 10 ∷ []))) }
     ensures err { OnErr result (out.new.items ≡ out.old.items) }
@@ -77,7 +77,7 @@ fn write_good(kinds: Kinds, kind: Kind, bytes: &[u8], out: &mut Vec<u8>) -> Resu
 ///
 /// # Errors
 ///
-/// Where memory is refused. A part of it may then be in `out`.
+/// If memory runs out. A part of it may then be in `out`.
 #[tactic(auto, using(etcs_packet_text::specs::laws::Fronts::begins_more, std::proofs::Common::append_assoc))]
 fn write_line(kinds: Kinds, kind: Kind, bytes: &[u8], out: &mut Vec<u8>) -> Result<(), AllocError>
     ensures ok { OnOk result (out.new.items ≡ out.old.items ++ (named kinds kind ++ (encode_upper bytes.now ++ 10 ∷ []))) }
@@ -110,18 +110,18 @@ fn may_have(kind: Kind, count: usize) -> bool
 #[derive(Drop)]
 pub(crate) struct Answers {
     pub(crate) job: LogJob,
-    /// How many lines have come.
+    /// How many lines were read.
     pub(crate) line: u64,
     pub(crate) seen: Seen,
     readers: Readers,
     counts: Counts,
     words: String,
-    /// What is reported of lines that aren't good, where good ones are asked for.
+    /// What is reported of other lines, if good ones are written.
     pub(crate) notes: Vec<u8>,
 }
 
 impl Answers {
-    /// No line has come.
+    /// No line was read.
     pub(crate) fn new(alloc: Global, job: LogJob) -> Answers
         ensures job { result.job ≡ job }
         ensures line { result.line ≡ 0 }
@@ -146,11 +146,11 @@ impl Answers {
         }
     }
 
-    /// Reports the last line that has come, by way of a buffer that has room for its bytes.
+    /// Reports the last line, by way of a buffer that has room for its bytes.
     ///
     /// # Errors
     ///
-    /// Where memory is refused. Nothing was appended.
+    /// If memory runs out. Nothing was appended.
     pub(crate) fn take(
         &mut self,
         line: &[u8],
@@ -179,7 +179,7 @@ impl Answers {
     ///
     /// # Errors
     ///
-    /// Where memory is refused. Nothing was appended.
+    /// If memory runs out. Nothing was appended.
     fn take_bytes(
         &mut self,
         line: &[u8],
@@ -207,7 +207,7 @@ impl Answers {
     ///
     /// # Errors
     ///
-    /// Where memory is refused. Nothing was appended.
+    /// If memory runs out. Nothing was appended.
     fn take_whole(
         &mut self,
         line: &[u8],
@@ -229,11 +229,11 @@ impl Answers {
         self.take_message(line, bytes, text)
     }
 
-    /// Takes the last bytes of a line as a telegram, where there are more, and returns whether they are one.
+    /// Takes the last bytes of a line as a telegram, if there are more bytes, and returns whether they are one.
     ///
     /// # Errors
     ///
-    /// Where memory is refused. Nothing was appended.
+    /// If memory runs out. Nothing was appended.
     fn take_last(
         &mut self,
         line: &[u8],
@@ -252,11 +252,11 @@ impl Answers {
         self.take_end(Kind::Short, line, bytes, text)
     }
 
-    /// Takes the bytes as a telegram of the kind, where it is asked for, or as its bits, and returns whether they are one.
+    /// Takes the bytes as a telegram of the kind or as its bits, if the kind is asked for, and returns whether they are one.
     ///
     /// # Errors
     ///
-    /// Where memory is refused. Nothing was appended.
+    /// If memory runs out. Nothing was appended.
     fn take_telegram(
         &mut self,
         kind: Kind,
@@ -280,11 +280,11 @@ impl Answers {
         self.take_item(kind, line, bytes, text)
     }
 
-    /// Takes the bytes as a message, where a way is asked for, and returns whether they are one.
+    /// Takes the bytes as a message, if a way is asked for, and returns whether they are one.
     ///
     /// # Errors
     ///
-    /// Where memory is refused. Nothing was appended.
+    /// If memory runs out. Nothing was appended.
     fn take_message(
         &mut self,
         line: &[u8],
@@ -304,11 +304,11 @@ impl Answers {
         self.take_item(kinds.message_way(bytes), line, bytes, text)
     }
 
-    /// Takes the last of more bytes as a telegram of the kind, where it is asked for, and returns whether they are one.
+    /// Takes the last of more bytes as a telegram of the kind, if it is asked for, and returns whether they are one.
     ///
     /// # Errors
     ///
-    /// Where memory is refused. Nothing was appended.
+    /// If memory runs out. Nothing was appended.
     fn take_end(
         &mut self,
         kind: Kind,
@@ -333,7 +333,7 @@ impl Answers {
     ///
     /// # Errors
     ///
-    /// Where memory is refused. Nothing was appended.
+    /// If memory runs out. Nothing was appended.
     fn take_item(
         &mut self,
         kind: Kind,
@@ -371,11 +371,11 @@ impl Answers {
         }
     }
 
-    /// Counts an item of these bytes, and writes its line where it is asked for.
+    /// Counts an item of these bytes, and writes its line if that is asked for.
     ///
     /// # Errors
     ///
-    /// Where memory is refused. Nothing was appended.
+    /// If memory runs out. Nothing was appended.
     fn add_item(
         &mut self,
         kind: Kind,
@@ -405,7 +405,7 @@ impl Answers {
     ///
     /// # Errors
     ///
-    /// Where memory is refused.
+    /// If memory runs out.
     fn hold(&mut self, entry: Entry) -> Result<(), AllocError>
         ensures job { self.new.job ≡ self.old.job }
         ensures line { self.new.line ≡ self.old.line }
@@ -418,11 +418,11 @@ impl Answers {
         }
     }
 
-    /// Reports a line whose bytes are no item of the kinds: as of another kind, by their number, or as bad.
+    /// Reports a line whose bytes aren't an item of the kinds: as one of another kind, by their number, or as bad.
     ///
     /// # Errors
     ///
-    /// Where memory is refused. Nothing was appended.
+    /// If memory runs out. Nothing was appended.
     fn refuse_bytes(
         &mut self,
         line: &[u8],
@@ -447,7 +447,7 @@ impl Answers {
     ///
     /// # Errors
     ///
-    /// Where memory is refused. Nothing was appended.
+    /// If memory runs out. Nothing was appended.
     fn pass_other(&mut self, count: usize, text: &mut Vec<u8>) -> Result<(), AllocError>
         requires other { self.old.seen.tally.other < 2 ^ 63 }
         ensures job { self.new.job ≡ self.old.job }
@@ -467,7 +467,7 @@ impl Answers {
     ///
     /// # Errors
     ///
-    /// Where memory is refused. Nothing was appended.
+    /// If memory runs out. Nothing was appended.
     pub(crate) fn refuse(
         &mut self,
         why: Bad,
@@ -496,11 +496,11 @@ impl Answers {
         }
     }
 
-    /// Appends what comes after the last line: the counts and the groups, where they are asked for.
+    /// Appends what comes after the last line: the counts and the groups, if they are asked for.
     ///
     /// # Errors
     ///
-    /// Where memory is refused. Nothing was appended.
+    /// If memory runs out. Nothing was appended.
     pub(crate) fn write_end(&mut self, text: &mut Vec<u8>) -> Result<(), AllocError>
         ensures job { self.new.job ≡ self.old.job }
         ensures tally { self.new.seen.tally ≡ self.old.seen.tally }
@@ -516,11 +516,11 @@ impl Answers {
         written
     }
 
-    /// Appends a line of each group, where they are asked for.
+    /// Appends a line for each group, if they are asked for.
     ///
     /// # Errors
     ///
-    /// Where memory is refused. Nothing was appended.
+    /// If memory runs out. Nothing was appended.
     fn write_groups(&mut self, text: &mut Vec<u8>) -> Result<(), AllocError>
         ensures job { self.new.job ≡ self.old.job }
         ensures seen { self.new.seen ≡ self.old.seen }
@@ -537,11 +537,11 @@ impl Answers {
         }
     }
 
-    /// Appends the counts, a line each, where they are asked for.
+    /// Appends the counts, one per line, if they are asked for.
     ///
     /// # Errors
     ///
-    /// Where memory is refused. Nothing was appended.
+    /// If memory runs out. Nothing was appended.
     fn write_counts(&mut self, text: &mut Vec<u8>) -> Result<(), AllocError>
         ensures job { self.new.job ≡ self.old.job }
         ensures seen { self.new.seen ≡ self.old.seen }

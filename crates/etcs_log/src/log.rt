@@ -14,14 +14,14 @@ use etcs_runs::inner::{Engine, LineHandler, Lines, send};
 use etcs_runs::{MOST_LINE, RunFault, Sink, without_cr};
 use std::alloc::{AllocError, Global};
 
-/// After how many failures the sink of notes isn't called any more.
+/// After how many failures the sink of notes isn't called again.
 const MOST_FAILURES: u64 = 1 << 62;
 
 /// Lengthens a buffer to at least this many bytes.
 ///
 /// # Errors
 ///
-/// Where memory is refused.
+/// If memory runs out.
 fn make_room(buffer: &mut Vec<u8>, count: usize) -> Result<(), AllocError>
     ensures { OnOk result (count ≤ length buffer.new.items) }
 {
@@ -31,7 +31,7 @@ fn make_room(buffer: &mut Vec<u8>, count: usize) -> Result<(), AllocError>
     Ok(())
 }
 
-/// Returns the lines of a log, with a buffer for the bytes of each.
+/// Handles the lines of a log, with a buffer for the bytes of each.
 #[derive(Drop)]
 pub(crate) struct LogLines {
     buffer: Vec<u8>,
@@ -39,7 +39,7 @@ pub(crate) struct LogLines {
 }
 
 impl LogLines {
-    /// No line has come. Not inlined, so that what it is made of isn't on the stack while lines are read.
+    /// No line was read. Not inlined, so that what it is made of isn't on the stack while lines are read.
     #[inline(never)]
     pub(crate) fn new(alloc: Global, job: LogJob) -> LogLines
         ensures job { result.answers.job ≡ job }
@@ -55,7 +55,7 @@ impl LogLines {
     ///
     /// # Errors
     ///
-    /// Where memory is refused. Nothing was appended.
+    /// If memory runs out. Nothing was appended.
     fn take(&mut self, line: &[u8], text: &mut Vec<u8>) -> Result<(), AllocError>
         requires line { self.old.answers.line < 2 ^ 63 }
         requires items { self.old.answers.seen.tally.items < 2 ^ 63 }
@@ -78,7 +78,7 @@ impl LogLines {
     ///
     /// # Errors
     ///
-    /// `Memory`. Nothing was appended.
+    /// `Memory` if memory runs out. Nothing was appended.
     fn end(&mut self, text: &mut Vec<u8>) -> Result<LogTally, RunFault>
         ensures ok { IfOk result (λ tally. (tally ≡ self.old.answers.seen.tally) × ((end : List ℕ) × EndText self.old.answers.job tally self.old.answers.seen.groups end × (text.new.items ≡ text.old.items ++ end))) }
         ensures err { IfErr result (λ e. (e ≡ RunFault.Memory) × (text.new.items ≡ text.old.items)) }
@@ -154,14 +154,14 @@ impl LineHandler for LogLines {
     ghost took_said = { λ s lines output h. tt };
 }
 
-/// The lines of a log, and where notes go to where good lines are asked for.
+/// The lines of a log, and where notes go if good lines are written.
 #[derive(Drop)]
 pub(crate) struct LogEngine<'a, N: Sink> {
     pub(crate) lines: Lines<LogLines>,
     pub(crate) notes: &'a mut N,
 }
 
-/// Passes notes on. Those that the sink doesn't take are lost.
+/// Passes notes on to a sink. Those that it doesn't take are lost.
 fn pass_notes<N: Sink>(notes: &mut Vec<u8>, sink: &mut N) {
     if sink.failures() < MOST_FAILURES {
         let _ = send(sink, notes.as_slice(), &mut 0);

@@ -10,7 +10,7 @@ use crate::kinds::{Kinds, says_length, telegram_bytes};
 use etcs_packet_text::inner::write_decimal;
 use etcs_reasons::inner::{are_bits, packed, wanted_bytes, write_count_of, write_no_bytes};
 use etcs_reasons::why;
-use etcs_runs::{MOST_LINE, NoBytes};
+use etcs_runs::NoBytes;
 use etcs_text::Kind;
 use std::alloc::AllocError;
 
@@ -23,7 +23,7 @@ pub(crate) enum Bad {
     NoDigits,
     /// It ends with this number of digits, which is odd.
     OddDigits(usize),
-    /// Its bytes are no item.
+    /// Its bytes aren't an item.
     Bytes,
 }
 
@@ -31,7 +31,7 @@ pub(crate) enum Bad {
 ///
 /// # Errors
 ///
-/// Where memory is refused. A part of the text may then be in `out`.
+/// If memory runs out. A part of the text may then be in `out`.
 pub(crate) fn write_reason(
     bad: Bad,
     kinds: Kinds,
@@ -40,15 +40,15 @@ pub(crate) fn write_reason(
     out: &mut String,
 ) -> Result<(), AllocError> {
     match bad {
-        Bad::Long => write!(out, "more than {MOST_LINE} characters"),
+        Bad::Long => out.push_str("line longer than 1,048,576 characters"),
         Bad::NoDigits => write_no_bytes(NoBytes::NoDigits, out),
         Bad::OddDigits(count) => write_no_bytes(NoBytes::OddDigits(count), out),
         Bad::Bytes => write_no_item(kinds, bytes, counts, out),
     }
 }
 
-/// Appends why these bytes are no item: of the first kind that has this number of bytes why they are refused; of none how
-/// many they are.
+/// Appends why these bytes are not an item: why the first kind that has this number of bytes refuses them; if none has, how
+/// many there are.
 fn write_no_item(
     kinds: Kinds,
     bytes: &[u8],
@@ -90,14 +90,19 @@ fn write_refused(
     }
 }
 
-/// Appends how many bytes there are and how many are wanted.
+/// Appends how many bytes there are and how many are needed.
 fn write_bytes(kinds: Kinds, bytes: &[u8], out: &mut String) -> Result<(), AllocError> {
     write_count_of(bytes.len(), "byte", out)?;
     let messages = kinds.radio || kinds.train;
     match (kinds.long, kinds.short, messages) {
-        (true, false, false) => out.push_str(", a long telegram has 104"),
-        (false, true, false) => out.push_str(", a short telegram has 27"),
-        (false, false, true) => write_length(", ", ", a radio message has at least 3", bytes, out),
+        (true, false, false) => out.push_str(", but a long telegram has 104"),
+        (false, true, false) => out.push_str(", but a short telegram has 27"),
+        (false, false, true) => write_length(
+            ", but ",
+            ", but a radio message has at least 3",
+            bytes,
+            out,
+        ),
         _ => {
             out.push_str(", which no item of these kinds has")?;
             if messages {
@@ -109,7 +114,7 @@ fn write_bytes(kinds: Kinds, bytes: &[u8], out: &mut String) -> Result<(), Alloc
     }
 }
 
-/// Appends what L_MESSAGE says, where it is there.
+/// Appends the number of L_MESSAGE, if it is there.
 fn write_length(
     front: &str,
     short: &str,
@@ -117,16 +122,16 @@ fn write_length(
     out: &mut String,
 ) -> Result<(), AllocError> {
     match wanted_bytes(Kind::Radio, bytes) {
-        Some(wanted) => write!(out, "{front}L_MESSAGE says {wanted}"),
+        Some(wanted) => write!(out, "{front}L_MESSAGE is {wanted}"),
         None => out.push_str(short),
     }
 }
 
-/// Appends the line that says why the line of this number is bad, or nothing.
+/// Appends the line that reports why the line of this number is bad, or nothing.
 ///
 /// # Errors
 ///
-/// Where memory is refused.
+/// If memory runs out.
 pub(crate) fn append_note(number: u64, reason: &str, out: &mut Vec<u8>) -> Result<(), AllocError>
     ensures ok { OnOk result ((note : List ℕ) × IsNote number note × (out.new.items ≡ out.old.items ++ note)) }
     ensures err { OnErr result (out.new.items ≡ out.old.items) }
@@ -143,7 +148,7 @@ pub(crate) fn append_note(number: u64, reason: &str, out: &mut Vec<u8>) -> Resul
 ///
 /// # Errors
 ///
-/// Where memory is refused. A part of it may then be in `out`.
+/// If memory runs out. A part of it may then be in `out`.
 #[tactic(auto, using(etcs_packet_text::specs::laws::Fronts::begins_more))]
 fn write_note(number: u64, reason: &str, out: &mut Vec<u8>) -> Result<(), AllocError>
     ensures ok { OnOk result (out.new.items ≡ out.old.items ++ (codes "line " ++ decimal number ++ codes ": " ++ reason.now ++ codes "\n")) }
@@ -156,11 +161,11 @@ fn write_note(number: u64, reason: &str, out: &mut Vec<u8>) -> Result<(), AllocE
     out.extend_from_slice(b"\n")
 }
 
-/// Appends the line that says that the line of this number has the number of bytes of another kind, or nothing.
+/// Appends the line that reports that the line of this number has the number of bytes of another kind, or nothing.
 ///
 /// # Errors
 ///
-/// Where memory is refused.
+/// If memory runs out.
 pub(crate) fn append_other(number: u64, count: usize, out: &mut Vec<u8>) -> Result<(), AllocError>
     ensures ok { OnOk result (out.new.items ≡ out.old.items ++ other_note number count) }
     ensures err { OnErr result (out.new.items ≡ out.old.items) }
@@ -177,7 +182,7 @@ pub(crate) fn append_other(number: u64, count: usize, out: &mut Vec<u8>) -> Resu
 ///
 /// # Errors
 ///
-/// Where memory is refused. A part of it may then be in `out`.
+/// If memory runs out. A part of it may then be in `out`.
 #[tactic(auto, using(etcs_packet_text::specs::laws::Fronts::begins_more, std::proofs::Common::append_assoc))]
 fn write_other(number: u64, count: usize, out: &mut Vec<u8>) -> Result<(), AllocError>
     ensures ok { OnOk result (out.new.items ≡ out.old.items ++ other_note number count) }
@@ -190,7 +195,7 @@ fn write_other(number: u64, count: usize, out: &mut Vec<u8>) -> Result<(), Alloc
     out.extend_from_slice(other_words(count).as_bytes())
 }
 
-/// As which items have this number of bytes.
+/// Which items have this number of bytes.
 fn other_words(count: usize) -> &'static str
     ensures { result.now ≡ other_words count }
 {

@@ -42,7 +42,7 @@ impl Readers {
     ///
     /// # Errors
     ///
-    /// Where memory is refused.
+    /// If memory runs out.
     pub(crate) fn read(&mut self, kind: Kind, bytes: &[u8]) -> Result<Verdict, AllocError>
         ensures { IfOk result (λ v. IsVerdict kind bytes.now v) }
     {

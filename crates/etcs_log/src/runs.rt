@@ -19,21 +19,40 @@ use std::alloc::Global;
 /// The most reads that a log may take: more than any run makes.
 const MOST_READS: u64 = 1 << 49;
 
-/// Reads a log with at most one item of the kinds in each line. The bytes of a line are those of its digits, as `line_bytes`
-/// finds them; blank lines and comments are skipped. A line is good if the kinds find an item in it, of which the first
-/// counts. A line that has more than 1,048,576 characters, or holds no item, is reported and skipped: as of another kind, if
-/// only a kind that isn't asked for has items of this number of bytes, otherwise as bad, with the reason. If good lines are
-/// asked for, they go to `sink`, and all that is reported of other lines, the counts and the groups to `notes`; otherwise
-/// everything goes to `sink`. What `notes` doesn't take is lost.
+/// Reads a log with at most one item of the kinds in each line. It classifies each line once, in order:
+///
+/// - skipped, if it is blank or a comment;
+/// - an item, if one of its candidates is one; the first such candidate counts. Of the bytes of the line's digits, which
+///   `line_bytes` finds, these are candidates, as far as their kinds are asked for: all bytes as a long telegram, as a short
+///   one (each time the bytes of the bits, if the digits are the bits of such a telegram) and as a message; then, of more
+///   bytes, the last 104 as a long telegram and the last 27 as a short one;
+/// - of another kind, if no candidate is an item, and only a kind that isn't asked for has items of this number of bytes;
+/// - bad in all other cases, and if it has more than 1,048,576 characters.
+///
+/// If good lines are asked for, the sink takes the line of each item: its digits in upper case, after the kind's name if there
+/// are several kinds, or JSON. All else is for `notes`: no clause says what `notes` takes, and what it doesn't take is lost.
+///
+/// Otherwise the sink takes, in the order of the log, for each bad line `line`, its number and a reason, and for each line of
+/// another kind `line`, its number, and the number of its bytes with the items that have it. After the last line, if counts
+/// are asked for, it takes how many lines are items, bad and, if any, of another kind, with further counts; and then, if
+/// groups are asked for, a line for each group of the telegrams among the items. No clause says what the reasons and the
+/// further counts are.
+///
+/// - `Ok`: the source is at its end, and the sink took all of that text and was flushed. The tally has how many lines are
+///   items, bad, and of another kind.
+///
+/// The caller owes that the source's reads and failures and the sink's failures so far are fewer than 2^63 each, and those of
+/// `notes` fewer than 2^62.
 ///
 /// # Errors
 ///
-/// - [`RunFault::Read`] if a read failed, [`RunFault::Write`] if a write failed, with how many bytes of the text the sink
-///   took, or 2^64 - 1 if it took more;
-/// - [`RunFault::Endless`] if the log isn't at its end after 2^49 reads;
-/// - [`RunFault::Memory`] if memory was refused.
-///
-/// What is reported of the lines that were whole before a fault is written first, unless memory or the sink fails.
+/// - [`RunFault::Read`]: a read failed. The sink took the text of all lines that have a LF in what was read, and perhaps of one
+///   after them that is too long;
+/// - [`RunFault::Endless`]: the log isn't at its end after 2^49 reads. What was written is the same;
+/// - [`RunFault::Memory`]: memory ran out. The sink took the text of some first lines, or of all lines without counts and
+///   groups, and at least what it would have taken had a read failed at most 4,096 bytes earlier;
+/// - [`RunFault::Write`]: a write or the flush at the end failed. The sink took the first bytes of the text of some first lines,
+///   or of all that the run writes; the fault has their number, at most 2^64 - 1.
 pub fn run_log<S: Source, W: Sink, N: Sink>(
     alloc: Global,
     job: LogJob,
@@ -63,5 +82,7 @@ pub fn run_log<S: Source, W: Sink, N: Sink>(
         lines: Lines::new(alloc, LogLines::new(alloc, job)),
         notes,
     };
-    run_engine(&mut engine, MOST_READS, alloc, source, sink)
+    let ended = run_engine(&mut engine, MOST_READS, alloc, source, sink);
+    drop(engine);
+    ended
 }

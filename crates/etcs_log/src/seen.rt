@@ -3,7 +3,7 @@
 use crate::job::LogTally;
 use etcs_group::Groups;
 
-/// How its lines are counted, and the groups of its telegrams, where they are asked for.
+/// How its lines are counted, and the groups of its telegrams, if they are asked for.
 #[derive(Drop)]
 pub(crate) struct Seen {
     pub(crate) tally: LogTally,

@@ -29,7 +29,7 @@ fn is_unseen(character: char) -> bool
 ///
 /// # Errors
 ///
-/// Where memory is refused. A part of it may then be in `out`.
+/// If memory runs out. A part of it may then be in `out`.
 fn append_escape(character: char, out: &mut Vec<u8>) -> Result<(), AllocError>
     requires { character < 65536 }
     ensures ok { OnOk result (out.new.items ≡ out.old.items ++ escape_of character) }
@@ -42,11 +42,11 @@ fn append_escape(character: char, out: &mut Vec<u8>) -> Result<(), AllocError>
     out.extend_from_slice(&digits)
 }
 
-/// Appends a character, or its escape where it is unseen.
+/// Appends a character, or its escape if it is unseen.
 ///
 /// # Errors
 ///
-/// Where memory is refused. A part of it may then be in `out`.
+/// If memory runs out. A part of it may then be in `out`.
 fn append_char(character: char, out: &mut Vec<u8>) -> Result<(), AllocError>
     ensures ok { OnOk result (out.new.items ≡ out.old.items ++ visible_char character) }
     ensures err { OnErr result (Begins out.old.items out.new.items) }
@@ -62,7 +62,7 @@ fn append_char(character: char, out: &mut Vec<u8>) -> Result<(), AllocError>
 ///
 /// # Errors
 ///
-/// Where memory is refused. A part of it may then be in `out`.
+/// If memory runs out. A part of it may then be in `out`.
 #[tactic(auto, using(etcs_packet_text::specs::laws::Fronts::begins_more))]
 fn append_visible(text: &str, out: &mut Vec<u8>) -> Result<(), AllocError>
     ensures ok { OnOk result (out.new.items ≡ out.old.items ++ visible text.now) }
@@ -78,7 +78,7 @@ fn append_visible(text: &str, out: &mut Vec<u8>) -> Result<(), AllocError>
 ///
 /// # Errors
 ///
-/// Where memory is refused.
+/// If memory runs out.
 fn append_string(text: &str, out: &mut Vec<u8>) -> Result<(), AllocError>
     ensures ok { OnOk result (out.new.items ≡ out.old.items ++ compact_text (string text.now)) }
     ensures err { OnErr result (out.new.items ≡ out.old.items) }
@@ -94,7 +94,7 @@ fn append_string(text: &str, out: &mut Vec<u8>) -> Result<(), AllocError>
 ///
 /// # Errors
 ///
-/// Where memory is refused.
+/// If memory runs out.
 fn append_escaped_string(text: &str, out: &mut Vec<u8>) -> Result<(), AllocError>
     ensures ok { OnOk result (out.new.items ≡ out.old.items ++ visible (compact_text (string text.now))) }
     ensures err { OnErr result (out.new.items ≡ out.old.items) }
@@ -116,7 +116,7 @@ fn append_escaped_string(text: &str, out: &mut Vec<u8>) -> Result<(), AllocError
 ///
 /// # Errors
 ///
-/// Where memory is refused.
+/// If memory runs out.
 pub(crate) fn append_visible_string(text: &str, out: &mut Vec<u8>) -> Result<(), AllocError>
     ensures ok { OnOk result (out.new.items ≡ out.old.items ++ visible (compact_text (string text.now))) }
     ensures err { OnErr result (out.new.items ≡ out.old.items) }

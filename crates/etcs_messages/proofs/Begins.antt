@@ -53,7 +53,7 @@ message_some way (Some vs) len (r, (fits, most, (a, q, e, fields, (p, b, f, run,
 
 -- ---- L_MESSAGE.
 
--- by ranges of these numbers it can be said which of its first bits continue
+-- ranges of these numbers decide which of its first bits continue
 length_tested : (way : Way) (nid : ℕ) (rs : List (ℕ × ℕ)) (rest bits : ℕ) → ordered rs ≡ true → ((n : ℕ) → IsTrue (inside rs n) ↔ Goes (AfterMessageLength way (front_row way nid) n)) → IsTrue (begins rs rest bits) ↔ Starts (LengthLeft way nid) L_MESSAGE rest bits
 length_tested way nid rs rest bits order fits = (
   λ t.

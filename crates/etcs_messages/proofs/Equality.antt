@@ -1,4 +1,4 @@
--- `==` of messages is equality of their values where that of heads and bodies is.
+-- `==` of messages is equality of their values if that of heads and bodies is.
 use Rattle.std.proofs.Common.{◌≡◌, ◌&&◌, Bool, refl}
 use Rattle.std.specs.Bool.{Decides}
 use Rattle.etcs_bodies.specs.Equality.{IsExact}

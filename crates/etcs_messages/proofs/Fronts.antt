@@ -138,7 +138,7 @@ own_asked way {A} f nid a e = of (own_row way nid) refl (e ∙ ap (option_map f)
     of None is same = absurd cc
     of (Some own) is same = (own, is, (let here : a ≡ f (as_row own) = cc in here))
 
--- where there is no result, the number isn't typed
+-- if there is no result, the number isn't typed
 pub none_asked : (way : Way) {A : Type 0} (f : Layout → A) (nid : ℕ) → None ≡ option_map f (message_row_to way nid) → front_row way nid ≡ None
 none_asked way {A} f nid e = of (own_row way nid) refl (e ∙ ap (option_map f) (rows_alike way nid))
   where

@@ -45,6 +45,6 @@ row_fits way nid n (Some own) is (fits, most, left) =
     let room : 8 * n - front_bits (front_after way own) ≡ 8 * n - (header_bits way + m) = omega (arith, wide, head) in
     (most, inl (as_row own, m, rows_alike way nid ∙ ap (option_map as_row) is, ([], r, fields_row own [] r reads, refl, fields_length own r reads, omega (arith, short, wide)), (omega (arith, fits, wide, head), subst (λ k. IsTrue (may_be_left (Message way) k)) room left)))
 
--- a number of L_MESSAGE fits exactly where some message of this NID_MESSAGE continues with it
+-- a number of L_MESSAGE fits exactly if some message of this NID_MESSAGE continues with it
 pub length_fits : (way : Way) (nid n : ℕ) → MessageLengthFits way nid n ↔ Goes (AfterMessageLength way (front_row way nid) n)
 length_fits way nid n = (λ h. some_message way (front_row way nid) n (fits_row way nid n h), λ g. row_fits way nid n (own_row way nid) refl (message_some way (front_row way nid) n g))

@@ -1,4 +1,4 @@
--- What is kept of a message, where more is known of what a store holds.
+-- What is kept of a message, if more is known of what a store holds.
 use Rattle.std.proofs.Common.{ℕ, Bool, List, inl, inr}
 use Rattle.etcs_vars.specs.Reading.{Reading}
 use Rattle.etcs_tables.specs.declared.row.Way.{Way}

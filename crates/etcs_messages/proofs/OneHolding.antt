@@ -20,7 +20,7 @@ use Rattle.etcs_tables.specs.declared.row.Way.{Way}
 use Rattle.etcs_messages.proofs.Spelling.{OnePacket}
 use Rattle.etcs_messages.specs.Readers.{InFront, InPackets, Standing, Members, OneHolding}
 
--- ---- The front says the number, and with it the variables.
+-- ---- The front has the number, and with it the variables.
 
 headed_parts : (nid nid' len len' : ℕ) (r s : Reading) → headed nid len r ≡ headed nid' len' s → (nid ≡ nid') × (r ≡ s)
 headed_parts nid nid' len len' r s e =

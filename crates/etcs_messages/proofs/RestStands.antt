@@ -51,7 +51,7 @@ moved_message way l l' p same open_now m =
     let stands : IsTrue (is_stage (Message way) l.room l.stage) = subst (λ (c : Carrier). IsTrue (is_stage c l.room l.stage)) same l.stands in
     message_from way l' m'.same (closed_room way l.room l.stage p l'.carrier l'.room l'.stage stands open_now m')
 
--- ---- What `stands` says.
+-- ---- What `stands` means.
 
 module _ {S : Type 0} (s : MessageState S) where
   stands_with : (here : Phase) → s.phase ≡ here → IsTrue (stands_at s.way s.nid here (length s.front) s.left)
@@ -117,7 +117,7 @@ front_stands way nid at m l same h =
 pub packets_stands : {S : Type 0} (s : MessageState S) (here : Phase) (l : PacketsState) (p : Reading) → s.phase ≡ phase.Packets → here ≡ after_packets l → Moved s.left.carrier s.left.room s.left.stage p l.carrier l.room l.stage → IsTrue (stands_at s.way s.nid here (length s.front) l)
 packets_stands s here l p e e' moved = rw e' (packets_stand s.way s.nid (length s.front) l (packets_message s l p e moved))
 
--- ---- What is wanted has room.
+-- ---- What is left has room.
 
 pub begun_stands : (way : Way) (nid m : ℕ) (vs : List Var) (l : PacketsState) → front_vars way nid ≡ vs → 0 < length vs → m ≡ 0 → IsTrue (is_message way l) → IsTrue (stands_at way nid (phase.Front 0) m l)
 begun_stands way nid m vs l e pos none h =

@@ -133,7 +133,7 @@ beyond_any way nid l =
 pub packets_after : (way : Way) (nid : ℕ) (l l' : PacketsState) (p : Reading) → Moved l.carrier l.room l.stage p l'.carrier l'.room l'.stage → Goes (left_of l'.carrier l'.room l'.stage) → Residual (left_at way nid phase.Packets l) p (left_at way nid (after_packets l') l')
 packets_after way nid l l' p m g = residual_same (left_at way nid phase.Packets l) p (PacketsAfter l') (left_at way nid (after_packets l') l') (filled_after PaddingLeft l l' p m g) (beyond_any way nid l')
 
--- all of it continues where the packets do
+-- all of it continues if the packets do
 pub packets_all : (way : Way) (nid : ℕ) (l : PacketsState) → Goes (left_of l.carrier l.room l.stage) → Goes (left_at way nid (after_packets l) l)
 packets_all way nid l g = let h = filled_goes PaddingLeft (some_bits PADDING refl) l g in (h.0, (beyond_any way nid l h.0).0 h.1)
 

@@ -1,4 +1,4 @@
--- A header, its row and packets begin a message exactly where they leave padding or the frame of a packet.
+-- A header, its row and packets begin a message exactly if they leave padding or the frame of a packet.
 use Rattle.std.proofs.Common.{◌≡◌, ℕ, ◌+◌, ◌-◌, ◌*◌, ◌≤◌, Bool, false, List, [], ◌∷◌, ◌++◌, length, Some, refl, sym, ap, subst, ◌∙◌, arith, inl, inr, append_assoc}
 use Rattle.std.specs.Prelude.{All, IsTrue, ◌⊎◌, replicate, nat_le}
 use Rattle.std.proofs.lemmas.Bool.{or_left, or_right, le-leb}

@@ -159,7 +159,7 @@ module _ {P S : Type 0} (form : P → Form) (list : S → PacketList P) (s : Mes
       same_vars : (vs : List Var) → front_row s.way s.nid ≡ Some vs → vs ≡ vars
       same_vars vs e = let both : Some vs ≡ Some vars = sym e ∙ typed in cc
 
-      -- where no packet was read, nor a bit of PADDING
+      -- if no packet was read, nor a bit of PADDING
       front_by : (here : Phase) → (here ≡ phase.Number → ⊥) → (here ≡ phase.Length → ⊥) → (here ≡ phase.Packets → ⊥) → ((left : ℕ) → here ≡ phase.Padding left → ⊥) → (here ≡ phase.Whole → ⊥) → HeldFor here → so_far form list s ≡ far_at form (list s.store) here s → so_far form list s ≡ headed s.nid bytes (labelled vars s.front)
       front_by phase.Number a b c d f h e = absurd (a refl)
       front_by phase.Length a b c d f h e = absurd (b refl)
@@ -174,7 +174,7 @@ module _ {P S : Type 0} (form : P → Form) (list : S → PacketList P) (s : Mes
       pub front_read : (s.phase ≡ phase.Number → ⊥) → (s.phase ≡ phase.Length → ⊥) → (s.phase ≡ phase.Packets → ⊥) → ((left : ℕ) → s.phase ≡ phase.Padding left → ⊥) → (s.phase ≡ phase.Whole → ⊥) → so_far form list s ≡ headed s.nid bytes (labelled vars s.front)
       front_read a b c d f = front_by s.phase a b c d f held refl
 
-      -- where packets are read
+      -- if packets are read
       pub packets_read : s.phase ≡ phase.Packets → (so_far form list s ≡ headed s.nid bytes (labelled vars s.front ++ read_so_far)) × (length (spelled (so_far form list s)) ≡ front_bits vars + length (spelled read_so_far))
       packets_read e =
           let h = (held_at phase.Packets e).1 in
@@ -184,7 +184,7 @@ module _ {P S : Type 0} (form : P → Form) (list : S → PacketList P) (s : Mes
           let count : length s.front ≡ length vars = h.count ∙ ap (λ (vs : List Var). length vs) (same_vars h.vars h.typed) in
           (is, front_long s.nid bytes vars s.front read_so_far (so_far form list s) count is)
 
-      -- where PADDING is read, or all was
+      -- if PADDING is read, or all was
       padded_by : (left : ℕ) → PaddingHeld s.way s.nid s.front (in_list form list s.store) s.padding left (so_far form list s) → so_far form list s ≡ measured s.nid (padded (packed s.way form s.nid s.front (list s.store).packets.items) s.padding left) left
           → (count : ℕ) × (count ≤ 7) × (so_far form list s ≡ headed s.nid bytes (labelled vars s.front ++ (packets ++ kept PADDING (num count s.padding)))) × (length (spelled (so_far form list s)) ≡ front_bits vars + (length (spelled packets) + count))
       padded_by left h e =

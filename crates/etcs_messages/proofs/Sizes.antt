@@ -83,7 +83,7 @@ zero_padding way hd bd form head body ps = or_none (message_fault way hd bd form
     or_none None f h = h
     or_none (Some x) f h = refl
 
--- what no fault says
+-- what holds if there is no fault
 pub record Faultless {H B P : Type 0} (way : Way) (hd : HeadOf H) (bd : OwnOf B) (form : P → Form) (head : H) (body : B) (ps : List P) (padding : ℕ) : Type 0 where
   pub front : front_fault hd bd head body ≡ None
   pub unmarked : list_any (λ p. is_marker way (form p).value) ps ≡ false

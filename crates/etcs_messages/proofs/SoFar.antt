@@ -1,4 +1,4 @@
--- The variables so far are those that the fields say.
+-- The variables so far are those of the fields.
 use Rattle.std.proofs.Common.{◌≡◌, ℕ, ◌+◌, ◌-◌, ◌*◌, ◌/◌, ◌≤◌, List, Bool, false, ◌++◌, length, drop, Some, refl, sym, ap, subst, ◌∙◌, arith, append_assoc, inl, inr}
 use Rattle.std.specs.Prelude.{IsTrue, Option, not}
 use Rattle.std.proofs.lemmas.Bool.{and_parts}
@@ -108,7 +108,7 @@ module _ {P S : Type 0} (form : P → Form) (list : S → PacketList P) (s : Mes
   pub far_is : Goes (Left s) → HoldsIn (in_list form list) s q → q ≡ so_far form list s
   far_is g h = far_by s.phase g h
 
--- ---- How long they are where memory may be asked for.
+-- ---- How long they are when memory may be asked for.
 
 headed_long : (nid len : ℕ) (r q : Reading) → q ≡ headed nid len r → 18 ≤ length (spelled q)
 headed_long nid len r q e = omega (arith, ap (λ (t : Reading). length (spelled t)) e ∙ headed_length nid len r)

@@ -177,7 +177,7 @@ kept_whole way hd bd form nid ps f k q (kept_message nid' b, r) d =
       },
     )
 
--- ---- Where nothing comes next.
+-- ---- If nothing comes next.
 
 at_end : {H B P : Type 0} (way : Way) (hd : HeadOf H) (bd : OwnOf B) (form : P → Form) {sent_head : H → Reading} {sent_own : B → Reading} (hl : HeadLaws way H sent_head hd) (ol : OwnLaws way B sent_own bd) (nid : ℕ) (front : List ℕ) (store : PacketList P) (number : ℕ) (q : Reading) → MessageLanguage way q → PaddingHeld way nid front (list_holds form store.packets.items store.numbers.items store.bits) number 0 q → IsMessage way hd bd form (content_by way hd bd (front_row way nid) nid front store.packets.items store.bits number) × MessageReads way (message_value way hd bd form (content_by way hd bd (front_row way nid) nid front store.packets.items store.bits number)) q
 at_end way hd bd form hl ol nid front store number q lang h =

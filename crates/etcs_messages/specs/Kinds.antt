@@ -1,4 +1,4 @@
--- The laws of the heads and the bodies of the messages of a way (SUBSET-026, 8).
+-- What the heads and the bodies of the messages of a way are, and their laws (SUBSET-026, chapter 8).
 use Rattle.std.specs.Prelude.{◌≡◌, ℕ, Bool, true, false, List, [], length, take, drop, Option, Some, None, IsTrue}
 use Rattle.etcs_vars.specs.declared.fault.BuildFault.{BuildFault}
 use Rattle.etcs_vars.specs.Reading.{Reading, numbers}
@@ -11,7 +11,7 @@ use Rattle.etcs_rows.specs.declared.frames.Carrier.{Carrier}
 use Rattle.etcs_rows.specs.declared.frames.Carrier.TheVariants.{Telegram, Message}
 use Rattle.etcs_reader.specs.Fields.{ReadsFields}
 
--- packets of a message of this way
+-- the carrier is a message of this way
 abbrev pub is_carrier : Way → Carrier → Bool
 is_carrier way Telegram = false
 is_carrier ToTrain (Message ToTrain) = true
@@ -21,8 +21,8 @@ is_carrier ToTrack (Message ToTrack) = true
 
 -- ---- Heads.
 
--- their variables with their numbers, the first number that isn't admitted, what else holds of the numbers by their
--- types, and the head of some numbers
+-- what heads are: their variables with their numbers, the first number that isn't admitted, what else holds of the
+-- numbers by their types, and the head of some numbers
 pub record HeadOf (H : Type 0) : Type 1 where
   pub reading : H → Reading
   pub fault : H → Option BuildFault
@@ -38,8 +38,8 @@ pub record IsHead {H : Type 0} (k : HeadOf H) (h : H) : Type 0 where
 abbrev pub IsHeadNumbers : Way → List ℕ → Type 0
 IsHeadNumbers way f = (r : Reading) × ReadsFields (head_row way) r × (numbers r ≡ f)
 
--- a head is sent as its reading, which is one of the header's variables and no other head's; and the head of a reading's
--- numbers has that reading
+-- a head is sent as its variables, which are a reading of the header's variables and no other head's; and the head of
+-- the numbers of such a reading is the one that has it
 pub record HeadLaws (way : Way) (H : Type 0) (sent : H → Reading) (k : HeadOf H) : Type 0 where
   pub is_sent : (h : H) → sent h ≡ k.reading h
   pub reads : (h : H) → IsHead k h → ReadsFields (head_row way) (k.reading h)
@@ -48,8 +48,9 @@ pub record HeadLaws (way : Way) (H : Type 0) (sent : H → Reading) (k : HeadOf 
 
 -- ---- Bodies.
 
--- their numbers, whether the number is one of the variant's, their variables with their numbers, the first number that
--- isn't admitted, what else holds of the numbers by their types, and the body of a number and its variables' numbers
+-- what bodies are: their numbers, whether the number is one of the variant's, their variables with their numbers, the
+-- first number that isn't admitted, what else holds of the numbers by their types, and the body of a number and the
+-- numbers of its variables
 pub record OwnOf (B : Type 0) : Type 1 where
   pub nid : B → ℕ
   pub is_of_variant : B → Bool
@@ -64,7 +65,7 @@ pub record IsOwn {B : Type 0} (k : OwnOf B) (b : B) : Type 0 where
   pub variables : k.fault b ≡ None
   pub types : k.Fits b
 
--- the numbers of a reading of a typed message's row
+-- the number is typed, and these are the numbers of a reading of its row
 abbrev pub IsOwnNumbers : Way → ℕ → List ℕ → Type 0
 IsOwnNumbers way nid f = (row : Layout) × (r : Reading) × (message_row_to way nid ≡ Some row) × Reads row [] r × (numbers r ≡ f)
 
@@ -78,8 +79,8 @@ pub record IsMadeOf {B : Type 0} (k : OwnOf B) (nid : ℕ) (r : Reading) (b : B)
 abbrev pub OfRow : Way → ℕ → Reading → Type 0
 OfRow way nid r = (row : Layout) × (message_row_to way nid ≡ Some row) × Reads row [] r
 
--- a body is sent as its reading, which is one of its number's row and no other body's; and the body of a reading's
--- numbers has that reading
+-- a body is sent as its variables, which are a reading of its number's row and no other such body's; and the body of
+-- the numbers of such a reading is the one that has it
 pub record OwnLaws (way : Way) (B : Type 0) (sent : B → Reading) (k : OwnOf B) : Type 0 where
   pub is_sent : (b : B) → sent b ≡ k.reading b
   pub reads : (b : B) → IsOwn k b → OfRow way (k.nid b) (k.reading b)

@@ -33,10 +33,11 @@ use Rattle.etcs_messages.specs.declared.phase.Phase.TheVariants as phase
 abbrev pub own_row : (way : Way) → ℕ → Option (List Var)
 own_row way n = option_and_then variables (message_row_to way n)
 
+-- the rest of the header, and these variables of the message's own
 abbrev pub front_after : (way : Way) → List Var → List Var
 front_after way own = head_row way ++ own
 
--- none where the number isn't typed
+-- the variables of the front of a message of this number; none if the number isn't typed
 abbrev pub front_row : (way : Way) → ℕ → Option (List Var)
 front_row way n = option_map (front_after way) (own_row way n)
 
@@ -47,10 +48,12 @@ var_of (Some (One v)) = Some v
 var_of (Some (When g k)) = None
 var_of (Some (Many k)) = None
 
+-- the variables of a row, if there is one
 abbrev pub some_row : Option (List Var) → List Var
 some_row None = []
 some_row (Some vs) = vs
 
+-- the variables of the front, empty if the number isn't typed
 abbrev pub front_vars : (way : Way) → ℕ → List Var
 front_vars way n = some_row (front_row way n)
 
@@ -72,6 +75,7 @@ PaddedBy room p r = PaddingLeft (room - length (spelled p)) r
 abbrev pub Padded : (Reading → Type 0) → ℕ → Reading → Type 0
 Padded P room r = Chain P (PaddedBy room) r
 
+-- the same of packets of which this is left
 abbrev pub PacketsAfter : PacketsState → Reading → Type 0
 PacketsAfter l r = Padded (left_of l.carrier l.room l.stage) (ahead l.carrier l.room l.stage) r
 
@@ -88,9 +92,11 @@ AfterMessageLength way (Some vs) len r = (front_bits vs ≤ 8 * len) × (len < 2
 abbrev pub LengthLeft : (way : Way) → ℕ → Reading → Type 0
 LengthLeft way nid r = (len : ℕ) × (rest : Reading) × (r ≡ (L_MESSAGE, len) ∷ rest) × AfterMessageLength way (front_row way nid) len rest
 
+-- all of a message of this way
 abbrev pub NumberLeft : (way : Way) → Reading → Type 0
 NumberLeft way r = (nid : ℕ) × (rest : Reading) × (nid < 2 ^ 8) × (r ≡ (NID_MESSAGE, nid) ∷ rest) × LengthLeft way nid rest
 
+-- the readings that are left if this comes next
 abbrev pub left_at : (way : Way) → ℕ → Phase → PacketsState → Reading → Type 0
 left_at way nid phase.Number l r = NumberLeft way r
 left_at way nid phase.Length l r = LengthLeft way nid r
@@ -114,7 +120,7 @@ next_at way nid phase.Whole l = None
 abbrev pub is_message : (way : Way) → PacketsState → Bool
 is_message way l = is_carrier way l.carrier && (not (is_closed l.stage) || nat_lt l.room 8)
 
--- what holds of what comes next, where this many of the front's numbers are there
+-- what comes next agrees with how many of the front's numbers are there and with what is left of packets
 abbrev pub stands_at : (way : Way) → ℕ → Phase → ℕ → PacketsState → Bool
 stands_at way nid phase.Number n l = (n == 0) && is_closed l.stage
 stands_at way nid phase.Length n l = (n == 0) && is_closed l.stage
@@ -134,6 +140,7 @@ may_ask (phase.Padding left) l = false
 may_ask (phase.Data left) l = true
 may_ask phase.Whole l = false
 
+-- what comes if this many bits of PADDING are left
 abbrev pub after_padding : ℕ → Phase
 after_padding left = if nat_lt 0 left then phase.Padding left else phase.Whole
 
@@ -145,6 +152,7 @@ after_packets l = if is_closed l.stage then after_padding l.room else phase.Pack
 abbrev pub beyond_front : ℕ → ℕ → PacketsState → Phase
 beyond_front count at l = if nat_lt at count then phase.Front at else after_packets l
 
+-- what comes if this many bits of a message that is kept are left
 abbrev pub after_data : ℕ → Phase
 after_data left = if nat_lt 0 left then phase.Data left else phase.Whole
 
@@ -214,7 +222,7 @@ pub record DataHeld (way : Way) (nid : ℕ) (holds : Holds) (left : ℕ) (q : Re
   pub reading_is : q ≡ headed nid len (kept OTHER_DATA bits)
   pub room_is : 18 + length bits + left ≡ 8 * len
 
--- q are the variables so far, of which so much is held
+-- q are the variables so far, and what is held is of them
 abbrev pub HoldsBy : Way → ℕ → Phase → List ℕ → PacketsState → ℕ → Holds → Reading → Type 0
 HoldsBy way nid phase.Number front l padding holds q = (padding ≡ 0) × holds [] [] [] × (q ≡ [])
 HoldsBy way nid phase.Length front l padding holds q = (padding ≡ 0) × holds [] [] [] × (q ≡ (NID_MESSAGE, nid) ∷ [])
@@ -227,7 +235,7 @@ HoldsBy way nid phase.Whole front l padding holds q = PaddingHeld way nid front 
 -- ---- A message of which some was read.
 
 -- its way, NID_MESSAGE, what comes next, the numbers before the packets so far, what is left of packets, PADDING so far
--- as a number, and where the packets go
+-- as a number, and the store of packets
 pub record MessageState (S : Type 0) : Type 0 where
   pub way : Way
   pub nid : ℕ
@@ -246,19 +254,20 @@ Left s = left_at s.way s.nid s.phase s.left
 abbrev pub next_var : {S : Type 0} → MessageState S → Option Var
 next_var s = next_at s.way s.nid s.phase s.left
 
+-- its next variable may ask for memory
 abbrev pub MayAsk : {S : Type 0} → MessageState S → Type 0
 MayAsk s = IsTrue (may_ask s.phase s.left)
 
--- q are its variables so far, of which so much is held
+-- q are its variables so far, and what is held is of them
 abbrev pub HoldsIn : {S : Type 0} → (S → Holds) → MessageState S → Reading → Type 0
 HoldsIn holds s q = HoldsBy s.way s.nid s.phase s.front s.left s.padding (holds s.store) q
 
--- by the variables p the first comes to the second, with what is kept
+-- the variables p lead from the first to the second: what is left, and what is held
 pub record Follows {S : Type 0} (holds : S → Holds) (s : MessageState S) (p : Reading) (t : MessageState S) : Type 0 where
   pub same : t.way ≡ s.way
   pub residual : Residual (Left s) p (Left t)
   pub held : (q : Reading) → HoldsIn holds s q → HoldsIn holds t (q ++ p)
 
--- and by n bits of xs from at on, after which something is left
+-- the same by n bits of xs from at on, after which something is left
 abbrev pub Leaps : {S : Type 0} → (S → Holds) → MessageState S → MessageState S → List Bool → ℕ → ℕ → Type 0
 Leaps holds s t xs at n = LeapsBy (Left t) (λ p. Follows holds s p t) xs at n

@@ -1,4 +1,5 @@
--- What a reader of messages stands for, by what it keeps.
+-- What a reader of messages stands for, computed from what it keeps, and what it holds between two pieces (SUBSET-026,
+-- chapter 8).
 use Rattle.std.specs.Prelude.{◌≡◌, ℕ, ◌+◌, ◌-◌, ◌/◌, ◌<◌, Bool, List, [], ◌∷◌, ◌++◌, length, drop, Option, Some, None, All, ◌⊎◌}
 use Rattle.etcs_bits.specs.Bits.{num}
 use Rattle.etcs_vars.specs.declared.var.Var.{Var}
@@ -31,6 +32,7 @@ measured nid r more = headed nid ((18 + length (spelled r) + more) / 8) r
 abbrev pub padded : Reading → ℕ → ℕ → Reading
 padded r number left = r ++ kept PADDING (num (padding_room (18 + length (spelled r)) - left) number)
 
+-- the front after L_MESSAGE, and packets
 abbrev pub packed : {P : Type 0} → Way → (P → Form) → ℕ → List ℕ → List P → Reading
 packed way form nid front ps = labelled (front_vars way nid) front ++ readings_to way (values_of form ps)
 
@@ -39,7 +41,7 @@ abbrev pub whole_far : {P : Type 0} → Way → (P → Form) → Option (List Va
 whole_far way form None nid front store number = measured nid (kept OTHER_DATA store.bits) 0
 whole_far way form (Some vars) nid front store number = measured nid (padded (packed way form nid front store.packets.items) number 0) 0
 
--- the variables so far, where this comes next and the packets go to this list
+-- the variables so far if this comes next and the packets go to this list
 abbrev pub far_at : {P S : Type 0} → (P → Form) → PacketList P → Phase → MessageState S → Reading
 far_at form list phase.Number s = []
 far_at form list phase.Length s = (NID_MESSAGE, s.nid) ∷ []
@@ -49,19 +51,21 @@ far_at form list (phase.Padding left) s = measured s.nid (padded (packed s.way f
 far_at form list (phase.Data left) s = measured s.nid (kept OTHER_DATA list.bits) left
 far_at form list phase.Whole s = whole_far s.way form (front_row s.way s.nid) s.nid s.front list s.padding
 
+-- the variables so far, computed from what the reader keeps
 abbrev pub so_far : {P S : Type 0} → (P → Form) → (S → PacketList P) → MessageState S → Reading
 so_far form list s = far_at form (list s.store) s.phase s
 
--- the message, where nothing is left
+-- the message of what was kept, once nothing is left
 abbrev pub message_by : {H B P S : Type 0} → Way → HeadOf H → OwnOf B → (S → PacketList P) → MessageState S → Content H B P
 message_by way head own list s = content_by way head own (front_row way s.nid) s.nid s.front (list s.store).packets.items (list s.store).bits s.padding
 
--- q are the variables so far, of which so much is held, of a message of this way
+-- q are the variables so far of a message of this way, and what is held is of them
 abbrev pub OwnHeld : {S : Type 0} → (S → Holds) → Way → MessageState S → Reading → Type 0
 OwnHeld holds way s q = (s.way ≡ way) × HoldsIn holds s q
 
--- ---- What one pass leaves of a message, after the first n bits of a piece.
+-- ---- What one pass leaves.
 
+-- the first n bits of a piece spell whole variables of a message that lead to what is left in rest
 abbrev pub IsMessagePart : {S : Type 0} → (S → Holds) → Way → List Bool → MessageState S → ℕ → Type 0
 IsMessagePart holds way xs rest n = IsPart Left (Follows holds) (OwnHeld holds way) (MessageReads way) 1023 xs rest n
 
@@ -84,18 +88,21 @@ InPackets way form ps f k far =
 abbrev pub InData : Way → List Bool → Reading → Type 0
 InData way k far = (nid : ℕ) × (len : ℕ) × (front_row way nid ≡ None) × (far ≡ headed nid len (kept OTHER_DATA k))
 
--- no bit of PADDING is there between two pieces: PADDING ends a message, with its last byte
+-- the whole variables are some of the front's; or the whole front, the packets and what is begun of the next; or
+-- NID_MESSAGE, L_MESSAGE and bits of a message that is kept. No bit of PADDING is among them: it ends a message, with
+-- its last byte
 abbrev pub Standing : {P : Type 0} → Way → (P → Form) → List P → List ℕ → List Bool → Reading → Type 0
 Standing way form ps f k far =
     (InFront way far × (ps ≡ []) × (f ≡ []) × (k ≡ []))
     ⊎ (InPackets way form ps f k far
     ⊎ (InData way k far × (ps ≡ []) × (f ≡ [])))
 
--- these are all whole variables, with packets of the profile
+-- packets, numbers and kept bits are all that is held of the whole variables far, and each packet is as its type admits
+-- it
 abbrev pub Members : {P : Type 0} → Way → (P → Form) → List P → List ℕ → List Bool → Reading → Type 0
 Members way form ps f k far = Standing way form ps f k far × All (λ p. (form p).made) ps × All (IsPacketTo way) (values_of form ps)
 
--- the same bits are held in one way
+-- of the same bits, any two packets, numbers, kept bits, part and taken with HeldIn are equal, all five
 abbrev pub OneHolding : {P : Type 0} → Way → (P → Form) → Type 0
 OneHolding {P} way form =
     (b : List Bool) (ps qs : List P) (f g : List ℕ) (k l : List Bool) (part part' taken taken' : ℕ)

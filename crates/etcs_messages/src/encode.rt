@@ -14,11 +14,12 @@ use etcs_vars::WordSink;
 use std::alloc::AllocError;
 
 impl<H: Head, B: Own<Front = H>> MessageOf<H, B> {
-    /// Appends the message's bytes, L_MESSAGE of them: 3 to 1,023.
+    /// Appends the message's spelling, L_MESSAGE bytes: 3 to 1,023. If it succeeds, the bits of `out` are those before
+    /// and, after them, the message's.
     ///
     /// # Errors
     ///
-    /// `AllocError` where there is no memory. `out` then stays as it was.
+    /// `AllocError` if out of memory. `out` then stays as it was.
     pub fn encode(&self, out: &mut Vec<u8>) -> Result<(), AllocError>
         ensures ok { OnOk result ((r : Reading) × MessageReads H.Packet.WAY (message_value H.Packet.WAY H.head B.own H.Packet.form self.now) r × (bits out.new.items ≡ bits out.old.items ++ spelled r)) }
         ensures err { OnErr result (out.new.items ≡ out.old.items) }

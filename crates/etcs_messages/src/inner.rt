@@ -9,7 +9,7 @@ use crate::message::MessageOf;
 pub use crate::rest::MessageRest;
 pub use crate::variables::send_front;
 
-/// For proofs: the message has a reading. Does nothing.
+/// For proofs: each message has a reading, which is `message_reading` of it. Does nothing.
 pub fn reads<H: Head, B: Own<Front = H>>(message: &MessageOf<H, B>)
     ensures { MessageReads H.Packet.WAY (message_value H.Packet.WAY H.head B.own H.Packet.form message.now) (message_reading H.Packet.WAY H.head B.own H.Packet.form message.now) }
 {

@@ -14,25 +14,28 @@ use crate::reader::ReaderOf;
 use etcs_sequence::inner::first_item;
 use std::alloc::{AllocError, Global};
 
-/// Messages with one spelling are equal, and no spelling begins another.
+/// No two messages of a way have the same spelling, and no spelling begins another.
 pub fn one_spelling<H: Head, B: Own<Front = H>>()
     ensures { OneSpelling H.Packet.WAY H.head B.own H.Packet.form }
 {}
 
-/// Where a header's numbers are admitted, its bits with those of the number's variables and of packets after them begin
-/// a message exactly where they are at most 8 times L_MESSAGE and what is left is padding of at most 7 bits or at
-/// least the bits of a packet's frame.
+/// The bits of an admitted header, a reading of the number's row and packets, which to the train are other than 0,
+/// begin a message exactly if they are at most 8 times L_MESSAGE bits and either at most 7 of these are left, for
+/// PADDING, or at least the bits of a packet's frame: 23 to the train, 21 to the track.
 pub fn room<H: Head>()
     ensures { RoomRule H.Packet.WAY }
 {}
 
-/// Of the same bits a reader holds one and the same: packets, numbers, kept bits and the unfinished variable.
+/// The bits so far leave one possibility of what [`ReaderOf::held`] returns: any two packets, numbers, kept bits,
+/// `part` and `taken` of which its promise holds for the same bits are equal, all five.
 pub fn one_holding<H: Head>()
     ensures { OneHolding H.Packet.WAY H.Packet.form }
 {}
 
-/// `==` of messages is equality of their values where that of heads, bodies and packets is: header, body, packets and
-/// PADDING, or number and kept bits.
+/// `==` of messages is equality of their values: true exactly if header, body, packets and PADDING, or number and kept
+/// bits, are equal.
+///
+/// Requires that `==` of heads, of bodies and of packets is equality of their values.
 pub fn exact_equality<H: Head + PartialEq, B: Own<Front = H> + PartialEq>(
     first: &MessageOf<H, B>,
     second: &MessageOf<H, B>,
@@ -45,11 +48,11 @@ pub fn exact_equality<H: Head + PartialEq, B: Own<Front = H> + PartialEq>(
     first == second
 }
 
-/// Encodes a message and reads its bytes again: what is read is the message that was encoded.
+/// Encodes a message and reads its bytes again: if it succeeds, what is read is the message that was encoded.
 ///
 /// # Errors
 ///
-/// Where memory was refused, for the bytes or for the reader.
+/// `AllocError` if out of memory for the bytes or in the reader; the body has no other way to fail.
 pub fn round_trip<H: Head, B: Own<Front = H>>(
     alloc: Global,
     message: &MessageOf<H, B>,
@@ -88,12 +91,14 @@ fn append_again<H: Head, B: Own<Front = H>>(
     Ok(())
 }
 
-/// Reads a message from the front of some bytes and appends its encoding: these are then the bytes that were read.
-/// Returns how many they are, or `None` where no message is at the front, and then appends nothing.
+/// Reads a message from the front of some bytes and appends its encoding. If it returns a number of bytes, that many
+/// were there, they spell a message, and exactly these bytes are appended. If it returns `None`, no front of the bits
+/// spells one, and nothing is appended.
 ///
 /// # Errors
 ///
-/// Where memory was refused, for the reader or for the bytes. `out` then stays as it was.
+/// `AllocError` if out of memory, in the reader or for the bytes; the body has no other way to fail. `out` then stays
+/// as it was.
 pub fn read_back<H: Head, B: Own<Front = H>>(
     alloc: Global,
     bytes: &[u8],

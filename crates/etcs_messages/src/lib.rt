@@ -1,4 +1,6 @@
-//! Messages of either way: what they are, how they are written, and their reader.
+//! Radio messages, to the train and to the track alike, over what their heads and bodies are ([`Head`], [`Own`]):
+//! [`MessageOf`] with its constructors and `encode`, and [`ReaderOf`], which reads from pieces. `etcs_radio` and
+//! `etcs_train` supply heads and bodies.
 #![tactic(auto)]
 
 mod encode;

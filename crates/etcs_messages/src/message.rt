@@ -68,17 +68,19 @@ impl<H: Head, B: Own<Front = H>> Model for MessageOf<H, B> {
 }
 
 impl<H: Head, B: Own<Front = H>> MessageOf<H, B> {
-    /// A typed message with these packets, in this order, whose PADDING is zeros. Takes no memory.
+    /// A typed message with these parts, the packets in this order, whose PADDING is zeros. Succeeds exactly if none of
+    /// the faults below applies. Takes no memory.
     ///
     /// # Errors
     ///
-    /// With the same packets, the first of:
+    /// The first of these that applies, with the same packets:
     ///
-    /// - [`BuildFault::NotAdmitted`] of NID_MESSAGE where the body's number isn't one of its variant's, then of
-    ///   the head's variables, then of the body's, in the order of sending;
-    /// - `NotAdmitted(NID_PACKET)` of a message to the train where a packet 0 is among the packets, which is in telegrams
-    ///   alone;
-    /// - [`BuildFault::TooLong`] where header, body and packets take more than 8,184 bits.
+    /// - [`BuildFault::NotAdmitted`] with NID_MESSAGE if the body's number isn't one of its variant's;
+    /// - `NotAdmitted` with the first variable of the head, then of the body, in the order of sending, that doesn't
+    ///   admit its number;
+    /// - `NotAdmitted` with NID_PACKET if a packet 0, which is in telegrams alone, is among those of a message to the
+    ///   train;
+    /// - [`BuildFault::TooLong`] if header, body and packets take more than 8,184 bits.
     pub fn new(
         head: H,
         body: B,
@@ -92,13 +94,14 @@ impl<H: Head, B: Own<Front = H>> MessageOf<H, B> {
         MessageOf::with_padding(head, body, packets, 0)
     }
 
-    /// A typed message with these packets, in this order, and PADDING as the number of its bits, of which there are as
-    /// many as are left up to whole bytes: 0 to 7. Takes no memory.
+    /// A typed message with these parts, the packets in this order, and PADDING as the number of its bits, of which
+    /// there are as many as are left up to whole bytes: 0 to 7. Succeeds exactly if none of the faults below applies.
+    /// Takes no memory.
     ///
     /// # Errors
     ///
-    /// With the same packets, those of [`MessageOf::new`] in the same order, and then `NotAdmitted(PADDING)` where the
-    /// number needs more bits than are left.
+    /// The first that applies, with the same packets: those of [`MessageOf::new`] in the same order, and then
+    /// [`BuildFault::NotAdmitted`] with PADDING if the number needs more bits than are left.
     pub fn with_padding(
         head: H,
         body: B,
@@ -124,14 +127,15 @@ impl<H: Head, B: Own<Front = H>> MessageOf<H, B> {
         }
     }
 
-    /// A message of a number that isn't typed, with the bits after L_MESSAGE. Takes no memory.
+    /// A message of a number that isn't typed, with these bits after L_MESSAGE. Succeeds exactly if neither of the
+    /// faults below applies. Takes no memory.
     ///
     /// # Errors
     ///
     /// With the same bits:
     ///
-    /// - `NotAdmitted(NID_MESSAGE)` for the number of a typed message;
-    /// - [`BuildFault::FillLength`] where with the 18 bits before them these bits aren't 3 to 1,023 whole bytes.
+    /// - [`BuildFault::NotAdmitted`] with NID_MESSAGE if the number is that of a typed message;
+    /// - else [`BuildFault::FillLength`] if with the 18 bits before them these bits aren't 3 to 1,023 whole bytes.
     pub fn kept(nid: u8, bits: Bits) -> Result<Self, (BuildFault, Bits)>
         ensures ok { IfOk result (λ m. m ≡ Kept nid bits) }
         ensures fits { OnOk result (kept_fault H.Packet.WAY nid (length bits) ≡ None) }
@@ -194,7 +198,7 @@ impl<H: Head, B: Own<Front = H>> MessageOf<H, B> {
         }
     }
 
-    /// The packets in the order of sending. None for a message that is kept as bits.
+    /// The packets in the order of sending. Empty for a message that is kept as bits.
     pub fn packets(&self) -> &[H::Packet]
         ensures { result.now ≡ packets_of self.now }
     {
@@ -221,7 +225,7 @@ impl<H: Head, B: Own<Front = H>> MessageOf<H, B> {
         }
     }
 
-    /// How many bits the message takes: 8 times L_MESSAGE.
+    /// How many bits the message's spelling has: 8 times L_MESSAGE.
     pub fn bit_len(&self) -> usize
         ensures { result ≡ length (spelled (message_reading H.Packet.WAY H.head B.own H.Packet.form self.now)) }
     {
@@ -229,11 +233,11 @@ impl<H: Head, B: Own<Front = H>> MessageOf<H, B> {
         8 * self.bytes
     }
 
-    /// An equal message.
+    /// A copy. If it succeeds, it is an equal message.
     ///
     /// # Errors
     ///
-    /// `AllocError` where there is no memory.
+    /// `AllocError` if out of memory.
     pub fn try_clone(&self, alloc: Global) -> Result<Self, AllocError>
         ensures { IfOk result (λ m. m ≡ self.now) }
     {
@@ -341,7 +345,7 @@ fn has_marker<P: AnyPacket>(packets: &[P]) -> bool
     }
 }
 
-/// How many of the bits of the longest message these packets leave, or nothing where they don't fit.
+/// How many of the bits of the longest message these packets leave, or `None` if they don't fit.
 fn bits_left<H: Head, B: Own<Front = H>>(body: B, packets: &[H::Packet]) -> Option<usize>
     requires { front_of H.Packet.WAY (B.own.reading body) ≤ 8184 }
     ensures left { IfSome result (λ left. all_bits H.Packet.WAY B.own H.Packet.form body packets.now + left ≡ 8184) }

@@ -39,7 +39,7 @@ pub(crate) fn header_bits(way: Way) -> usize
 }
 
 /// How many variables are between L_MESSAGE and the packets of a message of this number (SUBSET-026, 8).
-/// `None` where the number isn't typed.
+/// `None` if the number isn't typed.
 pub(crate) fn front_count(way: Way, nid: u8) -> Option<usize>
     ensures { result ≡ option_map length (front_row way nid) }
 {
@@ -47,7 +47,7 @@ pub(crate) fn front_count(way: Way, nid: u8) -> Option<usize>
     Some(head_row(way).items.len() + row.items.len())
 }
 
-/// How many bits come before the packets of a message of this number. `None` where the number isn't typed.
+/// How many bits come before the packets of a message of this number. `None` if the number isn't typed.
 pub(crate) fn front_bits(way: Way, nid: u8) -> Option<usize>
     ensures { result ≡ option_map front_bits (front_row way nid) }
 {
@@ -55,7 +55,7 @@ pub(crate) fn front_bits(way: Way, nid: u8) -> Option<usize>
     Some(header_bits(way) + own)
 }
 
-/// The variable at a place of a row. `None` where no variable is there.
+/// The variable at a place of a row. `None` if no variable is there.
 fn var_at(row: Row, at: usize) -> Option<Var>
     ensures { result ≡ var_of (slice_get row.items.now at) }
 {

@@ -149,8 +149,8 @@ impl<H: Head, B: Own<Front = H>> ItemRest for MessageRest<H, B> {
 
 /// Reads a message from pieces of any length (SUBSET-026, 8). It keeps none of the bytes: only NID_MESSAGE,
 /// the numbers before the packets, the packets that are whole, the numbers or kept bits of the packet that is
-/// being read or of a message that is kept whole, PADDING and one unfinished variable; or the message, where the first
-/// piece had all of it.
+/// being read or of a message that is kept whole, PADDING and one unfinished variable; or the message, if the first
+/// piece had all of it. No clause promises this of its fields.
 #[derive(Drop)]
 pub struct ReaderOf<H: Head, B: Own<Front = H>> {
     pub(crate) reader: ItemReader<MessageRest<H, B>>,
@@ -169,7 +169,7 @@ impl<H: Head, B: Own<Front = H>> ReaderOf<H, B> {
     ghost use Rattle.etcs_sequence.specs.Progress.{Feeds, IsReading, fault_of, seen_of, reading, finished};
     ghost use Rattle.etcs_messages.specs.declared.message.Content.{Content};
 
-    /// A reader of one message. Nothing is allocated before the first packet or kept bit.
+    /// A reader of messages that has read no bits. Nothing is allocated before the first packet or kept bit.
     pub fn new(alloc: Global) -> Self
         ensures { result ≡ reading [] }
     {
@@ -178,22 +178,34 @@ impl<H: Head, B: Own<Front = H>> ReaderOf<H, B> {
         }
     }
 
-    /// How many leading bits were accepted, over all pieces: 8 times L_MESSAGE once the message is whole.
+    /// How many leading bits were accepted, over all pieces: all bits while the message isn't whole; after `Done` 8
+    /// times L_MESSAGE; after `Refused` those before the refused bit. After `Memory` it is the number that
+    /// [`ReaderOf::feed`] describes.
     pub fn bits_seen(&self) -> usize
         ensures { result ≡ seen_of (λ m. 8 * bytes_of H.Packet.WAY B.own H.Packet.form m) self.now }
     {
         self.reader.bits_seen()
     }
 
-    /// Takes the next piece: `More` where all of it was taken and the message isn't whole yet, `Done` with the
-    /// number of its bytes up to the message's end.
+    /// Takes the next piece. Of all bits so far, in whatever pieces they came: `Done` with the count of this piece's
+    /// bytes up to the end of a message if the bits up to there spell it; `More` if the bits begin a message and no
+    /// front of them is one.
     ///
     /// # Errors
     ///
-    /// `Refused` with the first bit, counted from 0 over all pieces, with which no message continues, and the variable
-    /// that holds it; `Memory` where memory is refused, for packets or kept bits after NID_MESSAGE and L_MESSAGE, at
-    /// a bit with which a message continues, which is no bit of Q_DIR or PADDING; `Ended` where the message was whole
-    /// before. The reader then returns the same for each later piece, and `bits_seen` reports how far it came.
+    /// - `Refused` if no front of the bits is a message and none begins with them: `bit`, counted from 0 over all
+    ///   pieces, is the first with which no message continues, and `var` is the variable that holds it in each message
+    ///   that begins with the bits before it.
+    /// - `Memory` if out of memory for packets or kept bits. [`ReaderOf::bits_seen`] is then at least the number of
+    ///   bits of the pieces before, at least the 18 of NID_MESSAGE and L_MESSAGE, and fewer than all; the bits up to
+    ///   there with the next one begin a message, and one variable holds that next bit in each message that begins with
+    ///   the bits before it. It is neither Q_DIR nor PADDING nor one that is in the front of messages alone, nor
+    ///   NID_LRBG in the header. No clause promises that memory did run out, nor that no bit of the piece would be
+    ///   refused.
+    /// - `Ended` after `Done`.
+    ///
+    /// After `Refused` or `Memory` each later feed returns the same, after `Done` it returns `Ended`. The reader then
+    /// doesn't change.
     pub fn feed(&mut self, piece: &[u8]) -> Result<Fed, ReadFault>
         ensures answer { (seen : List Bool) → self.old ≡ reading seen → Feeds (MessageReads H.Packet.WAY) (message_value H.Packet.WAY H.head B.own H.Packet.form) (IsMessage H.Packet.WAY H.head B.own H.Packet.form) 18 seen (bits piece.now) result self.new }
         ensures after { (IsReading self.old → ⊥) → (self.new ≡ self.old) × (result ≡ Err (fault_of self.old)) }
@@ -201,8 +213,14 @@ impl<H: Head, B: Own<Front = H>> ReaderOf<H, B> {
         self.reader.feed(piece)
     }
 
-    /// What it holds between two pieces: the whole packets, the numbers or kept bits of the packet that is being read
-    /// or those of a message that is kept, and the unfinished variable. `None` after `Done`, `Refused` or `Memory`.
+    /// What it holds between two pieces: the whole packets, each as its own type admits it, the numbers or kept bits of
+    /// the packet that is being read or those of a message that is kept, and the unfinished variable. `None` exactly
+    /// after `Done`, `Refused` or `Memory`.
+    ///
+    /// Packets, numbers and kept bits are those of the whole variables so far. The bits so far are those of these
+    /// variables and then `taken` bits, fewer than the next variable is wide, which are the number `part`. Each message
+    /// that begins with these bits begins with these variables and continues with that one variable, which holds the
+    /// next bit.
     pub fn held(&self) -> Option<Held<'_, H::Packet>>
         ensures some { IfSome result (λ h. IsHeld (MessageLanguage H.Packet.WAY) (Members H.Packet.WAY H.Packet.form h.packets.now h.numbers.now h.kept) self.now h.part h.taken) }
         ensures none { IsNone result → IsReading self.now → ⊥ }
@@ -210,11 +228,11 @@ impl<H: Head, B: Own<Front = H>> ReaderOf<H, B> {
         self.reader.held()
     }
 
-    /// The message, once `feed` has answered `Done`.
+    /// The message. Succeeds exactly if there is a whole one: once `feed` has returned `Done`.
     ///
     /// # Errors
     ///
-    /// The reader itself, as it was, where there is no whole message.
+    /// The reader itself, as it was, if there is no whole message.
     #[inline(always)]
     pub fn take(self) -> Result<MessageOf<H, B>, Self>
         ensures { MatchResult result (λ m. self ≡ finished m) (λ r. (r ≡ self) × ((m : Content H B H.Packet) → self ≢ finished m)) }
@@ -225,8 +243,8 @@ impl<H: Head, B: Own<Front = H>> ReaderOf<H, B> {
         }
     }
 
-    /// The message, once `feed` has answered `Done`. The reader then reads another, from its first bit. `None` where there
-    /// is no whole message; the reader stays as it was.
+    /// The message, once `feed` has returned `Done`; `None` exactly if there is no whole one, and the reader then stays
+    /// as it was. After `Some` the reader has read no bits and reads another message.
     #[inline(always)]
     pub fn take_next(&mut self) -> Option<MessageOf<H, B>>
         ensures some { IfSome result (λ m. (self.old ≡ finished m) × (self.new ≡ reading [])) }
@@ -235,7 +253,8 @@ impl<H: Head, B: Own<Front = H>> ReaderOf<H, B> {
         self.reader.take_next()
     }
 
-    /// Takes the room of a message that isn't needed any more for the next ones that the reader reads.
+    /// Takes the memory of a message that is no longer needed for the next ones that the reader reads. The reader stays
+    /// as it was; no clause promises that it uses that memory.
     #[inline(always)]
     pub fn reuse(&mut self, message: MessageOf<H, B>)
         ensures { self.new ≡ self.old }

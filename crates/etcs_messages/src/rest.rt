@@ -58,7 +58,7 @@ impl<H: Head, B: Own<Front = H>> Model for MessageRest<H, B> {
     ghost invariant = { λ s. ∥ DataFits s.phase (H.Store.holds s.packets.store) ∥₁ };
 }
 
-/// What comes where this many bits of a phase are left.
+/// What comes next if this many bits of a phase are left.
 fn after_bits(left: usize, phase: Phase) -> Phase
     ensures { result ≡ if nat_lt 0 left then phase else Phase.Whole }
 {
@@ -177,8 +177,8 @@ impl<H: Head, B: Own<Front = H>> MessageRest<H, B> {
         }
     }
 
-    /// Continues after the packets that a store has taken of their room, of which this many bits are left, where none was read
-    /// yet.
+    /// Continues after the packets that a store has taken of their room, of which this many bits are left. None was
+    /// read before.
     pub(crate) fn resume(&mut self, store: H::Store, left: usize)
         requires phase { self.old.phase ≡ Phase.Packets }
         requires stage { self.old.left.stage ≡ Stage.Number }
@@ -192,7 +192,7 @@ impl<H: Head, B: Own<Front = H>> MessageRest<H, B> {
         self.phase = after_packets(&packets.left);
     }
 
-    /// Takes variables of the packets together where a piece has such, and says how many bits they are.
+    /// Takes variables of the packets together if a piece has such, and returns how many bits they are.
     fn leap_packets(&mut self, piece: &[u8], at: usize) -> Result<Option<usize>, AllocError>
         requires phase { self.old.phase ≡ Phase.Packets }
         requires inside { at < length (bits piece.now) }
@@ -210,7 +210,7 @@ impl<H: Head, B: Own<Front = H>> MessageRest<H, B> {
         Ok(leapt)
     }
 
-    /// Takes bits of a message that is kept, of which `left` are wanted.
+    /// Takes bits of a message that is kept, of which `left` are left with them.
     fn keep(&mut self, left: usize, slice: &BitSlice<'_>) -> Result<(), AllocError>
         requires phase { self.old.phase ≡ Phase.Data left }
         requires within { length slice.now ≤ left }
@@ -226,7 +226,7 @@ impl<H: Head, B: Own<Front = H>> MessageRest<H, B> {
         Ok(())
     }
 
-    /// After a bit of a message that is kept, of which `left` are wanted.
+    /// After a bit of a message that is kept, of which `left` were left with it.
     fn pass_data(&mut self, left: usize, number: u64) -> Result<(), AllocError>
         requires phase { self.old.phase ≡ Phase.Data left }
         requires small { number < 2 }
@@ -237,7 +237,7 @@ impl<H: Head, B: Own<Front = H>> MessageRest<H, B> {
         self.keep(left, &bits_at(&byte, 7, 1))
     }
 
-    /// Takes a run of bits of a message that is kept, of which `left` are wanted, and returns how many they were.
+    /// Takes a run of bits of a message that is kept, of which `left` are left with it, and returns how many they were.
     fn leap_data(
         &mut self,
         left: usize,
@@ -257,7 +257,7 @@ impl<H: Head, B: Own<Front = H>> MessageRest<H, B> {
         Ok(Some(run.len()))
     }
 
-    /// Takes this many bits of PADDING, of which `left` are wanted, as a number.
+    /// Takes this many bits of PADDING, of which `left` are left with them, as a number.
     fn pad(&mut self, left: usize, count: usize, number: u64)
         requires phase { self.old.phase ≡ Phase.Padding left }
         requires within { count ≤ left }
@@ -270,7 +270,7 @@ impl<H: Head, B: Own<Front = H>> MessageRest<H, B> {
         self.phase = after_bits(wanted, Phase::Padding(wanted));
     }
 
-    /// Takes the bits of PADDING that a piece has, of which `left` are wanted, and returns how many they were.
+    /// Takes the bits of PADDING that a piece has, of which `left` are left with them, and returns how many they were.
     fn leap_padding(&mut self, left: usize, piece: &[u8], at: usize) -> usize
         requires phase { self.old.phase ≡ Phase.Padding left }
         requires inside { at < length (bits piece.now) }

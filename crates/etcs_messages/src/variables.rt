@@ -54,7 +54,7 @@ impl<H: Head, B: Own<Front = H>> MessageOf<H, B> {
     ///
     /// # Errors
     ///
-    /// `AllocError` where there is no memory.
+    /// `AllocError` if out of memory.
     pub fn variables(&self, alloc: Global) -> Result<Vec<(Var, u64)>, AllocError>
         ensures { IfOk result (λ pairs. pairs.items ≡ front_reading H.Packet.WAY H.head B.own H.Packet.form self.now) }
     {
@@ -64,12 +64,13 @@ impl<H: Head, B: Own<Front = H>> MessageOf<H, B> {
     }
 }
 
-/// Sends what comes before the packets: NID_MESSAGE and L_MESSAGE, and of a typed message the rest of the header
-/// and the variables of its own. Takes no memory of its own.
+/// Sends what comes before the packets: NID_MESSAGE and L_MESSAGE, and of a typed message the rest of the header and
+/// the variables of its own. If it succeeds, the sink holds what its `with` gives for these variables, in order. Takes
+/// no memory of its own.
 ///
 /// # Errors
 ///
-/// That of the sink.
+/// That of the sink, of which its `failed` then holds.
 pub fn send_front<H: Head, B: Own<Front = H>, S: VarSink>(
     message: &MessageOf<H, B>,
     out: &mut S,
@@ -147,7 +148,7 @@ fn send_numbers<S: VarSink>(
 }
 
 impl<H: Head, B: Own<Front = H>> MessageRest<H, B> {
-    /// L_MESSAGE, where it was read, by how many bits the variables take that were read.
+    /// L_MESSAGE, if it was read, by how many bits the variables take that were read.
     fn bytes_by(&self, bits: usize) -> usize
         requires goes { Goes (Left self.now) }
         requires held { HoldsIn H.Store.holds self.now (so_far H.Packet.form H.Store.list self.now) }

@@ -38,9 +38,9 @@ const NUMBER_BITS: usize = 8;
 /// The bits of L_MESSAGE.
 const LENGTH_BITS: usize = 10;
 
-/// The message that a piece begins with, and how many bytes it has. It may always return `None`, as where the piece begins
-/// with none, and where memory is refused. Then it may put into `part` what is left of the item after the
-/// first bits of the piece, and how many these are.
+/// The message that a piece begins with, and how many bytes it has. It may always return `None`, as it does if the
+/// piece begins with none, or if out of memory. Then it may put into `part` what is left of the item after the first
+/// bits of the piece, and how many these are.
 pub(crate) fn message_at<H: Head, B: Own<Front = H>>(
     room: &mut Room<H::Packet>,
     piece: &[u8],
@@ -146,7 +146,7 @@ fn typed_at<H: Head, B: Own<Front = H>>(
 
 /// Puts into `part` what is left of a typed message of which the first packets were taken in one pass. Its packets have the
 /// room from `front` to `end`, of which this many bits are left. The variables before them are passed once more. It may
-/// always put nothing.
+/// always put nothing there.
 #[cold]
 #[inline(never)]
 fn resume<H: Head, B: Own<Front = H>>(
@@ -175,7 +175,7 @@ fn resume<H: Head, B: Own<Front = H>>(
     *part = Some((rest, end - left));
 }
 
-/// What comes before the packets of a typed message of this number, after L_MESSAGE, where each variable admits its
+/// What comes before the packets of a typed message of this number, after L_MESSAGE, if each variable admits its
 /// number. The bits are those of the message before its packets.
 #[inline(always)]
 fn front_at<H: Head, B: Own<Front = H>>(nid: u8, bits: BitSlice<'_>) -> Option<(H, B)>
@@ -191,7 +191,7 @@ fn front_at<H: Head, B: Own<Front = H>>(nid: u8, bits: BitSlice<'_>) -> Option<(
     Some(front_by(nid, numbers.as_slice()))
 }
 
-/// Takes the number of a variable, where it is admitted.
+/// Takes the number of a variable, if it is admitted.
 #[inline(always)]
 fn take_number(var: Var, walker: &mut SliceWalker<'_>, numbers: &mut ArrayVec<u64, 5>) -> Option<()>
     requires room { length numbers.old.items < 5 }
@@ -207,7 +207,7 @@ fn take_number(var: Var, walker: &mut SliceWalker<'_>, numbers: &mut ArrayVec<u6
     Some(())
 }
 
-/// Takes the numbers of the variables of a table, where each is admitted.
+/// Takes the numbers of the variables of a table, if each is admitted.
 #[inline(always)]
 fn take_items(
     items: &[RowItem],

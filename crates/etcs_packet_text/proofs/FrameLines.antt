@@ -1,4 +1,4 @@
--- The lines of a packet after its frame, by what the calls for it answer.
+-- The lines of a packet after its frame, by what the calls for it return.
 use Rattle.std.proofs.Common.{◌≡◌, Bool, List, Some, None, flat_map, refl, append-nil}
 use Rattle.std.specs.Prelude.{codes}
 use Rattle.etcs_vars.specs.declared.var.Var.TheVariants.{NID_VBCMK}

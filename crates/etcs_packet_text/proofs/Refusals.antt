@@ -9,7 +9,7 @@ pub on_err : {T E P : Type 0} (r : Result T E) → P → OnErr r P
 on_err (Ok x) p = tt
 on_err (Err e) p = p
 
--- a text that was appended, said in another way
+-- a text that was appended, in another form
 pub on_ok : {T E : Type 0} (r : Result T E) (old new a b : List ℕ) → a ≡ b → OnOk r (new ≡ old ++ a) → OnOk r (new ≡ old ++ b)
 on_ok (Ok x) old new a b e p = p ∙ ap (λ (z : List ℕ). old ++ z) e
 on_ok (Err f) old new a b e p = tt

@@ -1,4 +1,4 @@
--- Parts of the JSON of variables and packets.
+-- Parts of the JSON of variables and packets: what is written before and after their lists.
 use Rattle.std.specs.Prelude.{ℕ, Bool, List, [], ◌∷◌, ◌++◌, map, Option, Some, None, codes, decimal}
 use Rattle.json.specs.Print.{quoted}
 use Rattle.serde_json.specs.Written.{compact_text}
@@ -14,7 +14,7 @@ use Rattle.etcs_packet_text.specs.Trees.{pairs_tree}
 abbrev pub pair_front : Var → List ℕ
 pair_front v = 91 ∷ (quoted (name v) ++ 44 ∷ [])
 
--- the direction of a packet, where it is sent
+-- the direction of a packet, if it is sent: to the train alone
 abbrev pub sent_dir : Way → PacketValue → Option ℕ
 sent_dir ToTrain v = dir_of v
 sent_dir ToTrack v = None

@@ -9,15 +9,15 @@ use Rattle.etcs_packet_text.specs.Trees.{pair_tree}
 abbrev pub Listed : Type 0
 Listed = List ℕ × Bool
 
--- one more item, after a comma where it isn't the first
+-- one more item, after a comma unless it is the first
 abbrev pub with_item : Listed → Data → Listed
 with_item s d = (s.0 ++ (comma_if s.1 ++ compact_text d), true)
 
--- an item for each x
+-- one more item for each x
 abbrev pub with_each : {A : Type 0} → (A → Data) → Listed → List A → Listed
 with_each f s xs = fold (λ t x. with_item t (f x)) s xs
 
--- a pair for each variable
+-- one more pair for each variable
 abbrev pub with_pairs : Listed → Reading → Listed
 with_pairs s r = with_each pair_tree s r
 

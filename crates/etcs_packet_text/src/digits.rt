@@ -41,11 +41,14 @@ fn spread(text: &mut [u8], count: usize)
     }
 }
 
-/// Puts digits in upper case and a LF in place of the bytes from `start` on.
+/// Puts the hexadecimal digits of the bytes from `start` on, in upper case, and a LF in their place. The bytes before
+/// stay.
+///
+/// Requires that `start` is at most the number of bytes.
 ///
 /// # Errors
 ///
-/// Where memory is refused. The bytes from `start` on are then gone.
+/// `AllocError` if out of memory. The bytes from `start` on are then gone, and those before stay.
 pub fn to_digits(out: &mut Vec<u8>, start: usize) -> Result<(), AllocError>
     requires { start ≤ length out.old.items }
     ensures ok { OnOk result (out.new.items ≡ take start out.old.items ++ (encode_upper (drop start out.old.items) ++ 10 ∷ [])) }

@@ -13,7 +13,7 @@ use etcs_packets::inner::AnyPacket;
 use etcs_tables::Way;
 use std::alloc::AllocError;
 
-/// The direction, where it is sent.
+/// The direction, if it is sent.
 #[inline(always)]
 fn sent_dir<P: AnyPacket>(packet: &P) -> Option<u8>
     ensures { result ≡ sent_dir P.WAY (P.form packet.now).value }
@@ -82,7 +82,7 @@ fn write_packet<P: AnyPacket>(packet: &P, page: &mut JsonPage) -> Result<(), All
     }
 }
 
-/// Appends a packet, after a comma where it isn't the first of its list.
+/// Appends a packet, after a comma unless it is the first of its list.
 fn write_item<P: AnyPacket>(later: bool, packet: &P, page: &mut JsonPage) -> Result<(), AllocError>
     ensures ok { OnOk result (page.new.0 ≡ page.old.0 ++ (comma_if later ++ compact_text (packet_tree P.WAY (P.form packet.now).value))) }
     ensures err { OnErr result (Begins page.old.0 page.new.0) }
@@ -93,11 +93,11 @@ fn write_item<P: AnyPacket>(later: bool, packet: &P, page: &mut JsonPage) -> Res
     write_packet(packet, page)
 }
 
-/// Appends packets as a list.
+/// Appends packets as a list: the compact text of their JSON tree.
 ///
 /// # Errors
 ///
-/// Where memory is refused. A part of the text may then be in the page, after what was there.
+/// `AllocError` if out of memory. The page then begins with what was there; what else it has isn't promised.
 pub fn write_packets<P: AnyPacket>(packets: &[P], page: &mut JsonPage) -> Result<(), AllocError>
     ensures ok { OnOk result (page.new.0 ≡ page.old.0 ++ compact_text (packets_tree P.WAY (map (λ p. (P.form p).value) packets.now))) }
     ensures err { OnErr result (Begins page.old.0 page.new.0) }

@@ -12,8 +12,8 @@ use etcs_vars::inner::VarSink;
 use std::alloc::AllocError;
 use std::marker::Model;
 
-/// A page, and whether a pair of the list that was opened last is at its end. Variables that it is sent are pairs of that
-/// list.
+/// A page, and whether a pair of the list that was opened last is at its end. Variables that it is sent become pairs of
+/// that list, each after a comma if another pair of the list is before it.
 #[derive(Drop)]
 pub struct JsonPage {
     page: Page,
@@ -29,7 +29,7 @@ impl Model for JsonPage {
 }
 
 impl JsonPage {
-    /// A page of JSON after the text of another, which is taken.
+    /// A page of JSON that has the text of another page, which is taken; no list is open.
     #[inline]
     pub fn open(page: &mut Page) -> JsonPage
         ensures { result ≡ (page.old, false) }
@@ -40,7 +40,7 @@ impl JsonPage {
         }
     }
 
-    /// The page.
+    /// The page, with all of its text.
     #[inline]
     pub fn into_page(self) -> Page
         ensures { result ≡ self.0 }
@@ -53,7 +53,7 @@ impl JsonPage {
     ///
     /// # Errors
     ///
-    /// Where memory is refused. The page is then as before.
+    /// `AllocError` if out of memory. The page then stays as it was.
     #[inline(always)]
     pub fn put(&mut self, bytes: &[u8]) -> Result<(), AllocError>
         ensures ok { OnOk result (self.new.0 ≡ self.old.0 ++ bytes.now) }
@@ -62,11 +62,11 @@ impl JsonPage {
         self.page.put(bytes)
     }
 
-    /// Appends the digits of a number, with no leading zero, and one byte more.
+    /// Appends a number in decimal, with no leading zero, and one byte more.
     ///
     /// # Errors
     ///
-    /// Where memory is refused. The page is then as before.
+    /// `AllocError` if out of memory. The page then stays as it was.
     #[inline(always)]
     pub fn put_decimal_and(&mut self, number: u64, end: u8) -> Result<(), AllocError>
         ensures ok { OnOk result (self.new.0 ≡ self.old.0 ++ (decimal number ++ end ∷ [])) }
@@ -75,11 +75,11 @@ impl JsonPage {
         self.page.put_decimal_and(number, end)
     }
 
-    /// Appends the digits of a number, with no leading zero, between bytes.
+    /// Appends `front`, a number in decimal, with no leading zero, and `back`.
     ///
     /// # Errors
     ///
-    /// Where memory is refused. The page is then as before.
+    /// `AllocError` if out of memory. The page then stays as it was.
     #[inline(always)]
     pub fn put_between(&mut self, front: &[u8], number: u64, back: &[u8]) -> Result<(), AllocError>
         ensures ok { OnOk result (self.new.0 ≡ self.old.0 ++ (front.now ++ (decimal number ++ back.now))) }
@@ -88,11 +88,13 @@ impl JsonPage {
         self.page.put_between(front, number, back)
     }
 
-    /// Appends the lowest bits of a number as digits, the most significant first.
+    /// Appends the lowest `width` bits of a number as digits 0 and 1, the most significant first.
+    ///
+    /// Requires a width of at most 64.
     ///
     /// # Errors
     ///
-    /// Where memory is refused. The page is then as before.
+    /// `AllocError` if out of memory. The page then stays as it was.
     #[inline(always)]
     pub fn put_bits(&mut self, number: u64, width: usize) -> Result<(), AllocError>
         requires { width ≤ 64 }
@@ -102,11 +104,11 @@ impl JsonPage {
         self.page.put_bits(number, width)
     }
 
-    /// Appends bits as digits.
+    /// Appends bits as digits 0 and 1.
     ///
     /// # Errors
     ///
-    /// Where memory is refused. The page is then as before.
+    /// `AllocError` if out of memory. The page then stays as it was.
     pub fn put_slice(&mut self, bits: &BitSlice<'_>) -> Result<(), AllocError>
         ensures ok { OnOk result (self.new.0 ≡ self.old.0 ++ map bit_digit bits.now) }
         ensures err { OnErr result (self.new.0 ≡ self.old.0) }
@@ -118,7 +120,7 @@ impl JsonPage {
     ///
     /// # Errors
     ///
-    /// Where memory is refused. The page is then as before.
+    /// `AllocError` if out of memory. The page then stays as it was.
     #[inline(always)]
     pub(crate) fn open_list(&mut self) -> Result<(), AllocError>
         ensures ok { OnOk result (self.new ≡ (self.old.0 ++ 91 ∷ [], false)) }

@@ -74,7 +74,7 @@ fn write_packet<P: AnyPacket>(packet: &P, page: &mut Page) -> Result<(), AllocEr
 ///
 /// # Errors
 ///
-/// Where memory is refused. A part of the texts may then be in the page, after what was there.
+/// `AllocError` if out of memory. The page then begins with what was there; what else it has isn't promised.
 pub fn write_packets<P: AnyPacket>(packets: &[P], page: &mut Page) -> Result<(), AllocError>
     ensures ok { OnOk result (page.new ≡ page.old ++ packets_text P.WAY (map (λ p. (P.form p).value) packets.now)) }
     ensures err { OnErr result (Begins page.old page.new) }

@@ -26,14 +26,15 @@ use std::alloc::AllocError;
 use std::marker::Model;
 use std::mem;
 
-/// Bytes, the first of which are the text. More text is written over those after them.
+/// A text, in bytes that have room after it in which more is written. Variables that it is sent become a line each,
+/// after the text.
 #[derive(Drop)]
 pub struct Page {
     bytes: Vec<u8>,
     at: usize,
 }
 
-/// How many bytes more a page makes room for where it has to.
+/// How many bytes more a page makes room for if it has to.
 const MORE: usize = 1024;
 
 impl Model for Page {
@@ -47,7 +48,7 @@ impl Model for Page {
 }
 
 impl Page {
-    /// A page after the text, which is taken.
+    /// A page that has this text, which is taken from `text`.
     #[inline]
     pub fn open(text: &mut Vec<u8>) -> Page
         ensures { result ≡ text.old.items }
@@ -56,7 +57,7 @@ impl Page {
         Page::after(mem::replace(text, empty))
     }
 
-    /// A page after this text.
+    /// A page that has this text.
     #[inline]
     pub fn after(text: Vec<u8>) -> Page
         ensures { result ≡ text.items }
@@ -73,7 +74,7 @@ impl Page {
         self.at
     }
 
-    /// The text.
+    /// The page's text, and nothing after it.
     #[inline]
     pub fn into_text(self) -> Vec<u8>
         ensures { result.items ≡ self }
@@ -88,7 +89,7 @@ impl Page {
     ///
     /// # Errors
     ///
-    /// Where memory is refused. The page is then as before.
+    /// `AllocError` if out of memory. The page then stays as it was.
     #[inline(always)]
     pub fn put(&mut self, bytes: &[u8]) -> Result<(), AllocError>
         ensures ok { OnOk result (self.new ≡ self.old ++ bytes.now) }
@@ -100,11 +101,11 @@ impl Page {
         Ok(())
     }
 
-    /// Appends the digits of a number, with no leading zero, and one byte more.
+    /// Appends a number in decimal, with no leading zero, and one byte more.
     ///
     /// # Errors
     ///
-    /// Where memory is refused. The page is then as before.
+    /// `AllocError` if out of memory. The page then stays as it was.
     #[inline(always)]
     pub fn put_decimal_and(&mut self, number: u64, end: u8) -> Result<(), AllocError>
         ensures ok { OnOk result (self.new ≡ self.old ++ (decimal number ++ end ∷ [])) }
@@ -116,11 +117,11 @@ impl Page {
         Ok(())
     }
 
-    /// Appends the digits of a number, with no leading zero.
+    /// Appends a number in decimal, with no leading zero.
     ///
     /// # Errors
     ///
-    /// Where memory is refused. The page is then as before.
+    /// `AllocError` if out of memory. The page then stays as it was.
     #[inline(always)]
     pub fn put_decimal(&mut self, number: u64) -> Result<(), AllocError>
         ensures ok { OnOk result (self.new ≡ self.old ++ decimal number) }
@@ -132,11 +133,11 @@ impl Page {
         Ok(())
     }
 
-    /// Appends the digits of a number, with no leading zero, between bytes.
+    /// Appends `front`, a number in decimal, with no leading zero, and `back`.
     ///
     /// # Errors
     ///
-    /// Where memory is refused. The page is then as before.
+    /// `AllocError` if out of memory. The page then stays as it was.
     #[inline(always)]
     pub fn put_between(&mut self, front: &[u8], number: u64, back: &[u8]) -> Result<(), AllocError>
         ensures ok { OnOk result (self.new ≡ self.old ++ (front.now ++ (decimal number ++ back.now))) }
@@ -149,11 +150,12 @@ impl Page {
         Ok(())
     }
 
-    /// Appends the line that says that the item of this number, of this many bits, was accepted.
+    /// Appends the line of an item of this number and this many bits that was accepted: `item <n> ok <bits> bits` and a
+    /// LF.
     ///
     /// # Errors
     ///
-    /// Where memory is refused. The page is then as before.
+    /// `AllocError` if out of memory. The page then stays as it was.
     #[inline(always)]
     pub fn put_checked(&mut self, item: u64, bits: u64) -> Result<(), AllocError>
         ensures ok { OnOk result (self.new ≡ self.old ++ (codes "item " ++ decimal item ++ codes " ok " ++ decimal bits ++ codes " bits\n")) }
@@ -181,7 +183,7 @@ impl Page {
     ///
     /// # Errors
     ///
-    /// Where memory is refused. The page is then as before.
+    /// `AllocError` if out of memory. The page then stays as it was.
     #[inline(always)]
     pub(crate) fn put_packet(&mut self, nid: u8, sent: &[(Var, u64)]) -> Result<(), AllocError>
         ensures ok { OnOk result (self.new ≡ self.old ++ (packet_line nid ++ flat_map variable_line sent.now)) }
@@ -196,11 +198,13 @@ impl Page {
         Ok(())
     }
 
-    /// Appends the lowest bits of a number as digits, the most significant first.
+    /// Appends the lowest `width` bits of a number as digits 0 and 1, the most significant first.
+    ///
+    /// Requires a width of at most 64.
     ///
     /// # Errors
     ///
-    /// Where memory is refused. The page is then as before.
+    /// `AllocError` if out of memory. The page then stays as it was.
     #[inline(always)]
     pub fn put_bits(&mut self, number: u64, width: usize) -> Result<(), AllocError>
         requires { width ≤ 64 }
@@ -213,11 +217,11 @@ impl Page {
         Ok(())
     }
 
-    /// Appends bits as digits.
+    /// Appends bits as digits 0 and 1.
     ///
     /// # Errors
     ///
-    /// Where memory is refused. The page is then as before.
+    /// `AllocError` if out of memory. The page then stays as it was.
     pub fn put_slice(&mut self, bits: &BitSlice<'_>) -> Result<(), AllocError>
         ensures ok { OnOk result (self.new ≡ self.old ++ map bit_digit bits.now) }
         ensures err { OnErr result (self.new ≡ self.old) }
@@ -228,11 +232,12 @@ impl Page {
         Ok(())
     }
 
-    /// Appends the line of bits under a variable's name.
+    /// Appends the line of bits under a variable's name: two blanks, the name, their count, and the bits if there are
+    /// any.
     ///
     /// # Errors
     ///
-    /// Where memory is refused. The page is then as before.
+    /// `AllocError` if out of memory. The page then stays as it was.
     pub fn put_bits_line(&mut self, var: Var, bits: &BitSlice<'_>) -> Result<(), AllocError>
         ensures ok { OnOk result (self.new ≡ self.old ++ bits_line (name var) bits.now) }
         ensures err { OnErr result (self.new ≡ self.old) }
@@ -243,11 +248,11 @@ impl Page {
         Ok(())
     }
 
-    /// Appends pairs of a list, the first of them after a comma where it isn't the first of the list.
+    /// Appends pairs of a list, the first of them after a comma unless it is the first of the list.
     ///
     /// # Errors
     ///
-    /// Where memory is refused. The page is then as before.
+    /// `AllocError` if out of memory. The page then stays as it was.
     #[inline(always)]
     pub(crate) fn put_pairs(&mut self, later: bool, sent: &[(Var, u64)]) -> Result<(), AllocError>
         ensures ok { OnOk result (self.new ≡ (with_pairs (self.old, later) sent.now).0) }
@@ -259,7 +264,7 @@ impl Page {
         Ok(())
     }
 
-    /// The text, in place of which an empty one is left.
+    /// The page's text. The page is then empty.
     #[inline]
     pub fn take_text(&mut self) -> Vec<u8>
         ensures { result.items ≡ self.old }
@@ -267,7 +272,7 @@ impl Page {
         self.take_all().into_text()
     }
 
-    /// The page, in place of which an empty one is left.
+    /// The page. An empty one is left in its place.
     #[inline]
     pub(crate) fn take_all(&mut self) -> Page
         ensures { result ≡ self.old }
@@ -281,7 +286,9 @@ impl Page {
         page
     }
 
-    /// Takes back what was written after the first bytes.
+    /// Leaves the first `len` bytes of the text.
+    ///
+    /// Requires that the text has at least that many.
     pub fn cut(&mut self, len: usize)
         requires { len ≤ length self.old }
         ensures { self.new ≡ take len self.old }
@@ -294,7 +301,7 @@ impl Page {
 ///
 /// # Errors
 ///
-/// Where memory is refused.
+/// `AllocError` if out of memory.
 #[inline(always)]
 fn room(bytes: &mut Vec<u8>, at: usize, count: usize) -> Result<(), AllocError>
     requires { at ≤ length bytes.old.items }
@@ -309,7 +316,7 @@ fn room(bytes: &mut Vec<u8>, at: usize, count: usize) -> Result<(), AllocError>
     }
 }
 
-/// Makes room for bytes from a place on, where there is too little.
+/// Makes room for bytes from a place on, of which there is too little.
 #[inline(never)]
 fn grow(bytes: &mut Vec<u8>, at: usize, count: usize) -> Result<(), AllocError>
     requires { at ≤ length bytes.old.items }

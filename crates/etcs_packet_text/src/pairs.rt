@@ -11,11 +11,11 @@ use etcs_packets::inner::AnyPacket;
 use etcs_vars::inner::Variables;
 use std::alloc::AllocError;
 
-/// Appends the pairs of a run of variables, as a list.
+/// Appends the pairs of a run of variables, as a list: the compact text of their JSON tree.
 ///
 /// # Errors
 ///
-/// Where memory is refused. A part of the text may then be in the page, after what was there.
+/// `AllocError` if out of memory. The page then begins with what was there; what else it has isn't promised.
 pub fn write_variables<V: Variables>(variables: &V, page: &mut JsonPage) -> Result<(), AllocError>
     ensures ok { OnOk result (page.new.0 ≡ page.old.0 ++ compact_text (pairs_tree (V.reading_of variables.now))) }
     ensures err { OnErr result (Begins page.old.0 page.new.0) }

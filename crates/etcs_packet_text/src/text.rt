@@ -8,11 +8,11 @@ ghost use Rattle.etcs_packet_text.specs.Show.{hex_digit};
 use itoa::Buffer;
 use std::alloc::AllocError;
 
-/// Appends the digits of a number, with no leading zero.
+/// Appends a number in decimal, with no leading zero.
 ///
 /// # Errors
 ///
-/// Where memory is refused. A part of the text may then be in `out`, after what was there.
+/// `AllocError` if out of memory. `out` then begins with what was there; what else it has isn't promised.
 pub fn write_decimal(number: u64, out: &mut Vec<u8>) -> Result<(), AllocError>
     ensures ok { OnOk result (out.new.items ≡ out.old.items ++ decimal number) }
     ensures err { OnErr result (Begins out.old.items out.new.items) }

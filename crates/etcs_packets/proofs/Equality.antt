@@ -25,7 +25,7 @@ use Rattle.etcs_grouped.specs.laws.TrackConditions.{track_condition_exact}
 use Rattle.etcs_packets.specs.contracts.packet.Packet as packet
 use Rattle.etcs_packets.specs.contracts.packet.PacketPartialEq.TheImpl as packet_eq
 
--- ---- Of an enum, where it is so for each variant.
+-- ---- Of an enum, if it is so for each variant.
 
 abbrev pub Exact : (Fss : List (List Field)) → Each Bool Fss → Type 0
 Exact [] each = Unit

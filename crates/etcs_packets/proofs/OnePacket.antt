@@ -9,7 +9,7 @@ use Rattle.etcs_packets.specs.laws.OnePacket.{one_packet}
 head_of : {A : Type 0} (a b : A) (more rest : List A) → a ∷ more ≡ b ∷ rest → (a ≡ b) × (more ≡ rest)
 head_of a b more rest e = (let first : a ≡ b = cc in first, let others : more ≡ rest = cc in others)
 
--- where no two packets stand for one value, nor do two lists of packets
+-- if no two packets stand for one value, nor do two lists of packets
 pub lists_one : {P : Type 0} (form : P → Form) → ((p q : P) → (form p).made → (form q).made → (form p).value ≡ (form q).value → p ≡ q)
     → (ps qs : List P) → All (λ p. (form p).made) ps → All (λ p. (form p).made) qs → map (λ p. (form p).value) ps ≡ map (λ p. (form p).value) qs → ps ≡ qs
 lists_one form one [] [] hp hq e = refl

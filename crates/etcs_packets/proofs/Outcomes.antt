@@ -14,7 +14,7 @@ module _ {Q E : Type 0} (form : Q → Form) (way : Way) (nid dir : ℕ) where
   abbrev AreMade : Result (Option Q) E → Type 0
   AreMade result = IfOk result (λ o. IfSome o (λ q. (form q).made))
 
-  -- the packet, where there is one
+  -- the packet, if there is one
   abbrev AreSaid : Left → Result (Option Q) E → Type 0
   AreSaid s result = IfOk result (λ o. IfSome o (λ q. IsTypedOf nid dir (form q).value × Says s (variables_of (form q).value)))
 

@@ -1,4 +1,4 @@
--- What is in front of a packet's variables or kept bits.
+-- What comes before a packet's variables or kept bits (SUBSET-026, 7.4).
 use Rattle.std.specs.Prelude.{[], ◌∷◌, length}
 use Rattle.etcs_vars.specs.declared.var.Var.TheVariants.{NID_PACKET}
 use Rattle.etcs_vars.specs.Reading.{Reading, spelled}

@@ -1,5 +1,5 @@
--- What a packet stands for: its number, its direction, and its variables or the bits that are kept; and what its own type
--- guarantees about it.
+-- What a packet stands for: its number, its direction, and its variables or the bits that are kept (SUBSET-026, 7.4);
+-- and what its own type guarantees about it.
 use Rattle.std.specs.Prelude.{◌≡◌, ℕ, ◌+◌, Bool, List, [], ◌∷◌, length, Option, Some, None, IsTrue}
 use Rattle.etcs_vars.specs.declared.var.Var.TheVariants.{NID_VBCMK}
 use Rattle.etcs_vars.specs.Vars.{admits}
@@ -23,6 +23,8 @@ use Rattle.etcs_grouped.specs.ReportParameters.{IsReportParameters, report_param
 use Rattle.etcs_grouped.specs.TrackConditions.{IsTrackCondition, track_condition_reading}
 use Rattle.etcs_packets.specs.declared.packet.Packet.{Packet}
 
+-- what a packet stands for: a marker's number; number, direction and variables of a typed packet; number, direction and
+-- bits of a kept one
 pub data PacketValue : Type 0 where
   marker : ℕ → PacketValue
   typed : ℕ → ℕ → Reading → PacketValue
@@ -33,15 +35,19 @@ pub record Form : Type 1 where
   pub value : PacketValue
   pub made : Type 0
 
+-- the form of this value and this guarantee
 abbrev pub form_of : PacketValue → Type 0 → Form
 form_of v h = record { value = v; made = h }
 
+-- the form of a packet without groups
 abbrev flat_form : ℕ → FlatValue → Form
 flat_form nid p = form_of (typed nid p.dir (flat_reading nid p.numbers)) (flat_fault nid p.dir p.numbers ≡ None)
 
+-- the form of a list of balise groups
 abbrev list_form : ℕ → BaliseListValue → Form
 list_form nid p = form_of (typed nid p.dir (balise_list_reading p)) (IsBaliseList nid p)
 
+-- of a packet to the train what it stands for, and the clauses of the type of its own variant about it
 abbrev pub form : Packet → Form
 form (Packet.VbcMarker n) = form_of (marker n) (IsTrue (admits NID_VBCMK n))
 form (Packet.SystemVersion p) = flat_form 2 p
@@ -77,49 +83,53 @@ form (Packet.InhibitConsistency p) = flat_form 145 p
 form (Packet.DefaultInformation p) = flat_form 254 p
 form (Packet.Other p) = form_of (kept p.nid p.dir p.body) (other_fault ToTrain p.nid p.dir (length p.body) ≡ None)
 
+-- what a packet to the train stands for: a marker's number; number, direction and variables of a typed packet; number,
+-- direction and bits of a kept one
 abbrev pub packet_value : Packet → PacketValue
 packet_value p = (form p).value
 
+-- the clauses of the type of a packet's own variant about it
 abbrev pub IsMade : Packet → Type 0
 IsMade p = (form p).made
 
--- NID_PACKET
+-- a packet's NID_PACKET
 abbrev pub nid_of : PacketValue → ℕ
 nid_of (marker n) = 0
 nid_of (typed nid dir r) = nid
 nid_of (kept nid dir b) = nid
 
--- Q_DIR, where there is one
+-- a packet's Q_DIR; none of packet 0
 abbrev pub dir_of : PacketValue → Option ℕ
 dir_of (marker n) = None
 dir_of (typed nid dir r) = Some dir
 dir_of (kept nid dir b) = Some dir
 
--- the variables after the frame, but for kept bits
+-- the variables after a packet's frame: NID_VBCMK of packet 0, none of kept bits
 abbrev pub variables_of : PacketValue → Reading
 variables_of (marker n) = (NID_VBCMK, n) ∷ []
 variables_of (typed nid dir r) = r
 variables_of (kept nid dir b) = []
 
--- the bits after the frame, where they are kept
+-- the bits after a packet's frame, if they are kept
 abbrev pub kept_of : PacketValue → Option (List Bool)
 kept_of (marker n) = None
 kept_of (typed nid dir r) = None
 kept_of (kept nid dir b) = Some b
 
--- a typed packet of this number and direction
+-- the packet has this number and direction
 abbrev pub IsTypedOf : ℕ → ℕ → PacketValue → Type 0
 IsTypedOf nid dir p = (nid_of p ≡ nid) × (dir_of p ≡ Some dir)
 
 -- ---- As it goes one way.
 
--- how many bits the packet takes with its frame
+-- how many bits a packet takes one way with its frame: 14 of packet 0
 abbrev pub bits_to : Way → PacketValue → ℕ
 bits_to way (marker n) = 14
 bits_to way (typed nid dir r) = frame_bits way + length (spelled r)
 bits_to way (kept nid dir b) = frame_bits way + length b
 
--- it is a packet
+-- there is such a packet one way: a marker whose number is admitted, variables of its row, or a kept packet without
+-- fault
 abbrev pub IsPacketTo : Way → PacketValue → Type 0
 IsPacketTo way (marker n) = IsTrue (is_marker way n)
 IsPacketTo way (typed nid dir r) = IsFramed way nid dir r
@@ -127,8 +137,10 @@ IsPacketTo way (kept nid dir b) = other_fault way nid dir (length b) ≡ None
 
 -- ---- To the train, as all packets of this crate.
 
+-- how many bits a packet takes to the train with its frame: 14 of packet 0, else 23 and the bits after it
 abbrev pub bits_of : PacketValue → ℕ
 bits_of v = bits_to ToTrain v
 
+-- there is such a packet to the train
 abbrev pub IsPacket : PacketValue → Type 0
 IsPacket v = IsPacketTo ToTrain v

@@ -18,7 +18,8 @@ use etcs_vars::WordSink;
 use etcs_vars::inner::VarSink;
 use std::alloc::{AllocError, Global};
 
-/// A packet of one way, of any number: what readers and messages ask of it.
+/// A packet of one way, of any number, as readers and messages use it: its number, direction and variables or kept
+/// bits, its spelling, and how it is made of these. No two packets of the type stand for one value.
 pub trait AnyPacket: Sized + Drop {
     ghost use Rattle.etcs_tables.specs.declared.row.Way.{Way};
     ghost use Rattle.etcs_packets.specs.PacketValues.{Form};
@@ -40,11 +41,11 @@ pub trait AnyPacket: Sized + Drop {
     fn nid(&self) -> u8
         ensures { result ≡ nid_of (form self.now).value };
 
-    /// Q_DIR, where there is one; to the track it is 0, and isn't sent.
+    /// Q_DIR; `None` exactly for packet 0 without a frame. To the track it is 0, and isn't sent.
     fn dir(&self) -> Option<u8>
         ensures { result ≡ dir_of (form self.now).value };
 
-    /// The bits after L_PACKET of a packet that is kept as bits.
+    /// The bits after L_PACKET of a packet that is kept as bits; `None` exactly for any other.
     fn kept_bits(&self) -> Option<BitSlice<'_>>
         ensures { result ≡ kept_of (form self.now).value };
 
@@ -53,12 +54,12 @@ pub trait AnyPacket: Sized + Drop {
     ///
     /// # Errors
     ///
-    /// That of the sink.
+    /// `AllocError`: the sink failed; its `failed` then holds.
     fn send_body<S: VarSink>(&self, out: &mut S) -> Result<(), AllocError>
         ensures ok { OnOk result (out.new ≡ S.with out.old (variables_of (form self.now).value)) }
         ensures err { OnErr result (S.failed out.old out.new) };
 
-    /// How many bits it takes with its frame.
+    /// How many bits it takes with its frame; at most 8,191.
     fn bit_len(&self) -> usize
         ensures bits { result ≡ bits_to WAY (form self.now).value }
         ensures small { result ≤ 8191 };
@@ -67,11 +68,12 @@ pub trait AnyPacket: Sized + Drop {
     fn append(&self, out: &mut WordSink<'_>)
         ensures { out.new ≡ and_bits out.old (spelled (reading_to WAY (form self.now).value)) };
 
-    /// The typed packet of this number and direction with these numbers after L_PACKET, if there is one.
+    /// The packet of this number and direction with these numbers after L_PACKET. `None` only if no typed packet of
+    /// this way has them.
     ///
     /// # Errors
     ///
-    /// `AllocError` where there is no memory.
+    /// `AllocError`: out of memory.
     fn of_fields(
         alloc: Global,
         nid: u8,
@@ -82,11 +84,12 @@ pub trait AnyPacket: Sized + Drop {
         ensures some { IfOk result (λ o. IfSome o (λ p. IsTypedOf nid dir (form p).value × (numbers (variables_of (form p).value) ≡ fields.now))) }
         ensures none { IfOk result (λ o. IsNone o → IsTyped WAY nid dir fields.now → ⊥) };
 
-    /// The typed packet of this number and direction with these bits after L_PACKET, if there is one.
+    /// The typed packet of this number and direction with these bits after L_PACKET. `None` only if no typed packet of
+    /// this way has them.
     ///
     /// # Errors
     ///
-    /// `AllocError` where there is no memory.
+    /// `AllocError`: out of memory.
     fn of_bits(
         alloc: Global,
         nid: u8,
@@ -98,11 +101,12 @@ pub trait AnyPacket: Sized + Drop {
         ensures typed { IfOk result (λ o. IfSome o (λ p. (r : Reading) × ((form p).value ≡ typed nid dir r))) }
         ensures none { IfOk result (λ o. IsNone o → (r : Reading) → IsFramed WAY nid dir r → spelled r ≡ body.entry → ⊥) };
 
-    /// The typed packet of this number and direction with what a source has after L_PACKET, if there is one.
+    /// The packet of this number and direction whose variables after L_PACKET are what a source has. `None` only if no
+    /// typed packet of this way has them.
     ///
     /// # Errors
     ///
-    /// `AllocError` where there is no memory.
+    /// `AllocError`: out of memory.
     fn of_source<S: Source>(
         alloc: Global,
         nid: u8,
@@ -113,13 +117,14 @@ pub trait AnyPacket: Sized + Drop {
         ensures some { IfOk result (λ o. IfSome o (λ p. IsTypedOf nid dir (form p).value × Says (S.left source.now) (variables_of (form p).value))) }
         ensures none { IfOk result (λ o. IsNone o → IsPacketLeft WAY nid dir (S.left source.now) → ⊥) };
 
-    /// The packet of this number and direction whose bits after L_PACKET are kept.
+    /// The packet of this number and direction whose bits after L_PACKET are kept. Requires that nothing is
+    /// wrong with such a packet: its number is kept, its direction is admitted, and it isn't too long.
     fn of_kept(nid: u8, dir: u8, body: Bits) -> Self
         requires { other_fault WAY nid dir (length body) ≡ None }
         ensures made { (form result).made }
         ensures value { (form result).value ≡ kept nid dir body };
 
-    /// Packet 0 without a frame, with this number, where this way has one.
+    /// Packet 0 without a frame, with this number. `None` only if this way has none with it.
     fn of_marker(number: u8) -> Option<Self>
         ensures made { IfSome result (λ p. (form p).made) }
         ensures value { IfSome result (λ p. (form p).value ≡ marker number) }
@@ -129,7 +134,7 @@ pub trait AnyPacket: Sized + Drop {
     ///
     /// # Errors
     ///
-    /// `AllocError` where there is no memory.
+    /// `AllocError`: out of memory.
     fn try_clone(&self, alloc: Global) -> Result<Self, AllocError>
         ensures { IfOk result (λ p. p ≡ self.now) };
 
@@ -137,7 +142,7 @@ pub trait AnyPacket: Sized + Drop {
     ghost one: { (p q : Self) → (form p).made → (form q).made → (form p).value ≡ (form q).value → p ≡ q };
 }
 
-/// Puts packets after other bits, one after another.
+/// Puts packets after other bits, one after another, each with its frame.
 pub fn append_all<P: AnyPacket>(packets: &[P], out: &mut WordSink<'_>)
     ensures { out.new ≡ and_bits out.old (spelled (readings_to P.WAY (map (λ p. (P.form p).value) packets.now))) }
 {
@@ -146,7 +151,8 @@ pub fn append_all<P: AnyPacket>(packets: &[P], out: &mut WordSink<'_>)
     }
 }
 
-/// How many of `room` bits packets leave, one after another, or nothing where they don't fit.
+/// How many of `room` bits packets of either way leave, one after another, each with its frame; `None` exactly if they
+/// take more. If they fit, each is one that its own type admits, and stands for a packet of this way.
 pub fn room_after<P: AnyPacket>(room: usize, packets: &[P]) -> Option<usize>
     ensures left { IfSome result (λ left. length (spelled (readings_to P.WAY (map (λ p. (P.form p).value) packets.now))) + left ≡ room) }
     ensures made { OnSome result (All (λ p. (P.form p).made) packets.now) }

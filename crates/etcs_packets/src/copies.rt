@@ -9,7 +9,7 @@ use std::alloc::{AllocError, Global};
 ///
 /// # Errors
 ///
-/// `AllocError` where there is no memory.
+/// `AllocError`: out of memory.
 pub fn copy_all<P: AnyPacket>(alloc: Global, packets: &[P]) -> Result<Vec<P>, AllocError>
     ensures { IfOk result (λ copies. copies.items ≡ packets.now) }
 {

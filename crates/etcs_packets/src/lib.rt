@@ -1,4 +1,7 @@
-//! Packets from the track, to the train ([`Packet`]): every number that is typed, and all others as bits.
+//! All packets to the train, each a variant of [`Packet`]: one for each number that is typed, and all others as bits.
+//!
+//! A packet stands for (`packet_value`) packet 0's number; a typed packet's number, direction and variables; or a kept
+//! packet's number, direction and bits.
 #![tactic(auto)]
 
 mod any_packet;

@@ -1,4 +1,4 @@
-//! The typed packets to the train, said once: number and variant of each; and what such a list, of either way, is
+//! The typed packets to the train, listed once: number and variant of each; and what such a list, of either way, is
 //! handed to.
 //!
 //! [`packets`] hands the list to another macro, with what that one is given in braces before it.
@@ -44,7 +44,7 @@ macro_rules! packets {
     };
 }
 
-/// A match over all packets: of the marker, where there is one, of any typed packet, and of a packet that is kept.
+/// A match over all packets: of the marker, if there is one, of any typed packet, and of a packet that is kept.
 #[macro_export]
 macro_rules! of_each {
     ({ $packet:expr, $([$marker:pat => $of_marker:expr])? $typed:ident => $of_typed:expr, $kept:pat => $of_kept:expr } $sum:ident: $($nid:literal $variant:ident,)*) => {
@@ -56,14 +56,14 @@ macro_rules! of_each {
     };
 }
 
-/// An equal packet of the same variant.
+/// An equal packet of the same variant: for each that is typed a call whose last argument makes its variant.
 #[macro_export]
 macro_rules! copied {
     ({ $packet:expr, $alloc:expr $(, $marker:ident)? } $sum:ident: $($nid:literal $variant:ident,)*) => {
         match $packet {
-            $($sum::$marker(marker) => $sum::$marker(*marker),)?
-            $($sum::$variant(packet) => $sum::$variant(packet.try_clone($alloc)?),)*
-            $sum::Other(packet) => $sum::Other(packet.try_clone($alloc)?),
+            $($sum::$marker(marker) => Ok($sum::$marker(*marker)),)?
+            $($sum::$variant(packet) => $crate::inner::copy_of($alloc, packet, $sum::$variant),)*
+            $sum::Other(packet) => Ok($sum::Other(packet.try_clone($alloc)?)),
         }
     };
 }

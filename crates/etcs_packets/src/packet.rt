@@ -19,7 +19,8 @@ use etcs_tables::{MARKER_BITS, Way, frame_bits};
 use etcs_vars::BuildFault;
 use std::alloc::{AllocError, Global};
 
-/// A packet to the train (SUBSET-026, 7.4.2): one variant for each number that is typed, and all others as they are.
+/// A packet to the train (SUBSET-026, 7.4.2): one variant for each number that is typed, and all others as bits. Two of
+/// them are equal exactly if they have the same number, direction and variables or kept bits.
 #[derive(Debug, Drop, PartialEq, Eq)]
 pub enum Packet {
     /// Packet 0: the marker of a virtual balise cover.
@@ -32,7 +33,7 @@ pub enum Packet {
     Level1Ma(Level1Ma),
     /// Packet 15: the movement authority of levels 2 and 3.
     Level23Ma(Level23Ma),
-    /// Packet 16: how far a section still goes, where its length wasn't known before.
+    /// Packet 16: how far it is to the end of a section whose length wasn't known before.
     Repositioning(Flat<16>),
     /// Packet 21: the gradients ahead.
     Gradient(Gradient),
@@ -44,7 +45,7 @@ pub enum Packet {
     SessionManagement(Flat<42>),
     /// Packet 45: the radio network to register with.
     RadioNetwork(Flat<45>),
-    /// Packet 46: an order to change the level, where the train's isn't among these.
+    /// Packet 46: an order to change the level, if the train's isn't among these.
     ConditionalLevelOrder(ConditionalLevelOrder),
     /// Packet 49: the balise groups over which the train may run in shunting mode.
     ShuntingList(BaliseList<49>),
@@ -72,7 +73,7 @@ pub enum Packet {
     RbcTransition(Flat<131>),
     /// Packet 132: whether a train stops in shunting mode.
     DangerForShunting(Flat<132>),
-    /// Packet 135: the stop of shunting where the desk is opened.
+    /// Packet 135: the stop of shunting when the desk is opened.
     StopShunting(Flat<135>),
     /// Packet 136: the balise group at which the infill that follows begins.
     InfillLocation(InfillLocation),
@@ -101,11 +102,12 @@ impl Packet {
     ghost use Rattle.etcs_packets.specs.PacketValues.{packet_value, nid_of, dir_of, bits_of};
     ghost use Rattle.etcs_packets.specs.PacketReadings.{packet_reading};
 
-    /// Packet 0, the marker of a virtual balise cover, of this NID_VBCMK.
+    /// Packet 0, the marker of a virtual balise cover, of this NID_VBCMK; returned exactly if the error below doesn't
+    /// apply.
     ///
     /// # Errors
     ///
-    /// `NotAdmitted(NID_VBCMK)` above 63.
+    /// `NotAdmitted(NID_VBCMK)`: the number is above 63.
     pub fn vbc_marker(number: u8) -> Result<Packet, BuildFault>
         ensures ok { IfOk result (λ p. p ≡ Packet.VbcMarker number) }
         ensures fits { OnOk result (number_fault NID_VBCMK number ≡ None) }
@@ -121,7 +123,7 @@ impl Packet {
         packets!(of_each, self, [_ => 0] packet => typed_nid(packet), packet => packet.nid())
     }
 
-    /// Q_DIR: 0 reverse, 1 nominal, 2 both directions. `None` of packet 0, which has none.
+    /// Q_DIR: 0 reverse, 1 nominal, 2 both directions. `None` exactly for packet 0, which has none.
     #[inline(always)]
     pub fn dir(&self) -> Option<u8>
         ensures { result ≡ dir_of (packet_value self.now) }
@@ -129,7 +131,8 @@ impl Packet {
         packets!(of_each, self, [_ => None] packet => Some(packet.dir()), packet => Some(packet.dir()))
     }
 
-    /// How many bits the packet takes, its frame among them: at most 8,191.
+    /// The length of the packet's spelling in bits: 14 for packet 0, else 23 and the bits after L_PACKET; at most
+    /// 8,191.
     #[inline(always)]
     pub fn bit_len(&self) -> usize
         ensures bits { result ≡ bits_of (packet_value self.now) }
@@ -143,11 +146,11 @@ impl Packet {
     ///
     /// # Errors
     ///
-    /// `AllocError` where there is no memory.
+    /// `AllocError`: out of memory.
     pub fn try_clone(&self, alloc: Global) -> Result<Packet, AllocError>
         ensures { IfOk result (λ p. p ≡ self.now) }
     {
-        Ok(packets!(copied, self, alloc, VbcMarker))
+        packets!(copied, self, alloc, VbcMarker)
     }
 }
 

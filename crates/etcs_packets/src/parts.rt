@@ -13,7 +13,7 @@ use etcs_bits::BitSlice;
 use etcs_vars::inner::VarSink;
 use std::alloc::{AllocError, Global};
 
-/// Q_DIR; packet 0 has none.
+/// Q_DIR; `None` exactly for packet 0, which has none.
 #[inline(always)]
 pub fn dir(packet: &Packet) -> Option<u8>
     ensures { result ≡ dir_of (packet_value packet.now) }
@@ -21,7 +21,7 @@ pub fn dir(packet: &Packet) -> Option<u8>
     packet.dir()
 }
 
-/// The bits after L_PACKET of a packet that is kept as bits. `None` for any other.
+/// The bits after L_PACKET of a packet that is kept as bits. `None` exactly for any other.
 pub fn kept_bits(packet: &Packet) -> Option<BitSlice<'_>>
     ensures { result ≡ kept_of (packet_value packet.now) }
 {
@@ -33,7 +33,7 @@ pub fn kept_bits(packet: &Packet) -> Option<BitSlice<'_>>
 ///
 /// # Errors
 ///
-/// That of the sink.
+/// `AllocError`: the sink failed; its `failed` then holds.
 pub fn send<S: VarSink>(packet: &Packet, out: &mut S) -> Result<(), AllocError>
     ensures ok { OnOk result (out.new ≡ S.with out.old (variables_of (packet_value packet.now))) }
     ensures err { OnErr result (S.failed out.old out.new) }
@@ -41,11 +41,12 @@ pub fn send<S: VarSink>(packet: &Packet, out: &mut S) -> Result<(), AllocError>
     packet.send_body(out)
 }
 
-/// The typed packet of this number and direction with these numbers after L_PACKET, if there is one.
+/// The packet of this number and direction with these numbers after L_PACKET. `None` only if no typed packet to the
+/// train has them.
 ///
 /// # Errors
 ///
-/// `AllocError` where there is no memory.
+/// `AllocError`: out of memory.
 pub fn from_fields(
     alloc: Global,
     nid: u8,
@@ -59,11 +60,12 @@ pub fn from_fields(
     Packet::of_fields(alloc, nid, dir, fields)
 }
 
-/// The typed packet of this number and direction with these bits after L_PACKET, if there is one.
+/// The typed packet of this number and direction with these bits after L_PACKET. `None` only if no typed packet to the
+/// train has them.
 ///
 /// # Errors
 ///
-/// `AllocError` where there is no memory.
+/// `AllocError`: out of memory.
 #[inline(always)]
 pub fn from_bits(
     alloc: Global,

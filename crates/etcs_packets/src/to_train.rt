@@ -1,4 +1,4 @@
-//! What readers and messages ask of a packet to the train.
+//! A packet to the train, as readers and messages use it.
 
 ghost use Rattle.std.specs.Prelude.{◌≡◌, IfOk};
 ghost use Rattle.etcs_tables.specs.declared.row.Way.TheVariants.{ToTrain};
@@ -16,7 +16,7 @@ use etcs_vars::inner::{VarSink, Variables};
 use etcs_vars::{Var, WordSink};
 use std::alloc::{AllocError, Global};
 
-/// The typed packet of this number and direction with these numbers or bits after L_PACKET, if there is one.
+/// The typed packet of this number and direction with what a source has after L_PACKET. `None` only if there is none.
 #[inline(always)]
 fn of_number<S: Source>(alloc: Global, nid: u8, dir: u8, source: &S) -> Made<Packet>
     ensures { IfOk result (λ o. IsMadeOf form ToTrain nid dir (S.left source.now) o) }

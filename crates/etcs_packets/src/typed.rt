@@ -1,4 +1,4 @@
-//! What every typed packet does alike.
+//! What all typed packets have in common.
 
 ghost use Rattle.std.specs.Prelude.{◌≡◌, ◌≤◌, ◌+◌, ℕ, None, length, IfOk, IfSome, IsNone};
 ghost use Rattle.etcs_tables.specs.Rows.{row_to};
@@ -12,7 +12,7 @@ use etcs_bodies::{Framed, Listed, Packetlike, Spelled};
 use etcs_tables::{Way, frame_bits};
 use std::alloc::{AllocError, Global};
 
-/// The packet that is made of numbers or of bits, where there is one.
+/// The packet that is made of numbers, bits or another source; `None` if there is none, and an error if out of memory.
 pub type Made<P> = Result<Option<P>, AllocError>;
 
 /// Packets of one way, each of which stands for a value.
@@ -23,7 +23,7 @@ pub trait Formed {
     ghost form: { Self → Form };
 }
 
-/// All that is after L_PACKET: numbers, or bits.
+/// All that is after L_PACKET: numbers, bits, or names with numbers.
 pub trait Source {
     ghost use Rattle.etcs_bodies.specs.Taking.{Left, Says};
     ghost use Rattle.etcs_bodies.specs.Packets.{IsPacketLeft};
@@ -31,11 +31,12 @@ pub trait Source {
     /// What there is to take.
     ghost left: { Self → Left };
 
-    /// The packet of a direction and one type that it is, if it is one.
+    /// The packet of one type and this direction whose variables are all that there is. `None` only if the type has
+    /// none.
     ///
     /// # Errors
     ///
-    /// `AllocError` where there is no memory.
+    /// `AllocError`: out of memory.
     fn packet<P: Framed>(&self, alloc: Global, dir: u8) -> Made<P>
         ensures some { IfOk result (λ o. IfSome o (λ p. P.is_value p × (P.direction p ≡ dir) × Says (left self.now) (P.reading_of p))) }
         ensures none { IfOk result (λ o. IsNone o → IsPacketLeft P.WAY P.NID dir (left self.now) → ⊥) };
@@ -62,7 +63,8 @@ impl<'a> Source for BitSlice<'a> {
     }
 }
 
-/// Shows that the variables of a typed packet are its row's.
+/// Shows that a typed packet is a value of its type, and that its variables are those of a spelling of its row, of at
+/// most 8,168 bits, with an admitted direction.
 pub fn hold<P: Framed>(packet: &P)
     ensures made { P.is_value packet.now }
     ensures framed { IsFramed P.WAY P.NID (P.direction packet.now) (P.reading_of packet.now) }
@@ -70,7 +72,7 @@ pub fn hold<P: Framed>(packet: &P)
     packet.dir();
 }
 
-/// How many bits a typed packet takes with its frame.
+/// How many bits a typed packet takes with its frame; at most 8,191.
 pub fn typed_bits<P: Framed>(packet: &P) -> usize
     ensures bits { result ≡ frame_bits P.WAY + length (spelled (P.reading_of packet.now)) }
     ensures small { result ≤ 8191 }
@@ -86,11 +88,14 @@ pub fn typed_nid<P: Packetlike>(_packet: &P) -> u8
     P::NID
 }
 
-/// The packet of a direction and of what is after L_PACKET, of one type, if there is one; `packet` makes it.
+/// The packet of one type and this direction whose variables after L_PACKET are what a source has, put into a variant
+/// by `packet`. `None` only if the type has none.
+///
+/// Requires that `packet` can be called, and makes of each value of the type a packet that stands for it.
 ///
 /// # Errors
 ///
-/// `AllocError` where there is no memory.
+/// `AllocError`: out of memory.
 #[inline(never)]
 pub fn packet_of<Q: Formed, P: Framed, S: Source, F: FnOnce(P) -> Q>(
     alloc: Global,
@@ -109,7 +114,27 @@ pub fn packet_of<Q: Formed, P: Framed, S: Source, F: FnOnce(P) -> Q>(
     }
 }
 
-/// No packet, of a number without a row.
+/// An equal packet of one type; `packet` makes it one of its way.
+///
+/// # Errors
+///
+/// `AllocError`: out of memory.
+#[inline(never)]
+pub fn copy_of<Q, P: Framed, F: FnOnce(P) -> Q>(
+    alloc: Global,
+    typed: &P,
+    packet: F,
+) -> Result<Q, AllocError>
+    requires callable { F.IsAlwaysCallable packet }
+    ensures { IfOk result (λ q. F.post packet typed.now q) }
+{
+    match typed.try_clone(alloc) {
+        Ok(copy) => Ok(packet(copy)),
+        Err(error) => Err(error),
+    }
+}
+
+/// No packet: it requires that packets of this way and number have no row, so that there is none.
 pub fn none_of<Q: Formed, S: Source>(way: Way, nid: u8, source: &S) -> Made<Q>
     requires { row_to way nid ≡ None }
     ensures { (dir : ℕ) → IfOk result (λ o. IsMadeOf Q.form way nid dir (S.left source.now) o) }

@@ -23,7 +23,7 @@ impl Packet {
     ///
     /// # Errors
     ///
-    /// `AllocError` where there is no memory.
+    /// `AllocError`: out of memory.
     pub fn variables(&self, alloc: Global) -> Result<Vec<(Var, u64)>, AllocError>
         ensures { IfOk result (λ pairs. pairs.items ≡ variables_of (packet_value self.now)) }
     {
@@ -49,11 +49,11 @@ impl Variables for Packet {
     }
 }
 
-/// Sends a frame; to the track Q_DIR isn't sent.
+/// Sends a frame: NID_PACKET, Q_DIR to the train alone, and L_PACKET.
 ///
 /// # Errors
 ///
-/// That of the sink.
+/// `AllocError`: the sink failed; its `failed` then holds.
 #[inline(always)]
 pub fn send_frame<S: VarSink>(
     way: Way,
@@ -104,7 +104,7 @@ fn send_rest<P: AnyPacket, S: VarSink>(packet: &P, out: &mut S) -> Result<(), Al
 ///
 /// # Errors
 ///
-/// That of the sink.
+/// `AllocError`: the sink failed; its `failed` then holds.
 #[tactic(auto, using(crate::specs::laws::PacketReadings::front_and_rest))]
 #[inline]
 fn send_packet<P: AnyPacket, S: VarSink>(packet: &P, out: &mut S) -> Result<(), AllocError>
@@ -115,11 +115,11 @@ fn send_packet<P: AnyPacket, S: VarSink>(packet: &P, out: &mut S) -> Result<(), 
     send_rest(packet, out)
 }
 
-/// Sends packets, one after another, as `send_packet` each.
+/// Sends packets of either way, one after another, each with its frame, kept bits one by one.
 ///
 /// # Errors
 ///
-/// That of the sink.
+/// `AllocError`: the sink failed; its `failed` then holds.
 pub fn send_all<P: AnyPacket, S: VarSink>(packets: &[P], out: &mut S) -> Result<(), AllocError>
     ensures ok { OnOk result (out.new ≡ S.with out.old (readings_to P.WAY (map (λ p. (P.form p).value) packets.now))) }
     ensures err { OnErr result (S.failed out.old out.new) }

@@ -15,7 +15,8 @@ use etcs_tables::{Way, frame_bits};
 use etcs_vars::WordSink;
 use etcs_vars::inner::Variables;
 
-/// How many of `room` bits packets leave, one after another, or nothing where they don't fit.
+/// How many of `room` bits packets to the train leave, one after another, each with its frame; `None` exactly if they
+/// take more. If they fit, each is one that its own type admits, and stands for a packet.
 pub fn room_left(room: usize, packets: &[Packet]) -> Option<usize>
     ensures left { IfSome result (λ left. length (spelled (packets_reading (map packet_value packets.now))) + left ≡ room) }
     ensures made { OnSome result (All IsMade packets.now) }
@@ -25,7 +26,7 @@ pub fn room_left(room: usize, packets: &[Packet]) -> Option<usize>
     room_after(room, packets)
 }
 
-/// Puts a run of variables after other bits, each with the lowest bits of its number.
+/// Puts the spelling of these variables after other bits.
 #[inline(always)]
 pub fn append_variables<V: Variables>(variables: &V, out: &mut WordSink<'_>)
     ensures { out.new ≡ and_bits out.old (spelled (V.reading_of variables.now)) }
@@ -45,7 +46,7 @@ fn frame_number(nid: u8, dir: u8, len: usize) -> u64
     (u64::from(nid) * 4 + u64::from(dir)) * 8192 + len as u64
 }
 
-/// Puts what is in front of a packet's variables or kept bits after other bits.
+/// Puts what comes before a packet's variables or kept bits after other bits.
 #[inline(always)]
 fn append_front(packet: &Packet, out: &mut WordSink<'_>)
     ensures { out.new ≡ and_bits out.old (spelled (front_of (packet_value packet.now))) }

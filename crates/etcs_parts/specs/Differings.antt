@@ -1,4 +1,4 @@
--- A speed for some trains, an entry of packet 27.
+-- A speed for some trains, an entry of packet 27 (SUBSET-026, 7.4.2).
 use Rattle.std.proofs.Common.{ℕ, Bool, Option}
 use Rattle.std.specs.Prelude.{◌==◌, if◌then◌else◌}
 use Rattle.etcs_vars.specs.declared.var.Var.{Var}
@@ -8,31 +8,34 @@ use Rattle.etcs_tables.specs.declared.item.Test.TheVariants.{IsZero, IsOneOrTwo}
 use Rattle.etcs_tables.specs.Layouts.{Layout}
 use Rattle.etcs_bodies.specs.Formats.{Format, number, ◌⊗◌, choice, named, fault, row}
 
+-- a speed for the trains of a category: its numbers and parts
 pub record DifferingValue : Type 0 where
   pub q_diff : ℕ
   pub category : ℕ
   pub v_diff : ℕ
 
+-- a speed for the trains of a category of these numbers and parts, in the order of the constructor's
 abbrev pub differing_value : ℕ → ℕ → ℕ → DifferingValue
 differing_value q_diff category v_diff = record { q_diff = q_diff; category = category; v_diff = v_diff }
 
--- the variable of a category: one of cant deficiency, or another one
+-- the variable of a category: NC_CDDIFF of one of cant deficiency, NC_DIFF of another one
 abbrev pub category_var : Bool → Var
 category_var by_cant = if by_cant then NC_CDDIFF else NC_DIFF
 
--- the variable of the category after Q_DIFF
+-- the variable of the category after Q_DIFF: NC_CDDIFF if it is 0, else NC_DIFF
 abbrev pub category_of : ℕ → Var
 category_of q_diff = category_var (q_diff == 0)
 
+-- the format of a speed for the trains of a category: its variables in the order of sending
 abbrev pub differing_format : Format DifferingValue
 differing_format =
     named (λ n. differing_value n.0.0 n.0.1 n.1) (λ d. ((d.q_diff, d.category), d.v_diff)) (
     choice Q_DIFF IsZero IsOneOrTwo category_var ⊗ number V_DIFF)
 
--- why it is none
+-- the first fault of a speed for the trains of a category, in the order of the variables
 abbrev pub differing_fault : DifferingValue → Option BuildFault
 differing_fault = fault differing_format
 
--- the entry in front of the rest of a row
+-- the row of such a speed before a rest
 abbrev pub differing_row : Layout → Layout
 differing_row = row differing_format

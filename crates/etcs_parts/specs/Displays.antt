@@ -1,24 +1,27 @@
--- Where a text is shown, at its start or at its end (packets 72 and 76).
+-- In which mode and level the display of a text begins or ends, of packets 72 and 76 (SUBSET-026, 7.4.2).
 use Rattle.std.proofs.Common.{ℕ, Option}
 use Rattle.etcs_vars.specs.declared.var.Var.TheVariants.{M_MODETEXTDISPLAY, M_LEVELTEXTDISPLAY, NID_NTC}
 use Rattle.etcs_vars.specs.declared.fault.BuildFault.{BuildFault}
 use Rattle.etcs_tables.specs.declared.item.Test.TheVariants.{IsOne}
 use Rattle.etcs_bodies.specs.Formats.{Format, number, ◌⊗◌, guarded, named, fault}
 
+-- the mode and level in which a text is shown: its numbers and parts
 pub record ShownValue : Type 0 where
   pub m_modetextdisplay : ℕ
   pub m_leveltextdisplay : ℕ
   pub nid_ntc : Option ℕ
 
+-- the mode and level in which a text is shown of these numbers and parts, in the order of the constructor's
 abbrev pub shown_value : ℕ → ℕ → Option ℕ → ShownValue
 shown_value m_modetextdisplay m_leveltextdisplay nid_ntc =
     record { m_modetextdisplay = m_modetextdisplay; m_leveltextdisplay = m_leveltextdisplay; nid_ntc = nid_ntc }
 
+-- the format of the mode and level in which a text is shown: its variables in the order of sending
 abbrev pub shown_format : Format ShownValue
 shown_format =
     named (λ n. shown_value n.0 n.1.0 n.1.1) (λ s. (s.m_modetextdisplay, (s.m_leveltextdisplay, s.nid_ntc))) (
     number M_MODETEXTDISPLAY ⊗ guarded M_LEVELTEXTDISPLAY IsOne (number NID_NTC))
 
--- why it is none
+-- the first fault of the mode and level in which a text is shown, in the order of the variables
 abbrev pub shown_fault : ShownValue → Option BuildFault
 shown_fault = fault shown_format

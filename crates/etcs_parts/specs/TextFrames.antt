@@ -1,4 +1,4 @@
--- All of a text message but the text itself (packets 72 and 76).
+-- All of a text message but the text itself, of packets 72 and 76 (SUBSET-026, 7.4.2).
 use Rattle.std.proofs.Common.{ℕ, Bool, Option, Some, None}
 use Rattle.etcs_vars.specs.declared.var.Var.TheVariants.{Q_SCALE, Q_TEXTCLASS, Q_TEXTDISPLAY, D_TEXTDISPLAY, L_TEXTDISPLAY, T_TEXTDISPLAY, Q_TEXTCONFIRM, Q_CONFTEXTDISPLAY, Q_TEXTREPORT, NID_TEXTMESSAGE, NID_C, NID_RBC}
 use Rattle.etcs_vars.specs.declared.fault.BuildFault.{BuildFault}
@@ -6,24 +6,27 @@ use Rattle.etcs_tables.specs.declared.item.Test.TheVariants.{IsNotZero}
 use Rattle.etcs_bodies.specs.Formats.{Format, number, flag, ◌⊗◌, optional, guarded, part, named, fault}
 use Rattle.etcs_parts.specs.Displays.{ShownValue, shown_format}
 
--- to whom the confirmation is reported
+-- to whom a confirmation is reported: NID_TEXTMESSAGE, NID_C and NID_RBC
 abbrev pub Report : Type 0
 Report = ℕ × ℕ × ℕ
 
+-- the format of what a confirmation's report names, without its flag
 abbrev pub report_format : Format Report
 report_format = named (λ n. (n.0, n.1.0, n.1.1)) (λ r. (r.0, (r.1, r.2))) (number NID_TEXTMESSAGE ⊗ number NID_C ⊗ number NID_RBC)
 
--- how a text is confirmed, and the report where there is one
+-- how a text is confirmed: Q_CONFTEXTDISPLAY, and the report if there is one
 abbrev pub Confirm : Type 0
 Confirm = Bool × Option Report
 
+-- the format of how a text is confirmed, without Q_TEXTCONFIRM
 abbrev pub confirm_format : Format Confirm
 confirm_format = flag Q_CONFTEXTDISPLAY ⊗ optional Q_TEXTREPORT report_format
 
--- Q_TEXTCONFIRM, and the confirmation where it isn't 0
+-- the format of Q_TEXTCONFIRM, and of the confirmation exactly if it isn't 0
 abbrev pub confirmed_format : Format (ℕ × Option Confirm)
 confirmed_format = guarded Q_TEXTCONFIRM IsNotZero confirm_format
 
+-- all of a text message but its text: its numbers and parts
 pub record TextFrameValue : Type 0 where
   pub q_scale : ℕ
   pub q_textclass : ℕ
@@ -36,6 +39,7 @@ pub record TextFrameValue : Type 0 where
   pub q_textconfirm : ℕ
   pub confirm : Option Confirm
 
+-- all of a text message but its text of these numbers and parts, in the order of the constructor's
 abbrev pub text_frame_value : ℕ → ℕ → Bool → ℕ → ShownValue → ℕ → ℕ → ShownValue → ℕ → Option Confirm → TextFrameValue
 text_frame_value q_scale q_textclass q_textdisplay d_textdisplay start l_textdisplay t_textdisplay end q_textconfirm confirm =
     record {
@@ -51,16 +55,19 @@ text_frame_value q_scale q_textclass q_textdisplay d_textdisplay start l_textdis
       confirm = confirm;
     }
 
+-- all of a text message but its text, of these numbers and parts one inside the other
 abbrev pub text_frame_of : ℕ × (ℕ × (Bool × (ℕ × (ShownValue × (ℕ × (ℕ × (ShownValue × (ℕ × Option Confirm)))))))) → TextFrameValue
 text_frame_of n = text_frame_value n.0 n.1.0 n.1.1.0 n.1.1.1.0 n.1.1.1.1.0 n.1.1.1.1.1.0 n.1.1.1.1.1.1.0 n.1.1.1.1.1.1.1.0 n.1.1.1.1.1.1.1.1.0 n.1.1.1.1.1.1.1.1.1
 
+-- the format of all of a text message but its text: its variables in the order of sending
 abbrev pub text_frame_format : Format TextFrameValue
 text_frame_format =
     named text_frame_of (λ t. (t.q_scale, (t.q_textclass, (t.q_textdisplay, (t.d_textdisplay, (t.start, (t.l_textdisplay, (t.t_textdisplay, (t.end, (t.q_textconfirm, t.confirm)))))))))) (
     number Q_SCALE ⊗ number Q_TEXTCLASS ⊗ flag Q_TEXTDISPLAY ⊗ number D_TEXTDISPLAY ⊗ part shown_format
     ⊗ number L_TEXTDISPLAY ⊗ number T_TEXTDISPLAY ⊗ part shown_format ⊗ confirmed_format)
 
--- why it is none, where start and end are such parts
+-- the first fault of all of a text message but its text, in the order of the variables; start and end aren't looked
+-- at again
 abbrev pub text_frame_fault : TextFrameValue → Option BuildFault
 text_frame_fault = fault text_frame_format
 

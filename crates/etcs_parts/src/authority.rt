@@ -46,24 +46,25 @@ impl Model for Authority {
 }
 
 impl Authority {
-    /// An authority of these sections and the end section.
+    /// The authority of these sections, the end section and what follows it, returned exactly if none of the errors
+    /// below applies. Sections are values already, and aren't checked again.
     ///
-    /// - `end_timer` is T_ENDTIMER in seconds, where 1023 is unlimited, and D_ENDTIMERSTARTLOC,
+    /// - `end_timer` is T_ENDTIMER in seconds (1023 is unlimited) and D_ENDTIMERSTARTLOC,
     ///   the distance from the timer's start to the end of the authority, in steps of Q_SCALE.
     /// - `danger_point` is D_DP, its distance from the end of the authority in steps of Q_SCALE,
     ///   and the release speed V_RELEASEDP in steps of 5 km/h: 0 to 120, 126 is calculated on board, 127
     ///   is the national value.
     /// - `overlap` is D_STARTOL, the distance from the timer's start to the end of the authority,
-    ///   T_OL in seconds, where 1023 is unlimited, D_OL, the distance from the end of the
+    ///   T_OL in seconds (1023 is unlimited), D_OL, the distance from the end of the
     ///   authority to the end of the overlap, and the release speed V_RELEASEOL, as above.
     ///
     /// # Errors
     ///
-    /// The first that holds, with the sections:
+    /// The first of these that applies, with the list that was given:
     ///
-    /// - `TooMany(N_ITER)` where there are more than 31 sections.
-    /// - `NotAdmitted` with the variable, where a distance is above 32,767, a time above 1,023, or
-    ///   a release speed isn't one of those above.
+    /// - `TooMany(N_ITER)`: there are more than 31 sections.
+    /// - `NotAdmitted` with the first variable, in order, that doesn't admit its number: a distance above 32,767,
+    ///   a time above 1,023, or a release speed that isn't one of those above.
     pub fn new(
         sections: Vec<Section>,
         end: Section,
@@ -88,7 +89,7 @@ impl Authority {
         }
     }
 
-    /// The sections in front of the end section.
+    /// The sections before the end section.
     pub fn sections(&self) -> &[Section]
         ensures { result.now ≡ self.now.sections }
     {
@@ -102,7 +103,7 @@ impl Authority {
         self.end
     }
 
-    /// The time in seconds, where 1023 is unlimited, and the distance from the timer's start to
+    /// T_ENDTIMER in seconds (1023 is unlimited) and D_ENDTIMERSTARTLOC, the distance from the timer's start to
     /// the end of the authority, in steps of Q_SCALE. `None` without an end timer.
     pub fn end_timer(&self) -> Option<(u16, u16)>
         ensures { result ≡ self.now.end_timer }
@@ -110,17 +111,17 @@ impl Authority {
         self.end_timer
     }
 
-    /// The danger point's distance from the end of the authority, in steps of Q_SCALE, and the
-    /// release speed in steps of 5 km/h, where 126 is calculated on board and 127 the national value. `None` without one.
+    /// D_DP, the danger point's distance from the end of the authority, in steps of Q_SCALE, and the release speed
+    /// V_RELEASEDP in steps of 5 km/h; 126 is calculated on board, 127 is the national value. `None` without one.
     pub fn danger_point(&self) -> Option<(u16, u8)>
         ensures { result ≡ self.now.danger_point }
     {
         self.danger_point
     }
 
-    /// The distance from the start of the overlap's timer to the end of the authority, the time in
-    /// seconds, where 1023 is unlimited, the distance to the end of the overlap, and the release
-    /// speed in steps of 5 km/h, where 126 is calculated on board and 127 the national value. Distances
+    /// D_STARTOL, the distance from the start of the overlap's timer to the end of the authority, T_OL in
+    /// seconds (1023 is unlimited), D_OL, the distance to the end of the overlap, and the release
+    /// speed V_RELEASEOL in steps of 5 km/h; 126 is calculated on board, 127 is the national value. Distances
     /// are in steps of Q_SCALE. `None` without an overlap.
     pub fn overlap(&self) -> Option<(u16, u16, u16, u8)>
         ensures { result ≡ self.now.overlap }

@@ -9,7 +9,7 @@ use etcs_vars::{BuildFault, Var};
 use std::alloc::{AllocError, Global};
 use std::marker::Model;
 
-/// A balise group in a list of groups (packets 49 and 63; SUBSET-026, 7.4 and 7.5).
+/// A balise group in a list of groups (packets 5, 49 and 63; SUBSET-026, 7.4 and 7.5).
 #[derive(Clone, Copy, Debug, PartialEq, Eq)]
 pub struct BaliseAt {
     nid_c: Option<u16>,
@@ -32,7 +32,8 @@ impl Model for BaliseAt {
 impl BaliseAt {
     ghost use Rattle.etcs_parts.specs.BalisesAt.{balise_at_value, balise_at_fault};
 
-    /// The group `nid_bg`; `nid_c` is given where its country or region is another than that of the group before.
+    /// The group `nid_bg`, returned exactly if none of the errors below applies; `nid_c` is given if its country or
+    /// region isn't that of the group before.
     ///
     /// # Errors
     ///
@@ -58,14 +59,14 @@ impl BaliseAt {
         BaliseAt { nid_c, nid_bg }
     }
 
-    /// The group's country or region, where it is another than that of the group before.
+    /// NID_C, the group's country or region, if it isn't that of the group before.
     pub fn nid_c(&self) -> Option<u16>
         ensures { result ≡ self.now.nid_c }
     {
         self.nid_c
     }
 
-    /// The group within its country or region.
+    /// NID_BG, the group within its country or region.
     pub fn nid_bg(&self) -> u16
         ensures { result ≡ self.now.nid_bg }
     {

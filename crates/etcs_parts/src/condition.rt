@@ -42,7 +42,8 @@ impl Model for Condition {
 impl Condition {
     ghost use Rattle.etcs_parts.specs.Conditions.{condition_value, condition_fault};
 
-    /// The condition `m_trackcond` from `d_trackcond` on, over `l_trackcond`.
+    /// The condition `m_trackcond` from `d_trackcond` on, over `l_trackcond`, both in steps of Q_SCALE; returned
+    /// exactly if none of the errors below applies.
     ///
     /// # Errors
     ///

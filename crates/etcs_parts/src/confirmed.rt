@@ -9,7 +9,7 @@ use etcs_vars::inner::VarSink;
 use etcs_vars::{BuildFault, Var};
 use std::alloc::{AllocError, Global};
 
-/// Q_TEXTCONFIRM, and where it isn't 0 the confirmation.
+/// Q_TEXTCONFIRM, and the confirmation if it isn't 0.
 #[derive(Clone, Copy, Debug, PartialEq, Eq)]
 pub(crate) struct Confirmed {
     pub(crate) q_textconfirm: u8,
@@ -41,7 +41,7 @@ impl Confirmed {
         })
     }
 
-    /// A field of the frame: nothing is left to be tested.
+    /// A field of the frame: nothing is left to be checked.
     pub(crate) fn holds(&self) {}
 
     /// Takes what the numbers begin with.

@@ -34,17 +34,17 @@ impl Model for Differing {
 impl Differing {
     ghost use Rattle.etcs_parts.specs.Differings.{differing_value, differing_fault};
 
-    /// A speed for the trains of a category.
+    /// A speed for the trains of a category, returned exactly if none of the errors below applies.
     ///
     /// - `q_diff`: which category it is: 0 of cant deficiency, 1 another one, in place of that of cant deficiency,
     ///   2 another one, beside that of cant deficiency;
-    /// - `category`: the number of NC_CDDIFF where `q_diff` is 0, of NC_DIFF where it is 1 or 2;
+    /// - `category`: the number of NC_CDDIFF if `q_diff` is 0, of NC_DIFF if it is 1 or 2;
     /// - `v_diff`: the speed of these trains, in steps of 5 km/h.
     ///
     /// # Errors
     ///
-    /// [`BuildFault::NotAdmitted`] with the first of these: Q_DIFF, above 2; NC_CDDIFF or NC_DIFF by `q_diff`, above
-    /// 15; V_DIFF, above 127.
+    /// `NotAdmitted` with the first of these that doesn't admit its number: Q_DIFF (0 to 2), NC_CDDIFF or NC_DIFF by
+    /// `q_diff` (4 bits), V_DIFF (7).
     pub fn new(q_diff: u8, category: u8, v_diff: u8) -> Result<Differing, BuildFault>
         ensures ok { IfOk result (λ d. d ≡ differing_value q_diff category v_diff) }
         ensures fits { OnOk result (differing_fault (differing_value q_diff category v_diff) ≡ None) }
@@ -67,7 +67,7 @@ impl Differing {
         self.q_diff
     }
 
-    /// The number of NC_CDDIFF where Q_DIFF is 0, of NC_DIFF where it is 1 or 2.
+    /// The number of NC_CDDIFF if Q_DIFF is 0, of NC_DIFF if it is 1 or 2.
     pub fn category(&self) -> u8
         ensures { result ≡ self.now.category }
     {

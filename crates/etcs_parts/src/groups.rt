@@ -1,4 +1,4 @@
-//! Groups of numbers after a flag, which are there where the flag is 1.
+//! Groups of numbers after a flag, which are there if the flag is 1.
 //!
 //! A group lists its numbers in a macro of its own that hands the list to one of these: after the flag `Q_OVERLAP`
 //! each number with a name, its variable and its type, as `time: T_OL u16`.
@@ -23,7 +23,7 @@ macro_rules! send_group {
     };
 }
 
-/// Takes the group where its flag is set.
+/// Takes the group if its flag is set.
 macro_rules! take_group {
     ({ $numbers:ident, $flagged:expr } $flag:ident $($name:ident: $var:ident $type:ident),*) => {{
         if !$flagged {

@@ -32,15 +32,17 @@ impl Model for Level {
 impl Level {
     ghost use Rattle.etcs_parts.specs.Levels.{level_value, level_fault};
 
-    /// A level.
+    /// The level of these numbers, returned exactly if none of the errors below applies.
     ///
     /// `m_leveltr` is 0 for level 0, 1 for level NTC, 2 for level 1, 3 for level 2, 4 for level 3.
-    /// `nid_ntc` is the national system, and is given just for level NTC.
+    /// `nid_ntc` is the national system, given for level NTC alone.
     ///
     /// # Errors
     ///
-    /// - `NotAdmitted(M_LEVELTR)` where the level is above 4.
-    /// - `Guard(M_LEVELTR)` where level NTC has no national system, or another level has one.
+    /// The first of these that applies:
+    ///
+    /// - `NotAdmitted(M_LEVELTR)`: the level is above 4.
+    /// - `Guard(M_LEVELTR)`: level NTC has no national system, or another level has one.
     pub fn new(m_leveltr: u8, nid_ntc: Option<u8>) -> Result<Level, BuildFault>
         ensures ok { IfOk result (λ l. l ≡ level_value m_leveltr nid_ntc) }
         ensures fits { OnOk result (level_fault (level_value m_leveltr nid_ntc) ≡ None) }
@@ -54,15 +56,14 @@ impl Level {
         Ok(Level { m_leveltr, nid_ntc })
     }
 
-    /// The number of the level: 0 for level 0, 1 for level NTC, 2 for level 1, 3 for level 2, 4
-    /// for level 3.
+    /// M_LEVELTR: 0 for level 0, 1 for level NTC, 2 for level 1, 3 for level 2, 4 for level 3.
     pub fn m_leveltr(&self) -> u8
         ensures { result ≡ self.now.m_leveltr }
     {
         self.m_leveltr
     }
 
-    /// The national system of level NTC.
+    /// NID_NTC, the national system of level NTC; `None` for another level.
     pub fn nid_ntc(&self) -> Option<u8>
         ensures { result ≡ self.now.nid_ntc }
     {

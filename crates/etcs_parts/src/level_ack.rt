@@ -40,20 +40,20 @@ impl Model for LevelAck {
 impl LevelAck {
     ghost use Rattle.etcs_parts.specs.Levels.{level_ack_value, level_ack_fault};
 
-    /// A level and its length of acknowledgement.
+    /// A level and its length of acknowledgement, returned exactly if none of the errors below applies.
     ///
     /// `m_leveltr` is 0 for level 0, 1 for level NTC, 2 for level 1, 3 for level 2, 4 for level 3.
-    /// `nid_ntc` is the national system, and is given just for level NTC. `l_ackleveltr` is the
-    /// length in front of the transition in which the driver has to acknowledge it, in steps of
+    /// `nid_ntc` is the national system, given for level NTC alone. `l_ackleveltr` is the
+    /// length before the transition in which the driver has to acknowledge it, in steps of
     /// Q_SCALE.
     ///
     /// # Errors
     ///
-    /// The first that holds:
+    /// The first of these that applies:
     ///
-    /// - `NotAdmitted(M_LEVELTR)` where the level is above 4.
-    /// - `Guard(M_LEVELTR)` where level NTC has no national system, or another level has one.
-    /// - `NotAdmitted(L_ACKLEVELTR)` where the length is above 32,767.
+    /// - `NotAdmitted(M_LEVELTR)`: the level is above 4.
+    /// - `Guard(M_LEVELTR)`: level NTC has no national system, or another level has one.
+    /// - `NotAdmitted(L_ACKLEVELTR)`: the length is above 32,767.
     pub fn new(
         m_leveltr: u8,
         nid_ntc: Option<u8>,
@@ -66,15 +66,14 @@ impl LevelAck {
         fields!(build_part: Level::new(m_leveltr, nid_ntc)?; l_ackleveltr)
     }
 
-    /// The number of the level: 0 for level 0, 1 for level NTC, 2 for level 1, 3 for level 2, 4
-    /// for level 3.
+    /// M_LEVELTR of its level: 0 for level 0, 1 for level NTC, 2 for level 1, 3 for level 2, 4 for level 3.
     pub fn m_leveltr(&self) -> u8
         ensures { result ≡ self.now.level.m_leveltr }
     {
         self.level.m_leveltr()
     }
 
-    /// The national system of level NTC.
+    /// NID_NTC of its level, the national system of level NTC; `None` for another level.
     pub fn nid_ntc(&self) -> Option<u8>
         ensures { result ≡ self.now.level.nid_ntc }
     {

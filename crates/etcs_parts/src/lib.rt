@@ -1,4 +1,7 @@
-//! The parts of packets, each a run of variables of their rows as a value.
+//! The parts that packets with groups repeat or nest, each a run of variables of their rows as a value.
+//!
+//! Each part is a [`Part`](etcs_bodies::Part): a part and its variables determine each other, and `==` is equality of
+//! its numbers.
 #![tactic(auto)]
 
 mod authority;

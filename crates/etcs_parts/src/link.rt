@@ -46,10 +46,10 @@ impl Model for Link {
 impl Link {
     ghost use Rattle.etcs_parts.specs.Links.{link_value, link_fault};
 
-    /// The group `d_link` after the one before, in steps of Q_SCALE; `nid_c` is given where its country or
-    /// region is another. `q_linkorientation` is `true` where the train passes it in its nominal direction, `q_linkreaction`
-    /// what the train does where it isn't found (0 train trip, 1 service brake, 2 nothing), `q_locacc` how exactly it is
-    /// placed, in metres.
+    /// The group `d_link` after the one before, in steps of Q_SCALE; returned exactly if none of the errors below
+    /// applies. `nid_c` is given if its country or region isn't that of the group before. `q_linkorientation` is `true`
+    /// if the train passes it in its nominal direction, `q_linkreaction` what the train does if it isn't found (0 train
+    /// trip, 1 service brake, 2 nothing), `q_locacc` how exactly it is placed, in metres.
     ///
     /// # Errors
     ///
@@ -77,7 +77,7 @@ impl Link {
         self.d_link
     }
 
-    /// The group's country or region, where it is another than that of the group before.
+    /// The group's country or region, if it isn't that of the group before.
     pub fn nid_c(&self) -> Option<u16>
         ensures { result ≡ self.now.nid_c }
     {
@@ -98,7 +98,7 @@ impl Link {
         self.q_linkorientation
     }
 
-    /// What the train does where the group isn't found: 0 train trip, 1 service brake, 2 nothing.
+    /// What the train does if the group isn't found: 0 train trip, 1 service brake, 2 nothing.
     pub fn q_linkreaction(&self) -> u8
         ensures { result ≡ self.now.q_linkreaction }
     {

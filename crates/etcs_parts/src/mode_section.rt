@@ -48,8 +48,9 @@ impl ModeSection {
     ghost use Rattle.etcs_parts.specs.ModeSections.{mode_section_value, mode_section_fault};
 
     /// The area from `d_mamode` on, over `l_mamode`, in which the train runs in the mode `m_mamode` and at most at
-    /// `v_mamode`, in steps of 5 km/h. The driver may acknowledge the mode over `l_ackmamode` before it. `q_mamode` says
-    /// whether the start of the area is the end of authority alone, and not the supervised location too.
+    /// `v_mamode`, in steps of 5 km/h; returned exactly if none of the errors below applies. The driver may acknowledge
+    /// the mode over `l_ackmamode` before it. `q_mamode` is `true` if the start of the area is the end of authority
+    /// alone, and not the supervised location too.
     ///
     /// # Errors
     ///

@@ -37,12 +37,12 @@ impl Model for ReportAt {
 impl ReportAt {
     ghost use Rattle.etcs_parts.specs.ReportsAt.{report_at_value, report_at_fault};
 
-    /// The place `d_loc` after the one before, in steps of Q_SCALE. `q_lgtloc` says whether the train reports when its
-    /// front reaches the place, and not its rear.
+    /// The place `d_loc` after the one before, in steps of Q_SCALE; returned exactly if the error below doesn't apply.
+    /// `q_lgtloc` is `true` if the train reports when its front reaches the place, and not its rear.
     ///
     /// # Errors
     ///
-    /// `NotAdmitted(D_LOC)` where the distance is above 32,767.
+    /// `NotAdmitted(D_LOC)`: the distance is above 32,767.
     pub fn new(d_loc: u16, q_lgtloc: bool) -> Result<ReportAt, BuildFault>
         ensures ok { IfOk result (λ r. r ≡ report_at_value d_loc q_lgtloc) }
         ensures fits { OnOk result (report_at_fault (report_at_value d_loc q_lgtloc) ≡ None) }

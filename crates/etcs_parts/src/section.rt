@@ -48,19 +48,19 @@ impl Section {
     ghost use Rattle.etcs_bodies.specs.Formats.{Is};
     ghost use Rattle.etcs_parts.specs.Sections.{section_value, section_fault, section_format, end_format};
 
-    /// A section of this length, in steps of Q_SCALE.
+    /// A section of this length, in steps of Q_SCALE, returned exactly if none of the errors below applies.
     ///
-    /// `timer` is T_SECTIONTIMER in seconds, where 1023 is unlimited, and
+    /// `timer` is T_SECTIONTIMER in seconds (1023 is unlimited) and
     /// D_SECTIONTIMERSTOPLOC, the distance from the section's beginning at which the timer stops, in
     /// steps of Q_SCALE.
     ///
     /// # Errors
     ///
-    /// The first that holds:
+    /// The first of these that applies:
     ///
-    /// - `NotAdmitted(L_SECTION)` where the length is above 32,767.
-    /// - `NotAdmitted(T_SECTIONTIMER)` where the time is above 1,023.
-    /// - `NotAdmitted(D_SECTIONTIMERSTOPLOC)` where the distance is above 32,767.
+    /// - `NotAdmitted(L_SECTION)`: the length is above 32,767, that of an end section too.
+    /// - `NotAdmitted(T_SECTIONTIMER)`: the time is above 1,023.
+    /// - `NotAdmitted(D_SECTIONTIMERSTOPLOC)`: the distance is above 32,767.
     pub fn new(length: u16, timer: Option<(u16, u16)>) -> Result<Section, BuildFault>
         ensures ok { IfOk result (λ s. s ≡ section_value length timer) }
         ensures fits { OnOk result (section_fault (section_value length timer) ≡ None) }
@@ -78,8 +78,8 @@ impl Section {
         self.length
     }
 
-    /// The time in seconds, where 1023 is unlimited, and the distance at which the timer stops, in
-    /// steps of Q_SCALE. `None` without a timer.
+    /// T_SECTIONTIMER in seconds (1023 is unlimited) and D_SECTIONTIMERSTOPLOC, the distance at which the timer stops,
+    /// in steps of Q_SCALE. `None` without a timer.
     pub fn timer(&self) -> Option<(u16, u16)>
         ensures { result ≡ self.now.timer }
     {
@@ -128,7 +128,7 @@ fn send_timer<S: VarSink>(timer: Option<(u16, u16)>, out: &mut S) -> Result<(), 
     timer!(send_group: timer, out)
 }
 
-/// The timer that the numbers begin with, where its flag is set.
+/// The timer that the numbers begin with, if its flag is set.
 #[inline(always)]
 fn timer_after<L: Numbers>(timed: bool, numbers: &mut L) -> Option<Option<(u16, u16)>>
     ensures part { IfSome result (λ t. Is timer_format t) }

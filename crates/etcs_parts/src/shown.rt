@@ -1,4 +1,4 @@
-//! Where a text is shown.
+//! In which mode and level a text is shown.
 
 ghost use Rattle.std.specs.Prelude.{◌≡◌, None, Some, IfOk, IfErr, OnOk};
 
@@ -34,12 +34,14 @@ impl Shown {
     ghost use Rattle.etcs_parts.specs.Displays.{shown_value, shown_fault};
 
     /// The mode (M_MODETEXTDISPLAY, SUBSET-026, 7.5: 0 to 15), the level (M_LEVELTEXTDISPLAY: 0 to 5), and for
-    /// level NTC, which is 1, the national system (NID_NTC).
+    /// level NTC, which is 1, the national system (NID_NTC); returned exactly if none of the errors below applies.
     ///
     /// # Errors
     ///
-    /// In this order: `NotAdmitted` with M_MODETEXTDISPLAY or M_LEVELTEXTDISPLAY; `Guard` with M_LEVELTEXTDISPLAY
-    /// where the level is 1 and `nid_ntc` is missing, or the level isn't 1 and it is there.
+    /// The first of these that applies:
+    ///
+    /// - `NotAdmitted` with M_MODETEXTDISPLAY, then with M_LEVELTEXTDISPLAY: the variable doesn't admit its number.
+    /// - `Guard(M_LEVELTEXTDISPLAY)`: the level is 1 and `nid_ntc` is missing, or it isn't 1 and `nid_ntc` is there.
     pub fn new(
         m_modetextdisplay: u8,
         m_leveltextdisplay: u8,
@@ -80,7 +82,7 @@ impl Shown {
         self.m_leveltextdisplay
     }
 
-    /// The national system: NID_NTC.
+    /// The national system of level NTC: NID_NTC; `None` for another level.
     pub fn nid_ntc(&self) -> Option<u8>
         ensures { result ≡ self.now.nid_ntc }
     {

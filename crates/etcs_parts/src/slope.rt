@@ -40,14 +40,14 @@ impl Model for Slope {
 impl Slope {
     ghost use Rattle.etcs_parts.specs.Slopes.{slope_value, slope_fault};
 
-    /// A gradient `g_a` from `d_gradient` on.
+    /// A gradient `g_a` from `d_gradient` on, returned exactly if the error below doesn't apply.
     ///
-    /// `d_gradient` is the distance to it, in steps of Q_SCALE from the one before. `q_gdir` says whether it is uphill.
+    /// `d_gradient` is the distance to it, in steps of Q_SCALE from the one before. `q_gdir` is `true` if it is uphill.
     /// `g_a` is in per mille; 255 is the end of the profile.
     ///
     /// # Errors
     ///
-    /// `NotAdmitted(D_GRADIENT)` where the distance is above 32,767.
+    /// `NotAdmitted(D_GRADIENT)`: the distance is above 32,767.
     pub fn new(d_gradient: u16, q_gdir: bool, g_a: u8) -> Result<Slope, BuildFault>
         ensures ok { IfOk result (λ s. s ≡ slope_value d_gradient q_gdir g_a) }
         ensures fits { OnOk result (slope_fault (slope_value d_gradient q_gdir g_a) ≡ None) }
@@ -63,7 +63,7 @@ impl Slope {
         self.d_gradient
     }
 
-    /// Whether it goes uphill.
+    /// Whether it is uphill.
     pub fn q_gdir(&self) -> bool
         ensures { result ≡ self.now.q_gdir }
     {

@@ -45,19 +45,22 @@ impl Model for Speed {
 impl Speed {
     ghost use Rattle.etcs_parts.specs.Speeds.{speed_value, speed_fault};
 
-    /// A speed from its place on.
+    /// A speed from its place on, returned exactly if none of the errors below applies. Its entries are values already,
+    /// and aren't checked again.
     ///
     /// - `d_static`: how far it begins after the place of the speed before it, in steps of Q_SCALE (0: 10 cm,
     ///   1: 1 m, 2: 10 m);
     /// - `v_static`: the speed in steps of 5 km/h; 127 is the end of the profile;
-    /// - `q_front`: whether the speed ends where the front of the train comes to the next one, with no delay by the
-    ///   length of the train;
+    /// - `q_front`: whether the speed ends as soon as the front of the train comes to the next one, with no delay by
+    ///   the length of the train;
     /// - `differing`: the speeds of categories of trains for which it differs.
     ///
     /// # Errors
     ///
-    /// The first of these, and the entries: [`BuildFault::NotAdmitted`] with D_STATIC or V_STATIC, where the number
-    /// is spare or too large; [`BuildFault::TooMany`] with N_ITER, where there are more than 31 entries.
+    /// The first of these that applies, with the entries that were given:
+    ///
+    /// - `NotAdmitted` with D_STATIC, then with V_STATIC: the number is spare or too large for the variable's width.
+    /// - `TooMany(N_ITER)`: there are more than 31 entries.
     pub fn new(
         d_static: u16,
         v_static: u8,

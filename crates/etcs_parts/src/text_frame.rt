@@ -51,7 +51,8 @@ impl Model for TextFrame {
 impl TextFrame {
     ghost use Rattle.etcs_parts.specs.TextFrames.{text_frame_value, text_frame_fault};
 
-    /// All of a text message but the text itself, each argument a variable of SUBSET-026, 7.5:
+    /// All of a text message but the text itself, returned exactly if none of the errors below applies. `start` and
+    /// `end` are values already, and aren't checked again. Each argument is a variable of SUBSET-026, 7.5:
     ///
     /// - `q_scale`: Q_SCALE, the unit of the distances: 0 is 10 cm, 1 is 1 m, 2 is 10 m.
     /// - `q_textclass`: Q_TEXTCLASS, the class of the message, 0 to 3.
@@ -63,15 +64,18 @@ impl TextFrame {
     /// - `t_textdisplay`: T_TEXTDISPLAY, its duration in seconds, 0 to 1,023; 1,023 is unlimited.
     /// - `end`: the mode and level in which it ends.
     /// - `q_textconfirm`: Q_TEXTCONFIRM, whether the driver must confirm, 0 to 3; 0 is no confirmation.
-    /// - `confirm`: where he must, Q_CONFTEXTDISPLAY (`true` where his confirmation is one more condition for the end of
-    ///   the display, `false` where it always ends it), and where the confirmation is reported, NID_TEXTMESSAGE (0 to
+    /// - `confirm`: if the driver must, Q_CONFTEXTDISPLAY (`true` if his confirmation is one more condition for the end
+    ///   of the display, `false` if it always ends it), and if the confirmation is reported, NID_TEXTMESSAGE (0 to
     ///   255), NID_C (0 to 1,023) and NID_RBC (0 to 16,383).
     ///
     /// # Errors
     ///
-    /// In this order: `NotAdmitted` with Q_SCALE, Q_TEXTCLASS, D_TEXTDISPLAY, L_TEXTDISPLAY, T_TEXTDISPLAY or
-    /// Q_TEXTCONFIRM; `Guard` with Q_TEXTCONFIRM where it is 0 and `confirm` is there, or it isn't 0 and `confirm` is
-    /// missing; `NotAdmitted` with NID_C or NID_RBC.
+    /// The first of these that applies:
+    ///
+    /// - `NotAdmitted` with the first of Q_SCALE, Q_TEXTCLASS, D_TEXTDISPLAY, L_TEXTDISPLAY, T_TEXTDISPLAY and
+    ///   Q_TEXTCONFIRM that doesn't admit its number.
+    /// - `Guard(Q_TEXTCONFIRM)`: it is 0 and `confirm` is there, or it isn't 0 and `confirm` is missing.
+    /// - `NotAdmitted` with NID_C, then with NID_RBC: the variable doesn't admit its number.
     pub fn new(
         q_scale: u8,
         q_textclass: u8,
@@ -155,7 +159,7 @@ impl TextFrame {
         self.confirmed.q_textconfirm
     }
 
-    /// Where he must, Q_CONFTEXTDISPLAY, and of a report NID_TEXTMESSAGE, NID_C and NID_RBC.
+    /// If he must, Q_CONFTEXTDISPLAY, and of a report NID_TEXTMESSAGE, NID_C and NID_RBC.
     pub fn confirm(&self) -> Option<(bool, Option<(u8, u16, u16)>)>
         ensures { result ≡ self.now.confirm }
     {

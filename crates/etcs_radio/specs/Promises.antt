@@ -1,4 +1,4 @@
--- Laws of messages to the train.
+-- Laws of messages to the train (SUBSET-026, chapter 8).
 use Rattle.std.specs.Prelude.{◌≡◌, ℕ, ◌*◌, ◌-◌, ◌≤◌, ◌↔◌, ◌⊎◌, List, [], length, All, Some}
 use Rattle.etcs_vars.specs.Reading.{Reading, spelled, Viable}
 use Rattle.etcs_tables.specs.declared.row.Way.TheVariants.{ToTrain}
@@ -14,19 +14,20 @@ use Rattle.etcs_radio.specs.declared.body.RadioHead.{RadioHead}
 use Rattle.etcs_radio.specs.Bodies.{head_variables, radio_head, radio_body}
 use Rattle.etcs_radio.specs.Messages.{MessageLanguage}
 
--- messages with one spelling are one, and no spelling begins another
+-- two messages of which one's spelling begins the other's are the same, and nothing follows
 abbrev pub OneSpelling : Type 0
 OneSpelling = promises.OneSpelling ToTrain radio_head radio_body form
 
--- the same bits are held in one way
+-- of the same bits, any two packets, numbers, kept bits, part and taken with HeldIn are equal, all five
 abbrev pub OneHolding : Type 0
 OneHolding = readers.OneHolding ToTrain form
 
--- a header, the variables of its row and packets
+-- a header, the variables of its row and packets, one after another
 abbrev pub begun : ℕ → ℕ → RadioHead → Reading → List PacketValue → Reading
 begun nid len head body vs = promises.begun ToTrain nid len (head_variables head) body vs
 
--- they begin a message exactly where they stay within its bytes and leave padding or the frame of a packet
+-- an admitted header, a reading of its row and packets begin a message exactly if they are at most its bits and leave
+-- at most 7 of them or at least 23
 abbrev pub RoomRule : Type 0
 RoomRule =
     (nid len : ℕ) (head : RadioHead) (row : Layout) (body : Reading) (vs : List PacketValue)

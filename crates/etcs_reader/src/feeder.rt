@@ -16,10 +16,10 @@ use std::marker::Model;
 /// Why no more is taken.
 #[derive(Clone, Copy, Debug, PartialEq, Eq)]
 pub enum Stop {
-    /// Nothing continues with this bit, counted from 0 from the first that was fed, and the variable holds
+    /// Nothing continues with the bit `bit`, counted from 0 from the first bit that was fed, and `var` holds
     /// it.
     Refused { bit: usize, var: Var },
-    /// Memory was refused.
+    /// Out of memory.
     Memory,
 }
 
@@ -27,8 +27,8 @@ pub enum Stop {
 /// that keeps of the variables that were read, and the bits of one unfinished variable.
 ///
 /// After a refused bit it is in the state after the bits before that one, as if no more had been fed: its
-/// count, its part and what is left are those of these bits, and the next bit is the refused one. After
-/// refused memory no clause says what is left, since a variable may be kept by half; the count is of bits
+/// count, its unfinished bits and what is left are those of these bits, and the next bit is the refused one. After
+/// `Memory` no clause says what is left, since a variable may be kept by half; the count is of bits
 /// that continue with the next one. After either, each later piece gets the same result.
 #[derive(Drop)]
 pub struct Feeder<R: Rest> {
@@ -64,7 +64,7 @@ fn stop_at(count: usize, halt: Halt) -> Stop
 impl<R: Rest> Feeder<R> {
     ghost use Rattle.etcs_reader.specs.Feeders.{Feeds, TakesBit};
 
-    /// A reader of what is left of a language, of which something is left.
+    /// A reader of what is left of a language, that has taken no bits and has not stopped. Something must be left.
     pub fn new(rest: R) -> Feeder<R>
         requires { Goes (R.left rest) }
         ensures rest { result.rest ≡ rest }
@@ -79,12 +79,16 @@ impl<R: Rest> Feeder<R> {
         }
     }
 
-    /// A reader that has taken the first `at` bits of a piece, after which this is left, and takes the others; and what
-    /// [`Feeder::feed`] answers to the piece.
+    /// A reader that takes the bits of a piece after the first `at`, and its result for the piece. If `rest` is what is
+    /// left of some language after whole variables that these first bits spell, reader and result are those of a reader
+    /// of this language that was fed the whole piece by [`Feeder::feed`].
+    ///
+    /// Something must be left, `at` must not be past the end of the piece, and the piece must have fewer than 2^64
+    /// bits.
     ///
     /// # Errors
     ///
-    /// As of [`Feeder::feed`].
+    /// Those of [`Feeder::feed`].
     pub fn after(rest: R, at: usize, piece: &[u8]) -> (Feeder<R>, Result<usize, Stop>)
         requires goes { Goes (R.left rest) }
         requires inside { at ≤ length (bits piece.now) }
@@ -96,8 +100,8 @@ impl<R: Rest> Feeder<R> {
         (feeder, fed)
     }
 
-    /// Takes the bits of a piece from the bit `at` on, up to the language's end, and returns how many they were with those
-    /// in front.
+    /// Takes the bits of a piece from the bit `at` on, up to the language's end, and returns how many they were with
+    /// those in front.
     #[inline(always)]
     fn take(&mut self, piece: &[u8], at: usize) -> Result<usize, Stop>
         requires going { self.old.stop ≡ None }
@@ -127,14 +131,20 @@ impl<R: Rest> Feeder<R> {
         }
     }
 
-    /// Takes the bits of a piece, up to the language's end, and returns how many they were. All are taken where
-    /// more are wanted.
+    /// Takes the bits of a piece, up to the language's end, and returns how many it took: either no variable is left,
+    /// and the unfinished bits from before with those taken spell what was left; or all bits of the piece were taken,
+    /// and a variable comes next that holds the next bit. What is left is what `follows` has for the variables that
+    /// were passed.
+    ///
+    /// The count of all bits, with those of the piece, must be below 2^64.
     ///
     /// # Errors
     ///
-    /// `Refused` with the first bit, counted from 0 over all pieces, with which nothing continues, and the
-    /// variable that holds it; `Memory` where memory is refused at a bit that continues. The same again for
-    /// each later piece.
+    /// `Refused` with the first bit, counted from 0 over all pieces, with which nothing continues, and the variable
+    /// that holds it; the reader is then after the bits before it. `Memory` if memory runs out, only at a state at
+    /// which it may (`fails`) and at a bit with which something continues: one variable holds that bit, all that is
+    /// left there begins with it, and the bits that are counted are those before it. After either each later piece gets
+    /// the same result, and changes nothing.
     pub fn feed(&mut self, piece: &[u8]) -> Result<usize, Stop>
         requires { self.old.count + 8 * length piece.now < 2 ^ 64 }
         ensures going { self.old.stop ≡ None → Feeds R R.left R.next R.follows R.fails self.old (bits piece.now) result self.new }
@@ -146,7 +156,8 @@ impl<R: Rest> Feeder<R> {
         }
     }
 
-    /// Takes one bit of the variable that comes next.
+    /// Takes one bit of the variable that comes next: what [`Feeder::feed`] would do with a piece of this bit alone. A
+    /// variable must come next, and the count with this bit must be below 2^64.
     ///
     /// # Errors
     ///
@@ -177,35 +188,36 @@ impl<R: Rest> Feeder<R> {
     }
 
     /// How many bits were taken, over all pieces. If a bit was refused, these are the bits before
-    /// it; if memory was, those before what couldn't be kept.
+    /// it; if memory ran out, those before what couldn't be kept.
     pub fn count(&self) -> usize
         ensures { result ≡ self.now.count }
     {
         self.count
     }
 
-    /// Why no more is taken.
+    /// Why no more is taken. `None` if the reader has not stopped.
     pub fn stop(&self) -> Option<Stop>
         ensures { result ≡ self.now.stop }
     {
         self.stop
     }
 
-    /// What is left, with what it keeps.
+    /// What is left of the language, with what it keeps of the variables that were read.
     pub fn rest(&self) -> &R
         ensures { result.now ≡ self.now.rest }
     {
         &self.reader.rest
     }
 
-    /// What is left, with what it keeps.
+    /// What is left of the language, with what it keeps of the variables that were read.
     pub fn into_rest(self) -> R
         ensures { result ≡ self.rest }
     {
         self.reader.rest
     }
 
-    /// The variable that holds the next bit, and of whose bits not all are there. `None` where nothing is left.
+    /// The variable that comes next. Unless the reader has stopped, it holds the next bit, and not all of its bits are
+    /// there; and `None` means that the language ends here, with no unfinished variable.
     #[inline]
     pub fn var(&self) -> Option<Var>
         ensures next { result ≡ R.next self.now.rest }
@@ -216,7 +228,7 @@ impl<R: Rest> Feeder<R> {
         self.reader.rest.var()
     }
 
-    /// The bits of the unfinished variable as a number, and how many they are.
+    /// The bits of the unfinished variable as a number, the first one most significant, and how many there are.
     pub fn unfinished(&self) -> (u64, usize)
         ensures bits { self.now.part ≡ num result.1 result.0 }
         ensures fits { result.0 < 2 ^ result.1 }

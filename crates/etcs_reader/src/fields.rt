@@ -1,4 +1,4 @@
-//! Variables one after another.
+//! Variables one after another, as a rest for the reader.
 
 ghost use Rattle.etcs_vars.specs.Walking.{Residual};
 ghost use Rattle.etcs_reader.specs.Fields.{ReadsFields, first_of};
@@ -8,7 +8,8 @@ use crate::rest::Rest;
 use etcs_vars::{Var, begins};
 use std::alloc::AllocError;
 
-/// Variables that are left, each with any number that it admits. Takes no memory.
+/// Variables that are left, one after another, each with any number that it admits. It allocates nothing, so that its
+/// reader never returns `Memory`.
 #[derive(Drop)]
 pub struct Fields {
     pub vars: &'static [Var],

@@ -7,8 +7,11 @@ ghost use Rattle.etcs_reader.specs.Rests.{Goes, LeapsBy};
 pub use crate::reader::number_at;
 use crate::rest::Rest;
 
-/// Passes the variables whose bits are the first `end` of a piece, one by one, and returns whether there are such.
-/// If there are none or memory is refused, it returns false, and no clause says what is left then.
+/// Passes the variables whose bits are the first `end` of a piece, one by one. If it returns true, these bits spell
+/// whole variables, what is left is what `follows` has for them, and something is left. If it returns false, there may
+/// be no such variables or memory ran out, and no clause says what is left.
+///
+/// Something must be left at first. `end` must be at least 1 and inside the piece, which has fewer than 2^64 bits.
 pub fn pass_front<R: Rest>(rest: &mut R, piece: &[u8], end: usize) -> bool
     requires goes { Goes (R.left rest.old) }
     requires some { 0 < end }

@@ -1,6 +1,6 @@
 //! One reader of every language of variables: rows, packets, telegrams and messages.
 //!
-//! A language says what is left of it after the variables that were read ([`Rest`]); the reader
+//! A language gives what is left of it after the variables that were read ([`Rest`]); the reader
 //! ([`Feeder`]) takes bits from pieces of any length, finds the first bit with which nothing continues,
 //! and names the variable that holds it.
 #![tactic(auto)]

@@ -15,7 +15,7 @@ use etcs_vars::Var;
 pub(crate) enum Halt {
     /// Nothing continues with this bit, and the variable holds it.
     Refused { at: usize, var: Var },
-    /// Memory was refused after this many bits.
+    /// Memory ran out after this many bits.
     Memory { at: usize },
 }
 
@@ -25,11 +25,12 @@ pub(crate) struct Reader<R> {
     pub(crate) rest: R,
     /// The bits so far of the variable that comes next, as a number.
     pub(crate) number: u64,
-    /// How many they are.
+    /// How many there are.
     pub(crate) taken: usize,
 }
 
-/// This many bits of a piece, which holds them, as a number.
+/// The number in `count` bits of a piece from the bit `at` on, most significant bit first. They must be inside the
+/// piece, and at most 64.
 #[inline(always)]
 pub fn number_at(piece: &[u8], at: usize, count: usize) -> u64
     requires width { count ≤ 64 }
@@ -107,7 +108,7 @@ impl<R: Rest> Reader<R> {
         (more, number)
     }
 
-    /// Takes what a piece has of the next variable, from the bit `at` on, and says how many bits it was.
+    /// Takes what a piece has of the next variable, from the bit `at` on, and returns how many bits it was.
     #[cold]
     #[inline(never)]
     pub(crate) fn step(&mut self, var: Var, piece: &[u8], at: usize) -> Result<usize, Halt>
@@ -145,7 +146,7 @@ impl<R: Rest> Reader<R> {
         }
     }
 
-    /// Takes the next variable, of which no bit is taken, at once where the piece has it.
+    /// Takes the next variable, of which no bit is taken, at once if the piece has it.
     #[inline(always)]
     fn whole(&mut self, var: Var, piece: &[u8], at: usize) -> Result<usize, Halt>
         requires reader { IsReader R R.left R.next self.old }
@@ -171,8 +172,8 @@ impl<R: Rest> Reader<R> {
         }
     }
 
-    /// Takes whole variables together where a piece has such, and else what it has of the next one, and
-    /// says how many bits it was.
+    /// Takes whole variables together if a piece has such, and else what it has of the next one, and
+    /// returns how many bits it was.
     #[inline(always)]
     fn advance(&mut self, var: Var, piece: &[u8], at: usize) -> Result<usize, Halt>
         requires reader { IsReader R R.left R.next self.old }
@@ -193,8 +194,8 @@ impl<R: Rest> Reader<R> {
         }
     }
 
-    /// Takes the bits of a piece from the bit `at` on, up to the language's end, and returns how many they were with those
-    /// in front.
+    /// Takes the bits of a piece from the bit `at` on, up to the language's end, and returns how many they were with
+    /// those in front.
     ///
     /// # Errors
     ///

@@ -12,31 +12,34 @@ ghost use Rattle.etcs_reader.specs.Rests.{Starts, Goes, BeginsWith, Ended, Leaps
 use etcs_vars::Var;
 use std::alloc::AllocError;
 
-/// What is left of a language after the variables that were read, and what is kept of them.
+/// What is left of a language after the variables that were read, and what is kept of them. Each implementation proves
+/// the clauses and the laws.
 ///
-/// The reader asks `var`, and then tests the bits of that variable by `begins`, many at once where a
-/// piece has them. Where a number is whole, `pass` continues after it. Where no bit of a variable is there,
+/// The reader asks `var`, and then tests the bits of that variable by `begins`, many at once if a
+/// piece has them. If a number is whole, `pass` continues after it. If no bit of a variable is there,
 /// `leap` may take several whole variables at once.
 pub trait Rest {
     /// The readings that are left.
     ghost left: { Self → Reading → Type 0 };
 
-    /// The variable that comes next.
+    /// The variable that comes next, if there is one.
     ghost next: { Self → Option Var };
 
-    /// By these variables the first comes to the second, with all that it keeps of them.
+    /// After these variables of the first the second is left, with all that it keeps of them.
     ghost follows: { Self → Reading → Self → Type 0 };
 
-    /// Memory may be refused after what was read so far. False everywhere of a rest that takes none, so
-    /// that its reader never answers that memory was refused.
+    /// Memory may run out after what was read so far. Always false of a rest that allocates none, so
+    /// that its reader never returns `Memory`.
     ghost fails: { Self → Type 0 };
 
-    /// The variable that comes next; `None` where nothing is left.
+    /// The variable that comes next. `None` exactly if none is left.
     fn var(&self) -> Option<Var>
         ensures { result ≡ next self.now };
 
-    /// Whether some number of the variable that comes next continues whose first bits these are, with
-    /// `rest` bits more after them.
+    /// Whether something continues with a number of the variable that comes next, `var`, that begins with the bits of
+    /// `number` and has `rest` bits more after these.
+    ///
+    /// Something must be left, `rest` must be less than the width of `var`, and `number` must fit the other bits.
     fn begins(&self, var: Var, rest: usize, number: u64) -> bool
         requires next { next self.now ≡ Some var }
         requires rest { rest < width var }
@@ -44,25 +47,30 @@ pub trait Rest {
         requires goes { Goes (left self.now) }
         ensures { IsTrue result ↔ Starts (left self.now) var rest number };
 
-    /// Continues after the variable's number, which is asked only where something continues with it.
+    /// Continues after a number of the variable that comes next: what is left is then what `follows` has for it.
+    /// Something must continue with this number.
     ///
     /// # Errors
     ///
-    /// `AllocError` where there is no memory. No clause says what is left then.
+    /// `AllocError` if memory runs out, only at a state at which it may (`fails`). No clause says what is left then.
     fn pass(&mut self, var: Var, number: u64) -> Result<(), AllocError>
         requires next { next self.old ≡ Some var }
         requires goes { Starts (left self.old) var 0 number }
         ensures ok { OnOk result (follows self.old ((var, number) ∷ []) self.new) }
         ensures err { OnErr result (fails self.old) };
 
-    /// Takes whole variables of a piece, from the bit `at` on, where there are such that are taken
-    /// together, and says how many bits they are. It may always leave them to the other calls.
+    /// Takes several whole variables of a piece at once, from the bit `at` on, and returns how many bits they are: at
+    /// least one, which spell these variables, and what is left is then what `follows` has for them, and something is.
+    /// `None` takes nothing and changes nothing; it may always be returned, and the other calls then take the
+    /// variables.
+    ///
+    /// Something must be left, `at` must be inside the piece, and the piece must have fewer than 2^64 bits.
     ///
     /// # Errors
     ///
-    /// `AllocError` where there is no memory. Something continues with the bit at `at` then, so that a reader
-    /// never answers refused memory at a refused bit; no more is asked, since what runs out of memory
-    /// inside of a packet doesn't know its last bits. No clause says what is left then.
+    /// `AllocError` if memory runs out, only at a state at which it may (`fails`). Something continues with the bit at
+    /// `at` then, so that a reader never returns `Memory` at a refused bit; no more is promised, since what runs out of
+    /// memory inside of a packet doesn't know its last bits. No clause says what is left then.
     fn leap(&mut self, piece: &[u8], at: usize) -> Result<Option<usize>, AllocError>
         requires inside { at < length (bits piece.now) }
         requires small { length (bits piece.now) < 2 ^ 64 }
@@ -75,15 +83,22 @@ pub trait Rest {
         Ok(None)
     }
 
+    /// Two readings that are left are equal or part first at two numbers of one variable, and each number fits its
+    /// variable's width.
     ghost regular: { (s : Self) → Regular (left s) };
 
+    /// If a variable comes next, all that is left begins with it.
     ghost begins_with: { (s : Self) (x : Var) → next s ≡ Some x → BeginsWith (left s) x };
 
+    /// If none comes next, no variable is left.
     ghost ended: { (s : Self) → next s ≡ None → Ended (left s) };
 
+    /// What follows variables has exactly the readings with which the first continues after them.
     ghost residual: { (s t : Self) (p : Reading) → follows s p t → Residual (left s) p (left t) };
 
+    /// After no variables the same is left.
     ghost none: { (s : Self) → follows s [] s };
 
+    /// What follows variables and then more variables follows both together.
     ghost both: { (s t u : Self) (p q : Reading) → follows s p t → follows t q u → follows s (p ++ q) u };
 }

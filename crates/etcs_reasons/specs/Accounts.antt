@@ -9,19 +9,24 @@ use Rattle.etcs_reasons.specs.declared.account.Wanted.TheVariants.{Fields}
 use Rattle.etcs_reasons.specs.declared.account.End.{End}
 use Rattle.etcs_reasons.specs.declared.account.End.TheVariants.{Whole, Open, Refused}
 
--- the bits b are the whole variables p and these bits of the next one, and a reading of L begins with p
+-- the bits b are the spelling of the variables p and then the bits part, and a reading of L begins with p
 pub record Shows (L : Reading → Type 0) (p : Reading) (part b : List Bool) : Type 0 where
   pub rest : Reading
   pub begins : L (p ++ rest)
   pub bits : spelled p ++ part ≡ b
 
--- the bits b begin with the spelling p; or they end inside one, whose next variable holds the bit after them; or a bit is
--- refused, which the variable holds, and p are the whole variables before it. That variable isn't whole
+-- how the bits b are accounted for by the variables p, with this end:
+--   Whole: p is a reading of L, and b begins with its spelling
+--   Open: b is the spelling of p and then the bits of the part, a reading of L begins with p, and in every reading of L
+--     whose spelling begins with b the part's variable holds the next bit; there is one, and b isn't one itself
+--   Refused: the bit is the first with which no spelling of a reading of L continues, and the part's variable holds it; the
+--     bits before it are the spelling of p and then the bits of the part, and a reading of L begins with p
+-- The part has fewer bits than its variable; nothing else ties them to it, so whole variables may be among them
 abbrev pub Accounts : (Reading → Type 0) → Reading → End → List Bool → Type 0
 Accounts L p Whole b = L p × (n : ℕ) × (n ≤ length b) × (spelled p ≡ take n b)
 Accounts L p (Open part) b = Shows L p (num part.count part.bits) b × Owner L b part.var × (part.count < width part.var)
 Accounts L p (Refused bit part) b = Shows L p (num part.count part.bits) (take bit b) × Refuses L b bit part.var × (part.count < width part.var)
 
--- the same, of variables of which these are wanted
+-- Accounts of some variables, which are the fields if fields are asked for
 abbrev pub AccountsFor : Wanted → (Reading → Type 0) → Reading → End → List Bool → Type 0
 AccountsFor wanted L fields e b = (p : Reading) × Accounts L p e b × (wanted ≡ Fields → fields ≡ p)

@@ -2,11 +2,11 @@
 use Rattle.std.specs.Prelude.{◌≡◌, ℕ, ◌+◌, ◌≤◌, [], min, Option, None, Some}
 use Rattle.etcs_tables.specs.Layouts.{Layout, Lengths}
 
--- m bits, at most 8191: these before a place in its row, and what may be left there
+-- a packet may have m bits, at most 8191: these before a place in its row, and a length that may be left there
 abbrev pub HasLength : Layout → ℕ → ℕ → Type 0
 HasLength row before m = (k : ℕ) × Lengths row [] k × (before + k ≡ m) × (m ≤ 8191)
 
--- a number of bits with further ones, at most those of a usize
+-- a number of bits, if there is one, with further ones; at most what a usize holds
 abbrev pub raise : ℕ → Option ℕ → Option ℕ
 raise by None = None
 raise by (Some n) = Some (min (n + by) 18446744073709551615)

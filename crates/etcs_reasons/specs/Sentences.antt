@@ -1,7 +1,7 @@
--- What is said in words.
+-- What is written in words.
 use Rattle.std.specs.Prelude.{◌≡◌, ℕ, ◌<◌, false, length, string_bytes}
 use Rattle.etcs_reasons.specs.declared.text.Text.{Text}
 
--- something was written, unless memory was refused for it
+-- the text isn't empty, unless memory ran out for a part of it
 abbrev pub IsWritten : Text → Type 0
 IsWritten t = t.is_starved ≡ false → 0 < length (string_bytes t.held)

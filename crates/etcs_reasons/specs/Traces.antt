@@ -6,7 +6,8 @@ use Rattle.etcs_reader.specs.Feeders.{FeederValue}
 use Rattle.etcs_reasons.specs.declared.account.End.{End}
 use Rattle.etcs_reasons.specs.Accounts.{Accounts}
 
--- whole variables, by which start comes to what is left, and bits of the next one; and by them the bits xs end so
+-- a reader that began at start has taken whole variables and some bits after them; with these variables the bits xs are
+-- accounted for with this end
 pub record Taken (R : Type 0) (left : R → Reading → Type 0) (follows : R → Reading → R → Type 0) (start : R) (xs : List Bool) (e : End) (v : FeederValue R) : Type 0 where
   pub whole : Reading
   pub along : follows start whole v.rest
@@ -14,7 +15,8 @@ pub record Taken (R : Type 0) (left : R → Reading → Type 0) (follows : R →
   pub long : length (spelled whole) + length v.part ≡ v.count
   pub accounts : Accounts (left start) whole e xs
 
--- what is left of an item knows the variables that were read, which have this many bits, and by them the bits xs end so
+-- what is left of an item has the variables that were read, which have this many bits; with them the bits xs are
+-- accounted for with this end
 pub record IsRead (R S : Type 0) (left : R → Reading → Type 0) (holds : S → R → Reading → Type 0) (far : R → Reading) (L : Reading → Type 0) (xs : List Bool) (v : FeederValue R) (e : End) (bits : ℕ) : Type 0 where
   pub goes : Goes (left v.rest)
   pub held : (size : S) × holds size v.rest (far v.rest)

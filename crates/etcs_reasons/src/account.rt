@@ -38,23 +38,23 @@ type ToTrack = MessageRest<TrainHead, TrainBody>;
 /// The most bytes that an item has.
 pub const MOST_BYTES: usize = 1023;
 
-/// What an account is wanted for.
+/// What an account is made for.
 #[derive(Clone, Copy, Debug, PartialEq, Eq)]
 pub enum Wanted {
     /// Its variables.
     Fields,
-    /// A reason, which needs none of them.
+    /// A reason: where it ends, without the variables.
     Reason,
 }
 
-/// The first bits of a variable that isn't whole.
+/// The bits before the end of the bytes, or before the refused bit, that aren't of whole variables of the account.
 #[derive(Clone, Copy, Debug, PartialEq, Eq)]
 pub struct Part {
-    /// The variable.
+    /// The variable that holds the next bit, or the refused one.
     pub var: Var,
-    /// Its first bits as a number, the first of them highest.
+    /// The bits as a number, the first of them the most significant.
     pub bits: u64,
-    /// How many bits there are, fewer than its width.
+    /// How many bits there are: fewer than the variable is wide.
     pub count: usize,
 }
 
@@ -63,24 +63,25 @@ pub struct Part {
 pub enum End {
     /// With the item.
     Whole,
-    /// The bytes end inside the item, after these bits of the next variable.
+    /// The bytes end inside an item. The part has the bits after the whole variables, and the variable that holds the next bit.
     Open(Part),
-    /// No item continues with this bit, counted from 0. It belongs to the variable of the part, whose bits precede it.
+    /// This bit, counted from 0, is the first with which no item continues. The part has the bits between the whole variables
+    /// and that bit, and the variable that holds it.
     Refused(usize, Part),
 }
 
 /// The whole variables of an item with their numbers, in the order of sending, and where they end.
 #[derive(Drop)]
 pub struct Account {
-    /// The variables and their numbers; none where they aren't wanted.
+    /// The variables and their numbers. No clause says which they are with [`Wanted::Reason`].
     pub fields: Vec<(Var, u64)>,
-    /// What comes after them.
+    /// Where the account ends.
     pub end: End,
-    /// How many bits the variables have that aren't of whole packets.
+    /// How many bits the variables outside whole packets have.
     pub(crate) outside: usize,
 }
 
-/// Keeps the variables that it is sent.
+/// Keeps the variables that are sent to it.
 #[derive(Drop)]
 struct Trace {
     fields: Vec<(Var, u64)>,
@@ -123,7 +124,7 @@ impl VarSink for Trace {
     }
 }
 
-/// What is left of an item, which knows the variables that were read.
+/// What is left of an item, with the variables that were read.
 trait Traced: ItemRest {
     ghost held: { (size : Self.Size) (s t : Self) (p q : Reading) → Self.follows s p t → Self.holds size s q → Self.holds size t (q ++ p) };
 
@@ -149,11 +150,11 @@ impl<H: Head, B: Own<Front = H>> Traced for MessageRest<H, B> {
     ghost far_is = { λ size s q g h. far_is H.Packet.form H.Store.list s q g (held_in_list H.Packet.form H.Store.list H.Store.holds H.Store.listed s q h.1) };
 }
 
-/// Where an account ends, by what a reader of an item returned.
+/// Where an account ends, from the result of an item's reader.
 ///
 /// # Errors
 ///
-/// If memory was refused.
+/// If the reader ran out of memory.
 fn end_of<R: Rest>(feeder: &Feeder<R>, fed: Result<usize, Stop>) -> Result<End, AllocError>
     ensures { (start : R) (xs : List Bool) → Feeds R R.left R.next R.follows R.fails (all_of start) xs fed feeder.now → IfOk result (λ e. Taken R R.left R.follows start xs e feeder.now) }
 {
@@ -172,7 +173,7 @@ fn end_of<R: Rest>(feeder: &Feeder<R>, fed: Result<usize, Stop>) -> Result<End, 
 ///
 /// # Errors
 ///
-/// If memory is refused.
+/// If memory runs out.
 fn fields_of<R: ItemRest>(
     alloc: Global,
     rest: &R,
@@ -218,7 +219,7 @@ fn fed_of<R: ItemRest>(
 ///
 /// # Errors
 ///
-/// If memory is refused.
+/// If memory runs out.
 fn read_of<R: Traced>(
     alloc: Global,
     size: R::Size,
@@ -241,7 +242,7 @@ fn read_of<R: Traced>(
 ///
 /// # Errors
 ///
-/// If memory is refused.
+/// If memory runs out.
 fn account_of<R: Traced>(
     alloc: Global,
     size: R::Size,
@@ -268,11 +269,11 @@ fn account_of<R: Traced>(
     })
 }
 
-/// How many bytes the item of this size has that the bytes begin with; or the account, where one pass finds none.
+/// How many bytes the item of this size has that the bytes begin with; or the account, if one pass finds no item.
 ///
 /// # Errors
 ///
-/// If memory is refused.
+/// If memory runs out.
 fn bytes_or_account<R: Traced>(
     alloc: Global,
     size: R::Size,
@@ -293,24 +294,35 @@ fn bytes_or_account<R: Traced>(
 }
 
 impl Account {
-    /// The account of the item of a kind that the bytes begin with, of which at most 1,023 are looked at: its whole
-    /// variables in the order of sending, up to its end, to the end of the bytes, or to the variable that holds the refused
-    /// bit, which is the bit that the reader of the kind refuses.
+    /// Returns the account of the item of a kind that the bytes begin with. Only the first 1,023 bytes are read, as no item
+    /// has more.
+    ///
+    /// - [`End::Whole`]: the fields are the variables of an item of the kind, in the order of sending, and the bytes begin with
+    ///   its bits.
+    /// - [`End::Open`]: the bytes are the bits of the fields followed by those of the part; an item of the kind begins with the
+    ///   fields, and one with the bytes; no item is all of the bytes; and in every item that begins with the bytes the
+    ///   part's variable holds the next bit.
+    /// - [`End::Refused`]: the bit is the first with which no item of the kind continues, the one that the reader of the kind
+    ///   refuses, and the part's variable holds it. The bits before it are those of the fields followed by those of the part,
+    ///   and an item of the kind begins with the fields.
+    ///
+    /// The part has fewer bits than its variable. No clause says that they are bits of that variable alone: whole variables
+    /// may be among them if together they have fewer bits.
     ///
     /// # Errors
     ///
-    /// If memory is refused.
+    /// If memory runs out.
     pub fn read(alloc: Global, kind: Kind, bytes: &[u8]) -> Result<Account, AllocError>
         ensures { IfOk result (λ a. Accounts (readings_of (EntryReads kind)) a.fields.items a.end (take 8184 (bits bytes.now))) }
     {
         Account::read_for(alloc, kind, bytes, Wanted::Fields)
     }
 
-    /// The same with the variables that are wanted.
+    /// The same, with the fields only if they are asked for.
     ///
     /// # Errors
     ///
-    /// If memory is refused.
+    /// If memory runs out.
     pub(crate) fn read_for(
         alloc: Global,
         kind: Kind,
@@ -328,12 +340,15 @@ impl Account {
         }
     }
 
-    /// How many bytes the item of a kind has that the bytes begin with; or the account of the first 1,023 bytes at most, where
-    /// no item was found in one pass. It may be that of a whole item, as where memory was refused to the pass.
+    /// Returns the number of bytes of the item of a kind that the bytes begin with; or an account as [`Account::read`] returns
+    /// it, of the first 1,023 bytes at most, with the fields if they are asked for.
+    ///
+    /// No clause says which of the two: the account may be that of a whole item, for instance if one pass over the bytes ran
+    /// out of memory.
     ///
     /// # Errors
     ///
-    /// If memory is refused.
+    /// If memory runs out.
     pub fn unless_whole(
         alloc: Global,
         kind: Kind,
@@ -351,7 +366,7 @@ impl Account {
         }
     }
 
-    /// How many whole bytes the variables take.
+    /// Returns how many whole bytes the fields take, if they have fewer than 2^62 bits.
     pub fn bytes(&self) -> usize
         ensures { length (spelled self.now.fields.items) < 2 ^ 62 → result ≡ length (spelled self.now.fields.items) / 8 }
     {

@@ -20,7 +20,8 @@ fn are_bit_pairs(bytes: &[u8]) -> bool
     bytes.iter().all(|byte| is_bit_pair(*byte))
 }
 
-/// Whether the digits of a line are the bits of a telegram, 210 or 830 digits 0 and 1.
+/// Whether the bytes of a line's digits are the bits of a telegram of the kind, written as 210 or 830 digits 0 and 1, two in
+/// each byte. Never true for messages.
 pub fn are_bits(kind: Kind, bytes: &[u8]) -> bool
     ensures { result ≡ are_bits kind bytes.now }
 {
@@ -31,7 +32,7 @@ pub fn are_bits(kind: Kind, bytes: &[u8]) -> bool
     }
 }
 
-/// The byte at this place, or 0 past the end.
+/// Returns the byte at this place, or 0 after the end.
 #[tactic(auto, using(std::proofs::lemmas::List::get_or_past))]
 pub fn byte_at(bytes: &[u8], i: usize) -> u8
     ensures { result ≡ slice_index bytes.now i }
@@ -62,7 +63,7 @@ fn packed_byte(bytes: &[u8], i: usize) -> u8
     first * 16 + second
 }
 
-/// The bytes that such digits are, with zeros after them.
+/// Returns the bytes of the bits that such digits are, four bytes of digits to a byte, with zeros after them.
 pub fn packed(bytes: &[u8]) -> [u8; 104]
     ensures { result ≡ packed bytes.now }
 {

@@ -1,4 +1,4 @@
-//! What the variables of an item before a refused one say about it.
+//! What is known of an item from the variables before a refused one.
 
 use crate::kinds::{user_bits, wanted_bytes, way_of};
 use crate::numbers::low_byte;
@@ -24,7 +24,7 @@ pub(crate) struct Front {
     pub(crate) packet: u8,
     pub(crate) start: usize,
     pub(crate) length: usize,
-    /// What is left of the last packet's row, where it is typed.
+    /// What is left of the last packet's row, if it is typed.
     pub(crate) place: Option<Place>,
 }
 
@@ -85,7 +85,7 @@ impl Front {
         front
     }
 
-    /// What is known after the first two variables of a message, where they are before the one that comes next.
+    /// What is known after the first two variables of a message, if they come before the next one.
     fn pass_first(&mut self, bytes: &[u8]) {
         if let (Some(number), true) = (bytes.first(), self.bit > 0) {
             self.message = *number;
@@ -110,7 +110,7 @@ impl Front {
         self.place = self.place_after(bytes, row);
     }
 
-    /// What is left of the packet's row, which begins at this bit, where it is typed.
+    /// What is left of the packet's row, which begins at this bit, if the packet is typed.
     fn place_after(&self, bytes: &[u8], row: usize) -> Option<Place> {
         let mut place = Place::start(row_of(way_of(self.kind), self.packet)?);
         let mut at = row;

@@ -9,7 +9,7 @@ use etcs_tables::Way;
 use etcs_telegram::Size;
 use etcs_text::Kind;
 
-/// The way of the items of a kind.
+/// The way of the items of a kind: to the track for messages of a train, else to the train.
 pub fn way_of(kind: Kind) -> Way
     ensures { result ≡ way_of kind }
 {
@@ -19,7 +19,8 @@ pub fn way_of(kind: Kind) -> Way
     }
 }
 
-/// The way of messages of this number, typed or not, where it is known (SUBSET-026, 8.5).
+/// The way of messages of this number, typed or not: to the train for 2 to 45, to the track for 129 to 159, and `None` for
+/// all others (SUBSET-026, 8.5).
 pub fn way_of_message(number: u8) -> Option<Way>
     ensures { result ≡ way_of_message number }
 {
@@ -30,7 +31,7 @@ pub fn way_of_message(number: u8) -> Option<Way>
     }
 }
 
-/// How many bits items of a kind have before PAD: 0 where L_MESSAGE says it.
+/// How many bits telegrams of a kind have before PAD: 830 or 210; 0 for messages, which have L_MESSAGE.
 pub fn user_bits(kind: Kind) -> usize
     ensures { result ≡ user_bits kind }
 {
@@ -41,7 +42,8 @@ pub fn user_bits(kind: Kind) -> usize
     }
 }
 
-/// How many bytes an item has that begins with these: for a message what L_MESSAGE says, if it is there.
+/// How many bytes an item has that begins with these bytes: 104 for a long telegram, 27 for a short one, and L_MESSAGE for a
+/// message, or `None` if L_MESSAGE isn't there yet.
 pub fn wanted_bytes(kind: Kind, bytes: &[u8]) -> Option<usize>
     ensures { result ≡ wanted_bytes kind (bits bytes.now) }
 {

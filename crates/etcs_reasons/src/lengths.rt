@@ -89,7 +89,7 @@ fn first_fit(fits: &Fits<'_>, bits: usize, from: u64, end: u64) -> Option<u64>
     Some(low)
 }
 
-/// The same, where numbers before may follow one another: then the first one is tried by itself.
+/// The same; if the numbers before followed one another, the first one is tried by itself.
 pub(crate) fn next_fit(
     fits: &Fits<'_>,
     bits: usize,

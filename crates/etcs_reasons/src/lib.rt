@@ -1,4 +1,6 @@
-//! Items accounted for: each variable with its bits, its number and what it means; and why bytes are no item.
+//! What bytes are, variable by variable ([`Account`]), what the numbers mean, and why bytes are not an item ([`why`],
+//! [`reason_of`]: the refused bit, its variable and a sentence). In `inner` an account is laid out as text or as a
+//! page, which `etcs_explain` writes.
 #![tactic(auto)]
 
 mod account;

@@ -1,4 +1,4 @@
-//! What the numbers of variables stand for (SUBSET-026, 7.5).
+//! What the numbers of variables mean (SUBSET-026, 7.5).
 
 use crate::text::Text;
 use etcs_vars::Var;
@@ -6,7 +6,7 @@ use etcs_vars::Var;
 /// What a number measures, or how it is put together.
 #[derive(Clone, Copy, Debug, PartialEq, Eq)]
 enum Unit {
-    /// A distance in the unit that Q_SCALE says.
+    /// A distance in the unit of Q_SCALE.
     Distance,
     /// The same with a sign, in two's complement of 16 bits.
     Shift,
@@ -64,11 +64,11 @@ static SPECIALS: &[(u64, &str, &[Var])] = &specials! {
     254 "fits no message of the group": M_MCOUNT;
     255 "fits each message of the group": M_MCOUNT;
     127 "national value": V_MAMODE;
-    255 "without end": T_MAR T_CYCRQST T_CYCLOC;
-    1023 "without end": T_TIMEOUTRQST;
-    1023 "no limit of time": T_TEXTDISPLAY;
-    32767 "without end": D_SR D_CYCLOC L_MAMODE;
-    32767 "no limit of distance": D_TEXTDISPLAY L_TEXTDISPLAY;
+    255 "infinite": T_MAR T_CYCRQST T_CYCLOC;
+    1023 "infinite": T_TIMEOUTRQST;
+    1023 "not limited by time": T_TEXTDISPLAY;
+    32767 "infinite": D_SR D_CYCLOC L_MAMODE;
+    32767 "not limited by distance": D_TEXTDISPLAY L_TEXTDISPLAY;
     32767 "unknown": D_LRBG L_DOUBTOVER L_DOUBTUNDER;
     16383 "unknown": NID_BG;
     16777215 "unknown": NID_PRVLRBG;
@@ -91,24 +91,25 @@ static TEXTS: &[(&[&str], &[Var])] = &texts! {
     Q_LINKORIENTATION: "reverse" "nominal";
     Q_LINKREACTION: "train trip" "service brake" "no reaction";
     Q_GDIR: "downhill" "uphill";
-    Q_FRONT: "to the train's rear" "to the train's front";
-    Q_DIFF: "by cant deficiency" "other, in its place" "other, beside it";
+    Q_FRONT: "train-length delay at the end of the element" "no train-length delay at the end of the element";
+    Q_DIFF: "cant deficiency category" "other category, in place of cant deficiency"
+        "other category, in addition to cant deficiency";
     M_LEVELTR M_LEVEL: "level 0" "level NTC" "level 1" "level 2" "level 3";
     Q_RBC: "end the session" "open a session";
     Q_SLEEPSESSION: "not by sleeping equipment" "by sleeping equipment too";
     Q_TEXTCLASS: "auxiliary" "important";
     Q_TEXTDISPLAY: "one condition is enough" "all conditions";
     M_LEVELTEXTDISPLAY: "level 0" "level NTC" "level 1" "level 2" "level 3" "any level";
-    Q_TEXTCONFIRM: "not confirmed";
-    Q_ASPECT: "stop in shunting" "go in shunting";
-    Q_SRSTOP: "stop in staff responsible" "go in staff responsible";
+    Q_TEXTCONFIRM: "no confirmation required";
+    Q_ASPECT: "stop if in SH mode" "go if in SH mode";
+    Q_SRSTOP: "stop if in SR mode" "go if in SR mode";
     M_ACK: "no acknowledgement" "to be acknowledged";
     M_LOC: "now" "at each balise group" "at no balise group";
     Q_LGTLOC: "rear" "front";
     M_MAMODE: "on sight" "shunting" "limited supervision";
     Q_STATUS: "invalid" "valid" "unknown";
     Q_DIRLRBG Q_DLRBG Q_DIRTRAIN: "reverse" "nominal" "unknown";
-    Q_LENGTH: "nothing known" "by a device" "by the driver" "lost";
+    Q_LENGTH: "no integrity information" "confirmed by integrity device" "confirmed by driver" "integrity lost";
     M_MODE: "full supervision" "on sight" "staff responsible" "shunting" "unfitted" "sleeping" "stand by" "trip" "post trip"
         "system failure" "isolation" "non leading" "limited supervision" "national system" "reversing" "passive shunting";
 };
@@ -131,7 +132,7 @@ fn text_of(var: Var, number: u64) -> Option<&'static str> {
     }
 }
 
-/// Appends a distance in the unit of Q_SCALE, after a sign; nothing where the unit isn't known.
+/// Appends a distance in the unit of Q_SCALE, after a sign; nothing if the unit isn't known.
 fn write_distance(sign: &str, number: u64, scale: Option<u64>, out: &mut Text) {
     match scale {
         Some(0) => write!(out, "{sign}{}.{} m", number / 10, number % 10),
@@ -161,7 +162,8 @@ fn write_measure(unit: Unit, number: u64, scale: Option<u64>, out: &mut Text) {
     }
 }
 
-/// Appends what a number of the variable stands for, with distances by this Q_SCALE; nothing where it has no meaning.
+/// Appends what a number of the variable means (SUBSET-026, 7.5), with distances in the unit of this Q_SCALE; nothing if it
+/// means nothing further.
 pub fn write_meaning(var: Var, number: u64, scale: Option<u64>, out: &mut Text) {
     if let Some(text) = text_of(var, number) {
         out.push(text);

@@ -63,7 +63,7 @@ fn name_in(names: &'static [(u8, &'static str)], number: u64) -> Option<&'static
     Some(name.1)
 }
 
-/// The name of the packet of this way and number. `None` for a number that the standard doesn't have.
+/// The name of the packet of this way and number (SUBSET-026, 7.4). `None` for a number that the standard doesn't have.
 pub fn packet_name(way: Way, number: u64) -> Option<&'static str> {
     match way {
         Way::ToTrain => name_in(TO_TRAIN, number),
@@ -71,7 +71,7 @@ pub fn packet_name(way: Way, number: u64) -> Option<&'static str> {
     }
 }
 
-/// The name of the message of this number. `None` for a number that the standard doesn't have.
+/// The name of the message of this number (SUBSET-026, 8.5). `None` for a number that the standard doesn't have.
 pub fn message_name(number: u64) -> Option<&'static str> {
     name_in(MESSAGES, number)
 }

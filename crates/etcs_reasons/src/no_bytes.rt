@@ -8,7 +8,7 @@ use std::alloc::AllocError;
 ///
 /// # Errors
 ///
-/// Where memory is refused. A part of the text may then be in `out`.
+/// If memory runs out. A part of the text may then be in `out`.
 pub fn write_no_bytes(why: NoBytes, out: &mut String) -> Result<(), AllocError> {
     match why {
         NoBytes::Empty => Ok(()),

@@ -5,7 +5,7 @@ ghost use Rattle.std.specs.Prelude.{◌≡◌, ◌%◌};
 use crate::text::Text;
 use std::alloc::AllocError;
 
-/// The last 8 bits of a number.
+/// Returns the last 8 bits of a number.
 pub fn low_byte(number: u64) -> u8
     ensures { result ≡ number % 256 }
 {
@@ -16,7 +16,7 @@ pub fn low_byte(number: u64) -> u8
 ///
 /// # Errors
 ///
-/// Where memory is refused. A part of the text may then be in `out`.
+/// If memory runs out. A part of the text may then be in `out`.
 pub fn write_count_of(count: usize, name: &str, out: &mut String) -> Result<(), AllocError> {
     write!(out, "{count} {name}{}", if count == 1 { "" } else { "s" })
 }

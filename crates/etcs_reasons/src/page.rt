@@ -65,6 +65,7 @@ tr.no td{background:var(--no);color:var(--over)}
 p.no{color:var(--no);font-weight:600;max-width:60em;margin:.6em 0}
 .item>p:not(.no){margin:.6em 0}
 .item~.none,p.no~.none{display:none}
+footer{color:var(--faint);margin-top:1.5em}
 svg{display:block;width:100%;max-width:760px;margin:0 0 .8em;font:11px system-ui,sans-serif;fill:CanvasText}
 svg text{paint-order:stroke;stroke:Canvas;stroke-width:3px}
 svg .level{fill:none;stroke:var(--r);stroke-width:2}
@@ -80,6 +81,7 @@ svg .endless{stroke-dasharray:6 4}
 
 /// What comes after the last item.
 pub static FOOT: &str = "<p class=none>No items.
+<footer>etcs 0.2.0</footer>
 <script type=module>
 const make = (name, props, ...kids) => {
   const made = Object.assign(document.createElement(name), props);
@@ -275,7 +277,7 @@ const bad = parts.filter(part => part.matches('.no') || part.querySelector('p.no
 const lines = parts.length - items.length, refused = bad.length - lines;
 const counted = [items.length + (items.length === 1 ? ' item' : ' items')];
 if (refused) counted.push(refused + ' refused or cut short');
-if (lines) counted.push(lines + (lines === 1 ? ' line that is none' : ' lines that are none'));
+if (lines) counted.push(lines + (lines === 1 ? ' invalid line' : ' invalid lines'));
 if (parts.length) document.title = (parts.length === 1 ? titleOf(parts[0]) : counted.join(', ')) + ' \\u2013 etcs explain';
 const tools = make('p', {className: 'tools'});
 const bitsBox = make('input', {type: 'checkbox', onchange: () => document.body.classList.toggle('bits', bitsBox.checked)});

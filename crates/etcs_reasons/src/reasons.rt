@@ -34,7 +34,7 @@ fn fits(var: Var, number: u64) -> bool {
     number <= u64::MAX >> (64 - var.width())
 }
 
-/// Appends in brackets what a number of the variable stands for, if it stands for something.
+/// Appends in parentheses what a number of the variable means, if it means something.
 fn write_meant(var: Var, number: u64, out: &mut Text)
     ensures { IsWritten out.old → IsWritten out.new }
 {
@@ -67,7 +67,7 @@ pub fn write_not_admitted(var: Var, number: Option<u64>, out: &mut Text)
     }
 }
 
-/// Appends the least length and whether there are more; or, where L_PACKET can't say any, that all are greater.
+/// Appends the least length and whether there are more; or, if L_PACKET can't hold any of them, that all are greater.
 fn write_at_least(lengths: &Lengths, least: Option<usize>, out: &mut Text) {
     match least {
         Some(least) if lengths.is_last(least) => write!(out, "{least} bits"),
@@ -101,12 +101,12 @@ fn write_between(kind: Kind, out: &mut Text)
     ensures { IsWritten out.new }
 {
     let least = frame_bits(way_of(kind));
-    out.push(": after the last packet there are 0 to 7");
-    out.push(", and another has at least ");
+    out.push(": 0 to 7 may follow the last packet");
+    out.push(", and another packet has at least ");
     write!(out, "{least}");
 }
 
-/// Appends what may be left after a packet where this much isn't.
+/// Appends what may be left after a packet, as this much can't be.
 fn write_rest(kind: Kind, rest: usize, out: &mut Text)
     ensures { IsWritten out.new }
 {
@@ -122,7 +122,7 @@ fn write_rest(kind: Kind, rest: usize, out: &mut Text)
 fn write_no_packet_begins(kind: Kind, room: usize, out: &mut Text)
     ensures { IsWritten out.new }
 {
-    out.push("no packet whose number begins with these bits fits into the ");
+    out.push("no packet whose number begins with these bits fits in the ");
     write!(out, "{room} bits that are left");
     match kind {
         Kind::Long | Kind::Short => out.push(", of which packet 255 needs 8"),
@@ -144,7 +144,7 @@ fn write_least(way: Way, nid: u8, out: &mut Text) -> usize {
     least.unwrap_or(frame)
 }
 
-/// Appends how many bits are left, where more are wanted.
+/// Appends how many bits are left, if more are needed.
 fn write_left(room: usize, out: &mut Text)
     ensures { IsWritten out.new }
 {
@@ -178,11 +178,11 @@ fn write_no_packet(front: &Front, number: Option<u64>, out: &mut Text)
     write_rest(front.kind, room.saturating_sub(least), out);
 }
 
-/// Appends what L_PACKET says.
+/// Appends the number of L_PACKET.
 fn write_says(length: usize, out: &mut Text)
     ensures { IsWritten out.new }
 {
-    out.push(", and L_PACKET says ");
+    out.push(", but L_PACKET is ");
     write!(out, "{length}");
 }
 
@@ -265,7 +265,7 @@ fn write_none_fit(front: &Front, var: Var, out: &mut Text)
     write!(out, "no {var}");
     out.push(" that begins with these bits fits");
     if let Some(place) = &front.place {
-        write!(out, ": L_PACKET says {}", front.length);
+        write!(out, ": L_PACKET is {}", front.length);
         write_fitting(front, place, var, out);
     }
 }
@@ -341,7 +341,7 @@ pub(crate) fn write_reason(front: &Front, bytes: &[u8], part: Part, out: &mut Te
 pub(crate) fn often(kind: Kind, bytes: &[u8], var: Var) -> Option<&'static str> {
     match var {
         Var::Q_UPDOWN => Some(
-            "a message or a text that is read as a telegram, or an item before this one has a byte too many",
+            "a message or a text read as a telegram, or a byte too many in an item before this one",
         ),
         // Q_UPDOWN 1, and M_VERSION 16 or 17
         Var::M_VERSION_HEADER if matches!(bytes.first().copied(), Some(0x90 | 0x91)) => {
@@ -349,7 +349,7 @@ pub(crate) fn often(kind: Kind, bytes: &[u8], var: Var) -> Option<&'static str> 
         }
         Var::PAD => Some("this item or one before it is a byte short or long"),
         Var::NID_PACKET if kind == Kind::Short && bytes.len() != 27 => {
-            Some("a long telegram, or one of which a byte is missing")
+            Some("a long telegram, or one with a byte missing")
         }
         _ => None,
     }

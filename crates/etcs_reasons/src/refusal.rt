@@ -1,4 +1,4 @@
-//! Why bytes are no item.
+//! Why bytes are not an item.
 
 ghost use Rattle.std.specs.Prelude.{◌≡◌, ◌<◌, ℕ, length, string_bytes, take, IfOk, IfSome, IsNone, IsTrue};
 ghost use Rattle.etcs_bits.specs.Bits.{bits};
@@ -31,11 +31,11 @@ pub struct Reason {
     pub var: Var,
     /// Why, in a sentence with no capital and no full stop.
     pub sentence: String,
-    /// The most frequent cause of such a refusal, in the same form, if there is one to name.
+    /// What such a refusal most often comes from, in the same form, if there is something to name.
     pub often: Option<&'static str>,
 }
 
-/// What to do where bytes are an item of another kind.
+/// What to do if the bytes are an item of another kind.
 #[rattlefmt::skip]
 static ADVICE: [(Kind, &str); 4] = [
     (Kind::Long, "these bytes are a long telegram: --kind long"),
@@ -44,11 +44,11 @@ static ADVICE: [(Kind, &str); 4] = [
     (Kind::Train, "these bytes are a message to the track: --kind train"),
 ];
 
-/// Whether bytes are an item of a kind, and nothing else.
+/// Whether bytes are an item of a kind, and nothing else: if this is true, they are. No clause says when it is.
 ///
 /// # Errors
 ///
-/// Where memory is refused.
+/// If memory runs out.
 pub fn is_item(alloc: Global, kind: Kind, bytes: &[u8]) -> Result<bool, AllocError>
     ensures { IfOk result (λ b. IsTrue b → (e : EntryValue) × IsItem kind bytes.now e) }
 {
@@ -56,13 +56,23 @@ pub fn is_item(alloc: Global, kind: Kind, bytes: &[u8]) -> Result<bool, AllocErr
     if wanted_bytes(kind, bytes) != Some(bytes.len()) {
         return Ok(false);
     }
-    match SingleReader::new(alloc, kind).read(bytes)? {
+    let mut reader = SingleReader::new(alloc, kind);
+    let is_item = reads_item(&mut reader, bytes);
+    drop(reader);
+    is_item
+}
+
+/// Whether the bytes are an item of the reader's kind, and nothing else.
+fn reads_item(reader: &mut SingleReader, bytes: &[u8]) -> Result<bool, AllocError>
+    ensures { IfOk result (λ b. IsTrue b → (e : EntryValue) × IsItem reader.old bytes.now e) }
+{
+    match reader.read(bytes)? {
         Verdict::Item(_) => Ok(true),
         _ => Ok(false),
     }
 }
 
-/// Whether the bytes are an item of a kind, and may be meant so: not as a message that is kept whole, which any bytes may be.
+/// Whether the bytes are an item of a kind, other than a message that is kept as bits, which nearly any bytes may be.
 fn is_meant(alloc: Global, kind: Kind, bytes: &[u8]) -> Result<bool, AllocError> {
     if let (Kind::Radio | Kind::Train, Some(number)) = (kind, bytes.first()) {
         if message_row(way_of(kind), *number).is_none() {
@@ -72,7 +82,7 @@ fn is_meant(alloc: Global, kind: Kind, bytes: &[u8]) -> Result<bool, AllocError>
     is_item(alloc, kind, bytes)
 }
 
-/// What to do where the bytes are an item of a kind that is another than this one.
+/// What to do if the bytes are an item of another kind.
 fn advice(alloc: Global, kind: Kind, bytes: &[u8]) -> Result<Option<&'static str>, AllocError> {
     for (other, text) in &ADVICE {
         if *other != kind && is_meant(alloc, *other, bytes)? {
@@ -82,7 +92,7 @@ fn advice(alloc: Global, kind: Kind, bytes: &[u8]) -> Result<Option<&'static str
     Ok(None)
 }
 
-/// What a message is whose number is of the other way, and which is kept as bits.
+/// What a message is that is kept as bits and has a number of the other way.
 fn other_way(kind: Kind, bytes: &[u8]) -> Option<&'static str> {
     let way = way_of_message(bytes.first().copied()?)?;
     match (kind, way) {
@@ -102,7 +112,7 @@ fn write_open(kind: Kind, bytes: &[u8], out: &mut Text) {
     write!(out, " {} here", is_or_are(count));
 }
 
-/// Appends why the bytes of an account are no item of the kind, and returns what this most often comes of in such a kind.
+/// Appends why the bytes of an account are no item of the kind, and returns what this most often comes from in such a kind.
 fn write_end(kind: Kind, bytes: &[u8], account: &Account, out: &mut Text) -> Option<&'static str>
     ensures { (bit : ℕ) (part : Part) → account.now.end ≡ End.Refused bit part → IsWritten out.new }
 {
@@ -121,12 +131,13 @@ fn write_end(kind: Kind, bytes: &[u8], account: &Account, out: &mut Text) -> Opt
     }
 }
 
-/// Appends why the bytes of an account are no item, and returns what this most often comes of. Of an item nothing is
-/// appended, and the result is what it most often is where it is kept as bits.
+/// Appends why the bytes of an account are not an item, and returns what this most often comes from. For an item nothing is
+/// appended; the result is then what a message is whose number is of the other way. If the account has a refused bit,
+/// something is appended, or the text notes that memory ran out.
 ///
 /// # Errors
 ///
-/// Where memory is refused.
+/// If memory runs out.
 pub fn write_cause(
     kind: Kind,
     bytes: &[u8],
@@ -142,12 +153,12 @@ pub fn write_cause(
     Ok(advice(out.alloc(), kind, bytes)?.or(usual))
 }
 
-/// Why a bit of the bytes is refused, by their account: the bit, the variable that holds it, and the reason in a sentence,
-/// which isn't empty. `None` if the account has no refused bit.
+/// Returns why a bit of the bytes is refused, from their account: the account's refused bit, the variable of its part, and a
+/// sentence that isn't empty. `None` only if the account has no refused bit. No clause says what the sentence is.
 ///
 /// # Errors
 ///
-/// Where memory is refused.
+/// If memory runs out.
 pub fn reason_of(
     alloc: Global,
     kind: Kind,
@@ -170,13 +181,13 @@ pub fn reason_of(
     }))
 }
 
-/// Why the bytes, of which at most 1,023 are looked at, begin no item of the kind: the bit that the kind's reader refuses,
-/// the variable that holds it, and the reason in a sentence, which isn't empty. `None` if no bit is refused, so that they
-/// begin with an item or end inside one.
+/// Returns why the bytes don't begin an item of the kind: of the first 1,023 bytes at most the first bit with which no item
+/// continues, which the kind's reader refuses, the variable that holds it, and a sentence that isn't empty. `None` only if
+/// there is no such bit: the bytes then begin with an item or end inside one. No clause says what the sentence is.
 ///
 /// # Errors
 ///
-/// Where memory is refused.
+/// If memory runs out.
 pub fn why(alloc: Global, kind: Kind, bytes: &[u8]) -> Result<Option<Reason>, AllocError>
     ensures some { IfOk result (λ o. IfSome o (λ r. Refuses (readings_of (EntryReads kind)) (take 8184 (bits bytes.now)) r.bit r.var × (0 < length (string_bytes r.sentence)))) }
     ensures none { IfOk result (λ o. IsNone o → (i : ℕ) (x : Var) → Refuses (readings_of (EntryReads kind)) (take 8184 (bits bytes.now)) i x → ⊥) }

@@ -24,7 +24,7 @@ pub struct Sheet {
     pub out: Text,
     bits: Text,
     pub(crate) value: Text,
-    /// What the next line or title says.
+    /// The text of the next line or title.
     pub meaning: Text,
 }
 
@@ -51,7 +51,7 @@ impl Sheet {
     ///
     /// # Errors
     ///
-    /// Where memory was refused for a part of it.
+    /// If memory ran out for a part of it.
     pub fn whole(&self) -> Result<&str, AllocError> {
         self.bits.whole()?;
         self.value.whole()?;
@@ -164,7 +164,7 @@ impl Sheet {
         self.out.push("\n");
     }
 
-    /// Ends the table of an item, with the reason that the meaning has, if it has one, and what it often comes of.
+    /// Ends the table of an item, with the reason that the meaning has, if it has one, and what it often comes from.
     pub fn close_item(&mut self, often: Option<&'static str>) {
         self.put("", "</div></div></noscript>");
         if !self.meaning.as_str().is_empty() {

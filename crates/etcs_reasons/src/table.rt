@@ -26,7 +26,7 @@ pub(crate) struct Table<'a> {
     scale: Option<u64>,
 }
 
-/// Whether each bit is a variable of its own, of which one line speaks.
+/// Whether a run of bits is shown in one line, although each is a variable of its own.
 fn is_kept(var: Var) -> bool {
     matches!(var, Var::FILL | Var::OTHER_DATA | Var::PADDING | Var::PAD)
 }
@@ -253,7 +253,7 @@ impl<'a> Table<'a> {
         }
     }
 
-    /// Begins the lines after the packets where the variable that comes next is the first of them.
+    /// Begins the lines after the packets, if the variable that comes next is the first of them.
     fn open_padding(&mut self) {
         let before = self.at.saturating_sub(1);
         let is_begun = match self.account.fields.get(before) {
@@ -296,7 +296,7 @@ impl<'a> Table<'a> {
         self.sheet.line(0, bits, var, false);
     }
 
-    /// Writes the line of the variable that isn't whole, if there is one: its number where the bytes have all of it, else
+    /// Writes the line of the variable that isn't whole, if there is one: its number if the bytes have all of it, else
     /// how many bits they have.
     fn unfinished(&mut self) {
         self.open_padding();
@@ -304,7 +304,7 @@ impl<'a> Table<'a> {
         let out = &mut self.sheet.meaning;
         let (var, refused) = match self.account.end {
             End::Open(part) if part.count > 0 => {
-                out.push("not whole");
+                out.push("incomplete");
                 (part.var, false)
             }
             End::Refused(bit, part) => {
@@ -350,7 +350,7 @@ fn last_bit(first: usize, count: u64) -> u64 {
     count.saturating_add(first as u64).saturating_sub(1)
 }
 
-/// Appends where a part ends that begins at a bit and has this many.
+/// Appends where a part ends that begins at this bit and has this many.
 fn write_end(what: &str, first: usize, count: u64, out: &mut Text) {
     let last = last_bit(first, count);
     write!(out, "so the {what} ends with bit {last}");

@@ -6,7 +6,7 @@ ghost use Rattle.etcs_reasons.specs.Sentences.{IsWritten};
 use std::alloc::{AllocError, Global};
 use std::fmt::Display;
 
-/// A text, which notes where memory was refused for a part of it.
+/// A text, which notes if memory ran out for a part of it.
 #[derive(Drop)]
 pub struct Text {
     held: String,
@@ -22,7 +22,7 @@ impl Text {
         }
     }
 
-    /// Notes whether a part was written.
+    /// Notes that memory ran out, if a part wasn't written. The text stays as it is.
     pub fn note(&mut self, written: Result<(), AllocError>)
         ensures held { self.new.held ≡ self.old.held }
         ensures starved { self.new.is_starved ≡ (self.old.is_starved || is_err written) }
@@ -30,7 +30,7 @@ impl Text {
         self.is_starved |= written.is_err();
     }
 
-    /// Appends a part.
+    /// Appends a part, or notes that memory ran out.
     pub fn push(&mut self, part: &str)
         ensures some { 0 < length part.now → IsWritten self.new }
         ensures kept { IsWritten self.old → IsWritten self.new }
@@ -39,7 +39,7 @@ impl Text {
         self.note(written);
     }
 
-    /// Appends all of another text.
+    /// Appends all of another text, and what it notes.
     pub fn push_whole(&mut self, part: &Text)
         ensures { IsWritten self.old → IsWritten self.new }
     {
@@ -60,7 +60,7 @@ impl Text {
         self.held.clear();
     }
 
-    /// What gives it memory.
+    /// The allocator that it takes memory from.
     pub fn alloc(&self) -> Global {
         *self.held.allocator()
     }
@@ -74,7 +74,7 @@ impl Text {
     ///
     /// # Errors
     ///
-    /// Where memory was refused for a part of it.
+    /// If memory ran out for a part of it.
     pub(crate) fn whole(&self) -> Result<&str, AllocError> {
         if self.is_starved {
             Err(AllocError)
@@ -83,11 +83,11 @@ impl Text {
         }
     }
 
-    /// The text as a string, when nothing more is to be written.
+    /// Returns the text as a string, when nothing more is to be written. It isn't empty if something was written.
     ///
     /// # Errors
     ///
-    /// Where memory was refused for a part of it.
+    /// If memory ran out for a part of it.
     pub fn into_string(self) -> Result<String, AllocError>
         ensures { IsWritten self → IfOk result (λ s. 0 < length (string_bytes s)) }
     {

@@ -4,8 +4,9 @@ use crate::each::{Makes, refuse_each};
 use crate::packet_calls::Listed;
 use crate::rooms::{Answer, Call, refuse};
 use etcs_bits::{BitSlice, Bits};
-use etcs_cases::{Case, append_row};
 use etcs_tables::{Way, row_of};
+use etcs_vector_lines::Case;
+use etcs_vector_rows::append_row;
 use std::alloc::{AllocError, Global};
 
 /// Appends all bits of a slice, one by one or eight by eight.

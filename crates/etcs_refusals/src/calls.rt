@@ -8,11 +8,12 @@ use crate::packet_calls::{
     Clones, Fields, FromFields, GroupLine, numbers_of, refuse_message, refuse_view,
 };
 use crate::runs::refuse_run;
-use etcs_cases::{Case, item_of, next_kind};
 use etcs_json::to_value;
 use etcs_packets::Packet;
 use etcs_packets::inner::AnyPacket;
 use etcs_text::{Entry, Kind, json_line};
+use etcs_vector_items::{item_of, next_kind};
+use etcs_vector_lines::Case;
 
 /// Answers a line: `from_slice HEX`, `push WIDTH HEX`, `feed STEP KIND HEX`, `to_packet KIND HEX`, `message KIND HEX ..`,
 /// `run COMMAND KIND FORM STEP COUNT HEX ..`, and `CALL KIND HEX` for each other call.

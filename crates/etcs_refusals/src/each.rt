@@ -1,7 +1,7 @@
 //! Calls that make values, all of which are held until the last one is made.
 
 use crate::rooms::{Answer, Call, refuse};
-use etcs_cases::Case;
+use etcs_vector_lines::Case;
 use std::alloc::Global;
 
 /// Values that take memory.

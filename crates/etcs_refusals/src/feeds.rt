@@ -1,9 +1,10 @@
 //! Readers that are fed piece by piece.
 
 use crate::rooms::{Answer, Call, refuse};
-use etcs_cases::{Case, Reader, item_of, next_kind};
 use etcs_text::{Entry, Kind};
 use etcs_vars::ReadFault;
+use etcs_vector_items::{Reader, item_of, next_kind};
+use etcs_vector_lines::Case;
 use std::alloc::Global;
 
 /// The bytes of an item, in pieces of this many.
@@ -15,10 +16,9 @@ struct Feeds<'a> {
     item: &'a Entry,
 }
 
-impl Call for Feeds<'_> {
-    /// Feeds a reader with the pieces, until it gives the item.
-    fn make(&mut self, alloc: Global) -> Answer {
-        let mut reader = Reader::new(alloc, self.kind);
+impl Feeds<'_> {
+    /// Feeds a reader with the pieces, up to one for which memory is refused.
+    fn feed(&self, reader: &mut Reader) -> Answer {
         for piece in self.bytes.chunks(self.step.max(1)) {
             let before = reader.bits_seen();
             match reader.feed(piece) {
@@ -29,21 +29,33 @@ impl Call for Feeds<'_> {
                 Err(_) => return Answer::Wrong,
             }
         }
+        Answer::Right
+    }
+}
+
+impl Call for Feeds<'_> {
+    fn make(&mut self, alloc: Global) -> Answer {
+        let mut reader = Reader::new(alloc, self.kind);
+        let answer = self.feed(&mut reader);
         let item = reader.take();
-        Answer::made(item.as_ref() == Some(self.item))
+        let is_right = match answer {
+            Answer::Right => item.as_ref() == Some(self.item),
+            _ => item.is_none(),
+        };
+        drop(item);
+        if is_right { answer } else { Answer::Wrong }
     }
 }
 
 /// Whether a reader is as it must be that was refused memory in this piece, before which it had seen this many bits.
-fn is_refused(mut reader: Reader, before: usize, piece: &[u8]) -> bool {
+fn is_refused(reader: &mut Reader, before: usize, piece: &[u8]) -> bool {
     let seen = reader.bits_seen();
     let most = before.saturating_add(piece.len().saturating_mul(8));
     let mut is_right = before <= seen && seen < most;
     is_right &= reader.feed(&[]) == Err(ReadFault::Memory);
     is_right &= reader.feed(piece) == Err(ReadFault::Memory);
     is_right &= reader.bits_seen() == seen;
-    is_right &= reader.state().is_none();
-    is_right & reader.take().is_none()
+    is_right & reader.state().is_none()
 }
 
 /// `feed STEP KIND HEX`.

@@ -15,7 +15,7 @@ mod rooms;
 mod runs;
 
 use crate::calls::answer;
-use etcs_cases::Case;
+use etcs_vector_lines::Case;
 use std::alloc::{AllocError, Global};
 use std::io::{self, Read, Write};
 use std::process::ExitCode;

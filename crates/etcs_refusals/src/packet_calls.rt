@@ -1,12 +1,14 @@
 //! Packets: their numbers, from numbers and from bits, and their copies; the message of a group, and groups.
 
 use crate::each::{Makes, refuse_each};
-use etcs_cases::{Case, item_of, next_kind, own_fields, size_of, viewed};
 use etcs_group::{Assembly, GroupFault, Groups};
 use etcs_packets::Packet;
 use etcs_packets::inner::AnyPacket;
 use etcs_telegram::{Size, Telegram};
 use etcs_text::Entry;
+use etcs_vector_items::{item_of, next_kind, size_of, viewed};
+use etcs_vector_lines::Case;
+use etcs_vector_packets::own_fields;
 use std::alloc::{AllocError, Global};
 
 /// The lists of numbers of packets, after three others.

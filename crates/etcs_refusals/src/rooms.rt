@@ -1,7 +1,7 @@
 //! Calls that are made again and again with more and more memory.
 
-use etcs_cases::Case;
 use etcs_fakes::starve;
+use etcs_vector_lines::Case;
 use std::alloc::{AllocError, Global};
 
 /// What a call answered.

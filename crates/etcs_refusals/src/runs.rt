@@ -1,10 +1,11 @@
 //! Whole runs.
 
 use crate::rooms::{Answer, Call, refuse};
-use etcs_cases::{Case, item_of, next_kind};
 use etcs_fakes::Broken;
 use etcs_stream::{Command, Form, Input, Job, Kind, Output, RunFault, Tally, run};
 use etcs_text::{Entry, encoded, hex_line, json_line};
+use etcs_vector_items::{item_of, next_kind};
+use etcs_vector_lines::Case;
 use std::alloc::Global;
 use std::io::ErrorKind;
 

@@ -1,22 +1,23 @@
--- Sets of numbers from 0 to 8191, as words of 64 bits: number n is bit n % 64 of word n / 64.
+-- Sets of numbers from 0 to 8,191, such as lengths in bits, as words of 64 bits: number n is bit n % 64 of word n / 64.
 use Rattle.std.specs.Prelude.{◌≡◌, ℕ, ◌+◌, ◌-◌, ◌*◌, ◌/◌, ◌%◌, ◌^◌, Bool, true, ◌==◌, List, get_or, ◌<◌, ◌≤◌, ◌↔◌, ◌⊎◌, nat_lt, if◌then◌else◌}
 use Rattle.std.specs.Int.{bit_at}
 use Rattle.std.specs.Int.RustNames.{bit_or}
 use Rattle.etcs_rows.specs.declared.length_set.LengthSet.{LengthSet}
 use Rattle.etcs_rows.specs.Sums.{Plus}
 
+-- the words hold the number n, as a test
 abbrev pub member : List ℕ → ℕ → Bool
 member words n = bit_at (get_or words (n / 64) 0) (n % 64) == 1
 
--- the words hold the number
+-- the words hold the number n
 abbrev pub Has : List ℕ → ℕ → Type 0
 Has words n = member words n ≡ true
 
--- the set holds the number
+-- the set holds the number n
 unfoldable pub In : LengthSet → ℕ → Type 0
 In s n = Has s.words n
 
--- the set holds the numbers of A up to 8191, and no others
+-- the set holds the numbers of A up to 8,191, and no others
 abbrev pub IsSet : LengthSet → (ℕ → Type 0) → Type 0
 IsSet s A = (m : ℕ) → In s m ↔ (A m × (m ≤ 8191))
 
@@ -38,7 +39,7 @@ pub record TakesIn (by : ℕ) (words : List ℕ) (low high : ℕ) (old new : Lis
   pub under : (i : ℕ) → i < low → get_or new i 0 ≡ get_or old i 0
   pub over : (i : ℕ) → high ≤ i → get_or new i 0 ≡ get_or old i 0
 
--- new holds what old held, and the sums up to 8191 of a number of A and one that words hold
+-- new holds what old held, and the sums up to 8,191 of a number of A and one that words hold
 pub record Adds (A : ℕ → Type 0) (words old new : List ℕ) : Type 0 where
   pub are : (m : ℕ) → Has new m ↔ (Has old m ⊎ (Plus A (Has words) m × (m ≤ 8191)))
 

@@ -1,10 +1,11 @@
 //! How many bits what is left of a row may take, by sums of lengths in equal steps: whether this many (`fits_at`,
-//! `fits_by_steps`), whether any between two numbers (`meets_by_steps`), and all sums (`kept_by_steps`, `around_first`).
+//! `fits_by_steps`), whether any between two numbers (`meets_by_steps`), and all sums (`kept_by_steps`,
+//! `around_first`).
 //!
-//! There are two ways, the cheaper first. `fits_at` takes one number, where all that waits was worked out when its
-//! group was opened. The others walk over the groups that wait; where lengths aren't in equal
+//! There are two ways, the cheaper first. `fits_at` takes one number, if all that waits was worked out when its
+//! group was opened. The others walk over the groups that wait; if lengths aren't in equal
 //! steps, `choose_each` and `spread_each` try them one by one, as packets 12, 15, 41, 46, 68, 72 and 76 and the two
-//! position reports want. `None` says that there are too many for that, which no row of the tables has; then the sets
+//! position reports need. `None` means that there are too many for that, which no row of the tables has; then the sets
 //! of lengths decide. The walks give their sums to a taker, which looks for one number or keeps them all.
 
 ghost use Rattle.std.specs.Prelude.{◌≡◌, ◌↔◌, ℕ, ◌+◌, ◌≤◌, IsTrue, IfSome, reverse};
@@ -63,7 +64,7 @@ fn known_steps(outer: &[Pending]) -> Option<Progression>
     }
 }
 
-/// How many bits may be left, where these items come next after a number.
+/// How many bits may be left, if these items come next after a number.
 #[inline]
 pub(crate) fn tail_steps(
     items: &'static [RowItem],
@@ -94,7 +95,7 @@ fn fits_with(var: Var, number: u64, left: Progression, bits: usize) -> bool
     left.holds(bits - width)
 }
 
-/// Whether this many bits may be left of the row, where this is the number of the variable in front.
+/// Whether this many bits may be left of the row, if this is the number of the variable in front.
 #[inline(always)]
 pub(crate) fn fits_at(cursor: &Cursor, number: u64, bits: usize) -> Option<bool>
     requires { Nests cursor.now }
@@ -122,8 +123,8 @@ fn groups_within(var: Var, rest: &'static [RowItem], low: u64, high: u64) -> Opt
     }
 }
 
-/// Gives out the sums that items which begin with a variable, and what is after the groups that wait, bring this sum to.
-/// Answers whether no others are wanted.
+/// Gives out the sums that items which begin with a variable, and what is after the groups that wait, bring this sum
+/// to. Returns whether no others are needed.
 #[cycle(fitting)]
 fn onward<T: Taker>(
     sum: Total,
@@ -161,7 +162,8 @@ fn leave<T: Taker>(sum: Total, waiting: &[Pending], out: &mut T) -> Option<bool>
     }
 }
 
-/// Gives out the sums that the groups after a number of a variable from low to high, and what follows, bring this sum to.
+/// Gives out the sums that the groups after a number of a variable from low to high, and what follows, bring this sum
+/// to.
 #[cycle(fitting)]
 fn choose<T: Taker>(
     sum: Total,
@@ -271,7 +273,7 @@ fn spread_each<T: Taker>(
     Some(false)
 }
 
-/// Whether this many bits may be left of the row, where the number of the variable in front is from low to high.
+/// Whether this many bits may be left of the row, if the number of the variable in front is from low to high.
 pub(crate) fn fits_by_steps(cursor: &Cursor, low: u64, high: u64, bits: usize) -> Option<bool>
     requires { Nests cursor.now }
     ensures { IfSome result (λ b. IsTrue b ↔ FitsWithin (left_of cursor.now) low high bits) }
@@ -319,7 +321,7 @@ pub(crate) fn meets_by_steps(cursor: &Cursor, low: usize, high: usize) -> Option
     )
 }
 
-/// How many bits may be left of the row, up to 8191, as a few sums.
+/// How many bits may be left of the row, up to 8,191, as a few sums.
 pub(crate) fn kept_by_steps(cursor: &Cursor) -> Option<Kept>
     requires { Nests cursor.now }
     ensures { IfSome result (λ k. (m : ℕ) → m ≤ 8191 → InSums k.sums.items m ↔ LengthsBy (left_of cursor.now) 0 m) }
@@ -341,7 +343,7 @@ pub struct Around {
     pub sums: Kept,
 }
 
-/// What is left of the row, around the groups that look at the variable in front. The sums are those up to 8191.
+/// What is left of the row, around the groups that look at the variable in front. The sums are those up to 8,191.
 pub(crate) fn around_first(cursor: &Cursor) -> Option<Around>
     requires { Nests cursor.now }
     ensures { IfSome result (λ a. (low high m : ℕ) → m ≤ 8191 → Plus (InSums a.sums.sums.items) (GroupsWithin a.var (layout a.rest.now) low high) m ↔ FitsWithin (left_of cursor.now) low high m) }

@@ -20,7 +20,7 @@ pub enum Carrier {
 }
 
 impl Carrier {
-    /// The way of its packets.
+    /// The way of the packets of the carrier: of a telegram to the train, of a message its own.
     #[inline]
     pub fn way(self) -> Way
         ensures { result ≡ way_of self }
@@ -89,7 +89,7 @@ struct Windows {
 }
 
 impl Windows {
-    /// Those of a packet of `low` to `high` bits where `room` bits are left.
+    /// Those of a packet of `low` to `high` bits if `room` bits are left.
     fn new(carrier: Carrier, room: usize, low: usize, high: usize) -> Windows
         requires { high ≤ 8191 }
         ensures { AreBodies carrier room low high result }
@@ -149,8 +149,9 @@ impl Windows {
     }
 }
 
-/// Whether some L_PACKET fits that is `bits` with `rest` bits more after them, for a packet of this number
-/// where `room` bits are left, counted from the packet's first bit.
+/// Whether some L_PACKET that begins with `bits` and has `rest` bits more after them fits, for a packet of the number
+/// `nid`, if `room` bits are left in the telegram or message, counted from the packet's first bit. `rest` must be at
+/// most 13, and `bits` must fit the other bits of L_PACKET.
 #[inline(always)]
 pub fn length_fits(carrier: Carrier, nid: u8, room: usize, rest: usize, bits: u64) -> bool
     requires rest { rest ≤ 13 }
@@ -208,8 +209,9 @@ fn any_framed(carrier: Carrier, room: usize, low: u8, high: u8) -> bool
     false
 }
 
-/// Whether some NID_PACKET fits that is `bits` with `rest` bits more after them, where `room` bits are left,
-/// counted from the packet's first bit.
+/// Whether some NID_PACKET that begins with `bits` and has `rest` bits more after them fits, if `room` bits are left in
+/// the telegram or message, counted from the packet's first bit. `rest` must be at most 8, and `bits` must fit the
+/// other bits of NID_PACKET.
 pub fn number_fits(carrier: Carrier, room: usize, rest: usize, bits: u64) -> bool
     requires rest { rest ≤ 8 }
     requires fits { bits < 2 ^ (8 - rest) }

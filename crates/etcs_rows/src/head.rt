@@ -73,9 +73,9 @@ pub struct Looked {
 /// The only group that looks at a number.
 #[derive(Clone, Copy)]
 pub enum Alone {
-    /// It is there where the number passes the test.
+    /// It is there if the number passes the test.
     When(Guard, &'static [RowItem]),
-    /// It is there as often as the number says.
+    /// It is there as often as the number.
     Many(&'static [RowItem]),
 }
 

@@ -1,5 +1,5 @@
-//! For the crates above: what a walk still wants, what readers of telegrams and messages ask of their packets, and rows
-//! written without memory.
+//! For the crates above: what is left of a walk's variable, what readers of telegrams and messages need of their
+//! packets, and rows written without allocating.
 
 ghost use Rattle.std.specs.Prelude.{◌≡◌, ◌<◌, ◌≤◌, ◌+◌, ◌^◌, length, Some};
 ghost use Rattle.etcs_bits.specs.Bits.{num};
@@ -15,7 +15,7 @@ pub use crate::row_run::RowRun;
 use crate::walk::RowWalk;
 pub use crate::write::put_row;
 
-/// How many bits the next variable of a walk wants. 0 where the row is whole.
+/// How many bits are left of the next variable of a walk. 0 if the row is whole.
 pub fn wanted(walk: &RowWalk) -> usize
     ensures next { (x : Var) → first_variable walk.now.left ≡ Some x → length walk.now.part + result ≡ width x }
     ensures whole { walk.now.left ≡ whole → result ≡ 0 }
@@ -23,7 +23,7 @@ pub fn wanted(walk: &RowWalk) -> usize
     walk.wanted()
 }
 
-/// The bits of a walk's unfinished variable as a number, and how many they are.
+/// The bits so far of a walk's unfinished variable as a number, the first one most significant, and how many there are.
 pub fn unfinished(walk: &RowWalk) -> (u64, usize)
     ensures bits { walk.now.part ≡ num result.1 result.0 }
     ensures small { result.0 < 2 ^ result.1 }

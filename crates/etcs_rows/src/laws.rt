@@ -8,29 +8,32 @@ ghost use Rattle.etcs_rows.specs.Writing.{OneSpelling};
 use etcs_bodies::Packetlike;
 use std::alloc::{AllocError, Global};
 
-/// Numbers of a row and their bits determine each other, and no spelling begins another.
+/// Numbers and bits of a row determine each other, and no spelling begins another.
 pub fn one_spelling()
     ensures { OneSpelling }
 {}
 
-/// A place that was given numbers of a row stands for them: a reading of the row continues after them just as a reading
-/// of what is left there, in as many bits; and where nothing is left, no reading of the row begins with them.
+/// What is left after numbers of a row stands for them: the readings of the row that begin with these numbers are the
+/// readings of what is left, each after the same pairs; if nothing is left, no reading of the row begins with them. So
+/// exactly this many bits, up to 8,191, may follow the numbers as what is left may take.
 pub fn places()
     ensures readings { PlacesStand }
     ensures lengths { PlacesMeasure }
 {}
 
-/// What a walk answers of what is left of a row holds of all bits of the row: which bits may come, whether
-/// they are a spelling, and who holds the next.
+/// After pairs that were read of a sound row, bits are viable or a spelling in the row exactly if they are in what is
+/// left of it, and the variable that holds the next bit in what is left holds it in the row. So what a walk returns for
+/// what is left of a row holds of all bits of the row.
 pub fn walks()
     ensures { WalksWhole }
 {}
 
-/// Makes a packet anew of its own direction and numbers: it is the same packet.
+/// Makes a packet anew of its own direction and numbers: if it succeeds, it is the same packet. Its body fails only if
+/// `fields` or `from_fields` of the packet does.
 ///
 /// # Errors
 ///
-/// Where memory was refused.
+/// `AllocError` if memory runs out.
 pub fn read_back<P: Packetlike + Drop>(alloc: Global, packet: &P) -> Result<Option<P>, AllocError>
     ensures { IfOk result (λ again. again ≡ Some packet.now) }
 {

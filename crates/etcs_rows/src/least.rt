@@ -17,7 +17,7 @@ fn least_of(var: Var) -> Option<u64>
     if var.admits(least) { Some(least) } else { None }
 }
 
-/// How many bits a row takes after a number, where each variable has its least number. `None` where a group would be
+/// How many bits a row takes after a number, if each variable has its least number. `None` if a group would be
 /// counted by a number above 0.
 pub(crate) fn some_length(items: &'static [RowItem], before: u64) -> Option<usize>
     ensures { IfSome result (λ m. LengthsBy (layout items.now) before m) }

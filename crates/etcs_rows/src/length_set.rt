@@ -1,4 +1,4 @@
-//! Sets of lengths: numbers from 0 to 8191, with a bit for each.
+//! Sets of lengths: numbers from 0 to 8,191, with a bit for each.
 
 ghost use Rattle.std.specs.Prelude.{◌≡◌, ◌↔◌, ℕ, ◌+◌, ◌-◌, ◌*◌, ◌/◌, ◌%◌, ◌^◌, ◌<◌, ◌≤◌, ◌≢◌, IsTrue, ◌⊎◌, length, slice_index};
 ghost use Rattle.std.specs.Int.{bit_at};
@@ -10,10 +10,10 @@ ghost use Rattle.etcs_rows.specs.Sums.{Plus};
 use crate::near::Near;
 use std::simd::u64x4;
 
-/// A set of numbers from 0 to 8191, such as the lengths in bits that a part of a row may have.
+/// A set of numbers from 0 to 8,191, such as the lengths in bits that a part of a row may have.
 ///
-/// Number n is bit n % 64 of word n / 64. A number above 8191 is in no set: `shift`, `plus` and
-/// `times` drop the sums that pass it.
+/// Number n is bit n % 64 of word n / 64. A number above 8,191 is in no set: `shift`, `plus` and
+/// `times` leave out the sums above it.
 #[derive(Clone, Debug, PartialEq, Eq, Drop)]
 pub struct LengthSet {
     words: [u64; 128],
@@ -30,7 +30,7 @@ impl LengthSet {
         LengthSet { words: [0; 128] }
     }
 
-    /// The set with one number.
+    /// The set that holds one number, which must be at most 8,191, and no other.
     pub fn single(number: usize) -> LengthSet
         requires { number ≤ 8191 }
         ensures { (m : ℕ) → In result m ↔ (m ≡ number) }
@@ -40,14 +40,14 @@ impl LengthSet {
         LengthSet { words }
     }
 
-    /// Whether it holds a number; it holds none above 8191.
+    /// Whether the set holds a number. It holds none above 8,191.
     pub fn holds(&self, number: usize) -> bool
         ensures { IsTrue result ↔ In self.now number }
     {
         number < 8192 && (self.words[number / 64] >> (number % 64)) & 1 == 1
     }
 
-    /// The numbers of the one or the other.
+    /// The union: the numbers that the one or the other set holds.
     pub fn join(&self, other: &LengthSet) -> LengthSet
         ensures { (m : ℕ) → In result m ↔ (In self.now m ⊎ In other.now m) }
     {
@@ -56,7 +56,7 @@ impl LengthSet {
         }
     }
 
-    /// Each number with `by` more; what passes 8191 is dropped.
+    /// The numbers of the set, each with `by` more, which must be at most 8,191. What would be above 8,191 is left out.
     pub fn shift(&self, by: usize) -> LengthSet
         requires { by ≤ 8191 }
         ensures { (m : ℕ) → In result m ↔ ((k : ℕ) × In self.now k × (k + by ≡ m) × (m ≤ 8191)) }
@@ -66,7 +66,7 @@ impl LengthSet {
         LengthSet { words }
     }
 
-    /// The sums of a number of the one and a number of the other; what passes 8191 is dropped.
+    /// The sums of a number of the one set and a number of the other. What would be above 8,191 is left out.
     pub fn plus(&self, other: &LengthSet) -> LengthSet
         ensures { (m : ℕ) → In result m ↔ (Plus (In self.now) (In other.now) m × (m ≤ 8191)) }
     {
@@ -78,8 +78,8 @@ impl LengthSet {
         LengthSet { words }
     }
 
-    /// The sums of `count` of its numbers, each of which may be taken more than once; what passes
-    /// 8191 is dropped. No numbers add up to 0, so `times(0)` holds 0 alone, for the empty set too.
+    /// The sums of `count` numbers of the set, each of which may be taken more than once. What would be above
+    /// 8,191 is left out. No numbers add up to 0, so `times(0)` holds 0 alone, for the empty set too.
     pub fn times(&self, count: u64) -> LengthSet
         ensures { (m : ℕ) → In result m ↔ (SumOf count (In self.now) m × (m ≤ 8191)) }
     {
@@ -96,7 +96,7 @@ impl LengthSet {
         if left == 1 { sums.plus(&power) } else { sums }
     }
 
-    /// Whether it holds a number from `low` to `high`, both included; false where `high` is below `low`.
+    /// Whether the set holds a number from `low` to `high`, both included. False if `high` is below `low`.
     pub fn any_in(&self, low: usize, high: usize) -> bool
         ensures { IsTrue result ↔ ((m : ℕ) × In self.now m × (low ≤ m) × (m ≤ high)) }
     {
@@ -104,7 +104,7 @@ impl LengthSet {
         low <= high && any_between(&self.words, low, high)
     }
 
-    /// Those next to a number of at most 8191.
+    /// Those next to a number of at most 8,191.
     pub(crate) fn around(&self, number: usize) -> Near
         requires { number ≤ 8191 }
         ensures { IsNear (In self.now) number result }
@@ -182,7 +182,7 @@ fn add_rest(sums: &mut [u64; 128], words: &[u64; 128], by: usize, at: usize)
     }
 }
 
-/// Takes in the numbers of the other words with `by` more; what passes 8191 is dropped.
+/// Takes in the numbers of the other words with `by` more. What would be above 8,191 is left out.
 fn add_shifted(sums: &mut [u64; 128], words: &[u64; 128], by: usize)
     requires { by ≤ 8191 }
     ensures { Adds (λ j. j ≡ by) words.now sums.old sums.new }
@@ -206,7 +206,7 @@ fn add_each(sums: &mut [u64; 128], words: &[u64; 128], word: u64, base: usize)
     }
 }
 
-/// The sums up to 8191 of a number of each, by a pass over `many` for each number of `few`.
+/// The sums up to 8,191 of a number of each, by a pass over `many` for each number of `few`.
 fn sums_of(few: &[u64; 128], many: &[u64; 128]) -> [u64; 128]
     ensures { (m : ℕ) → Has result m ↔ (Plus (Has few.now) (Has many.now) m × (m ≤ 8191)) }
 {

@@ -1,4 +1,5 @@
-//! Rows of packets and messages.
+//! Rows of packets and messages (SUBSET-026, 7.4 and 8): which numbers they admit, how they are written and read, and
+//! which lengths are left.
 #![tactic(auto)]
 
 mod fitting;

@@ -58,7 +58,7 @@ fn groups_at(items: &'static [RowItem], before: u64) -> LengthSet
     }
 }
 
-/// How many bits a group may take that occurs as often as the number of a variable says, from low to high.
+/// How many bits a group may take that occurs as often as the number of a variable, from low to high.
 fn counted_within(var: Var, group: &LengthSet, low: u64, high: u64) -> LengthSet
     ensures { IsSet result (SetsWithin var (λ n. SumOf n (In group.now)) low high) }
 {
@@ -100,7 +100,7 @@ fn groups_each(var: Var, rest: &'static [RowItem], low: u64, high: u64) -> Lengt
     all
 }
 
-/// How many bits a variable and the rest may take, where its number is from low to high.
+/// How many bits a variable and the rest may take, if its number is from low to high.
 #[cycle(lengths)]
 pub(crate) fn first_lengths(var: Var, rest: &'static [RowItem], low: u64, high: u64) -> LengthSet
     ensures { IsSet result (FirstWithin var (layout rest.now) low high) }

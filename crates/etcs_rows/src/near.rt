@@ -3,7 +3,7 @@
 ghost use Rattle.std.specs.Prelude.{◌≡◌, None};
 ghost use Rattle.etcs_rows.specs.Nearest.{greater, less, up_to};
 
-/// The numbers of a set next to a number.
+/// The numbers of a set next to a number, each `None` if there is no such number.
 #[derive(Clone, Copy)]
 pub struct Near {
     /// The greatest that isn't above it.
@@ -61,7 +61,8 @@ impl Near {
         }
     }
 
-    /// The same of the numbers up to `most`, which isn't below the number that they are next to.
+    /// The same of the numbers up to `most`: the one above is left out if it is greater. Meant for a `most` that isn't
+    /// below the number that they are next to; the one below is kept in any case.
     pub fn to(self, most: usize) -> Near
         ensures below { result.below ≡ self.below }
         ensures above { result.above ≡ up_to most self.above }

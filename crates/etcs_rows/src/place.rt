@@ -62,7 +62,7 @@ pub struct Cursor {
 impl Cursor {
     ghost use Rattle.etcs_rows.specs.Cursors.{left_of, Nests, IsSettled, cursor_size};
 
-    /// After the end of a group: the group again, or what follows it. Answers whether a variable comes next.
+    /// After the end of a group: the group again, or what follows it. Returns whether a variable comes next.
     fn leave(&mut self) -> bool
         requires ended { self.old.items.now ≡ [] }
         requires nests { Nests self.old }
@@ -90,7 +90,7 @@ impl Cursor {
         }
     }
 
-    /// At a guarded group: into it, or past it. Answers whether a variable comes next.
+    /// At a guarded group: into it, or past it. Returns whether a variable comes next.
     fn enter_guarded(
         &mut self,
         guard: Guard,
@@ -122,7 +122,7 @@ impl Cursor {
         }
     }
 
-    /// At a counted group: into it, or past it. Answers whether a variable comes next.
+    /// At a counted group: into it, or past it. Returns whether a variable comes next.
     fn enter_counted(&mut self, group: &'static [RowItem], rest: &'static [RowItem]) -> bool
         requires here { layout self.old.items.now ≡ counted (layout group.now) (layout rest.now) }
         requires shorter { length rest.now < length self.old.items.now }
@@ -165,7 +165,7 @@ impl Cursor {
         }
     }
 
-    /// The same, where no variable comes next already.
+    /// The same, if no variable comes next already.
     #[inline(never)]
     fn open(&mut self)
         requires { Nests self.old }
@@ -212,7 +212,7 @@ impl Cursor {
     }
 }
 
-/// A place in a row, seen as what is left of the row.
+/// A place in a row, seen as what is left of the row, which is a row again.
 #[derive(Drop)]
 pub struct Place {
     cursor: Cursor,
@@ -234,7 +234,7 @@ impl Model for Place {
 }
 
 impl Place {
-    /// The beginning of a row.
+    /// The beginning of a row: all of it is left.
     pub fn start(row: Row) -> Place
         ensures left { result ≡ layout row.items.now }
         ensures looks { IsTrue (looks None result) }
@@ -248,7 +248,7 @@ impl Place {
         Place { cursor }
     }
 
-    /// The variable that comes next. `None` where nothing is left.
+    /// The variable that comes next. `None` if nothing is left.
     pub fn var(&self) -> Option<Var>
         ensures { result ≡ first_variable self.now }
     {
@@ -258,7 +258,8 @@ impl Place {
         }
     }
 
-    /// What is left after a number of the next variable. `None` where it isn't admitted, or nothing is left.
+    /// What is left after a number of the next variable: groups that look at it are opened by it. `None` exactly if no
+    /// variable comes next, or it doesn't admit the number.
     pub fn after(&self, number: u64) -> Option<Place>
         ensures { result ≡ after_number self.now number }
     {
@@ -271,6 +272,7 @@ impl Place {
         Some(place)
     }
 
+    /// The same place once more.
     pub(crate) fn copied(&self) -> Place
         ensures { result ≡ self.now }
     {
@@ -285,7 +287,8 @@ impl Place {
         }
     }
 
-    /// Takes the number of the next variable.
+    /// Moves past the next variable: what is left is then what its number leaves, whether the variable admits it or
+    /// not. A variable must come next.
     pub fn pass(&mut self, number: u64)
         requires next { IsSome (first_variable self.old) }
         ensures left { after_any self.old number ≡ Some self.new }
@@ -308,7 +311,7 @@ impl Place {
         }
     }
 
-    /// Whether this many bits may be left of the row, where the number of the next variable is from low to high.
+    /// Whether this many bits may be left of the row, if the number of the next variable is from low to high.
     #[inline(never)]
     pub(crate) fn fits(&self, low: u64, high: u64, bits: usize) -> bool
         ensures { IsTrue result ↔ FitsWithin self.now low high bits }
@@ -348,14 +351,14 @@ impl Place {
         }
     }
 
-    /// Whether this many bits, at most 8191, may be left of the row.
+    /// Whether this many bits, at most 8,191, may be left of the row.
     pub(crate) fn can_take(&self, bits: usize) -> bool
         ensures { IsTrue result ↔ Lengths self.now [] bits }
     {
         self.meets(bits, bits)
     }
 
-    /// Whether a number of bits from low to high, at most 8191, may be left of the row.
+    /// Whether a number of bits from low to high, at most 8,191, may be left of the row.
     pub(crate) fn meets(&self, low: usize, high: usize) -> bool
         ensures { IsTrue result ↔ ((m : ℕ) × Lengths self.now [] m × (low ≤ m) × (m ≤ high)) }
     {
@@ -373,25 +376,26 @@ impl Place {
     }
 }
 
-/// How many bits, at most 8,191, may be left of the row: the numbers at which [`reaches`] is true.
+/// Exactly the numbers of bits, up to 8,191, that some reading of what is left of the row takes: those at which
+/// [`reaches`] is true.
 pub fn lengths(place: &Place) -> LengthSet
     ensures { (m : ℕ) → In result m ↔ Lengths place.now [] m }
 {
     place.lengths()
 }
 
-/// Whether what is left of the row has a spelling of this many bits, at most 8191.
+/// Whether some reading of what is left of the row takes this many bits, and they are at most 8,191.
 pub fn reaches(place: &Place, bits: usize) -> bool
     ensures { IsTrue result ↔ Lengths place.now [] bits }
 {
     place.can_take(bits)
 }
 
-/// A place of whose lengths more than one question is asked.
+/// A place, for more than one question about the numbers of bits that may be left.
 #[derive(Drop)]
 pub struct Reach {
     place: Place,
-    /// How many bits may be left, up to 8191, as far as that was worked out.
+    /// How many bits may be left, up to 8,191, as far as that was worked out.
     sums: Option<Kept>,
 }
 
@@ -412,7 +416,7 @@ impl Model for Reach {
 }
 
 impl Reach {
-    /// That of a place.
+    /// The same place.
     pub fn new(place: Place) -> Reach
         ensures { result ≡ place }
     {
@@ -420,7 +424,8 @@ impl Reach {
         Reach { place, sums }
     }
 
-    /// The numbers of bits, up to 8191, that what is left of the row may have, next to a number of at most 8191.
+    /// The greatest number of bits, up to 8,191, that some reading of what is left takes and that isn't above `bits`,
+    /// and the least that isn't below it, each `None` if there is none. `bits` must be at most 8,191.
     pub fn around(&self, bits: usize) -> Near
         requires { bits ≤ 8191 }
         ensures { IsNear (λ m. Lengths self.now [] m) bits result }
@@ -434,7 +439,7 @@ impl Reach {
     }
 }
 
-/// A place, to ask which numbers of its next variable leave a number of bits.
+/// A place, for more than one question about which numbers of its next variable leave a number of bits.
 #[derive(Drop)]
 pub struct Fits<'a> {
     place: &'a Place,
@@ -459,7 +464,7 @@ impl<'a> Model for Fits<'a> {
 }
 
 impl<'a> Fits<'a> {
-    /// Those of a place.
+    /// The same place.
     pub fn new(place: &'a Place) -> Fits<'a>
         ensures { result ≡ place.now }
     {
@@ -467,8 +472,8 @@ impl<'a> Fits<'a> {
         Fits { place, around }
     }
 
-    /// Whether what is left of the row has a spelling of this many bits that begins with a number from `low` to `high`,
-    /// both included.
+    /// Whether some reading of what is left of the row takes `bits` bits, at most 8,191, and begins with a number of
+    /// the next variable from `low` to `high`, both included.
     pub fn any(&self, low: u64, high: u64, bits: usize) -> bool
         ensures { IsTrue result ↔ FitsWithin self.now low high bits }
     {

@@ -236,7 +236,7 @@ pub(crate) fn steps_of(items: &'static [RowItem], before: u64) -> Option<Progres
     groups.plus(open_steps(after_groups(items))?)
 }
 
-/// The same of a group that occurs more than once. How long others are each time isn't asked.
+/// The same of a group that occurs more than once. How long others are each time isn't worked out.
 pub(crate) fn steps_again(group: &'static [RowItem], times: u64) -> Option<Progression>
     ensures { IfSome result (λ s. IsProgression s (LengthsBy (layout group.now) times)) }
 {
@@ -282,7 +282,7 @@ fn plain_width(group: &'static [RowItem]) -> Option<usize>
     }
 }
 
-/// The width of such a group where a number passes the test, and else 0.
+/// The width of such a group if a number passes the test, and else 0.
 fn guarded_width(test: Test, group: &'static [RowItem], before: u64) -> Option<usize>
     ensures passed { passes test before ≡ true → IfSome result (λ w. (m : ℕ) → (m ≡ w) ↔ LengthsBy (layout group.now) before m) }
     ensures skipped { passes test before ≡ false → IfSome result (λ w. w ≡ 0) }
@@ -357,7 +357,7 @@ pub(crate) fn groups_steps(items: &'static [RowItem], before: u64) -> Option<Pro
     }
 }
 
-/// The counted group in front that alone looks at a variable, and how often it may occur where the
+/// The counted group in front that alone looks at a variable, and how often it may occur if the
 /// number of the variable is from low to high.
 #[cycle(steps)]
 pub(crate) fn counted_within(
@@ -389,7 +389,7 @@ fn steps_within(var: Var, rest: &'static [RowItem], low: u64, high: u64) -> Opti
     }
 }
 
-/// The same, where no counted group alone looks at the variable.
+/// The same, if no counted group alone looks at the variable.
 #[cycle(steps)]
 pub(crate) fn steps_each(
     var: Var,
@@ -407,7 +407,7 @@ pub(crate) fn steps_each(
     }
 }
 
-/// The steps where a number passes the test, and else 0.
+/// The steps if a number passes the test, and else 0.
 fn guarded_at(test: Test, group: Progression, number: u64) -> Progression
     ensures { IsProgression result (InGuarded test group number) }
 {

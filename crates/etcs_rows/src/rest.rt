@@ -39,7 +39,8 @@ fn may_begin(place: &Place, var: Var, bits: u64, taken: usize, len: usize) -> bo
     place.fits(low, high, len)
 }
 
-/// What is left of a row, in `len` bits.
+/// What is left of a row, in `len` bits: a rest for the reader. It allocates nothing, so that its reader never returns
+/// `Memory`.
 #[derive(Drop)]
 pub struct RowRest {
     pub place: Place,
@@ -49,7 +50,8 @@ pub struct RowRest {
 }
 
 impl RowRest {
-    /// What is left at the beginning of a row. `None` exactly where it has no spelling of `len` bits.
+    /// What is left at the beginning of a row of `len` bits: all of it, and something is. `None` exactly if the row has
+    /// no spelling of `len` bits, at most 8,191.
     pub fn start(row: Row, len: usize) -> Option<RowRest>
         ensures some { IsSome result ↔ Lengths (layout row.items.now) [] len }
         ensures rest { IfSome result (λ s. (s.place ≡ layout row.items.now) × (s.len ≡ len) × Goes (ReadsIn s.place s.len)) }
@@ -61,7 +63,8 @@ impl RowRest {
         Some(RowRest { place, len })
     }
 
-    /// What is left at the beginning of a row, which has a spelling of `len` bits.
+    /// What is left at the beginning of a row of `len` bits: all of it, and something is. The row must have a spelling
+    /// of `len` bits, at most 8,191.
     pub fn begin(row: Row, len: usize) -> RowRest
         requires { Lengths (layout row.items.now) [] len }
         ensures { (result.place ≡ layout row.items.now) × (result.len ≡ len) × Goes (ReadsIn result.place result.len) }
@@ -98,7 +101,8 @@ impl RowRest {
         self.len -= var.width();
     }
 
-    /// Continues after the number of the variable that comes next.
+    /// Continues after a number of the variable that comes next: what is left is what the row leaves there, in as many
+    /// bits less. `var` must come next, and something must continue with this number.
     #[inline]
     pub fn continue_with(&mut self, var: Var, number: u64)
         requires next { first_variable self.old.place ≡ Some var }

@@ -20,12 +20,12 @@ pub struct RowRun {
     pub rest: RowRest,
     pub numbers: ArrayVec<u64, 32>,
     pub bits: usize,
-    /// Whether they were taken one by one, so that the next one has to be asked for by itself.
+    /// Whether they were taken one by one, so that the next one has to be tested by itself.
     pub singly: bool,
 }
 
 impl RowRun {
-    /// The variable that comes next with its number, where the piece has it whole from `at` on, the number is admitted and
+    /// The variable that comes next with its number, if the piece has it whole from `at` on, the number is admitted and
     /// the row has room for it. It may always return `None`.
     #[inline(always)]
     fn next(&self, piece: &[u8], at: usize) -> Option<(Var, u64)>
@@ -49,8 +49,9 @@ impl RowRun {
         Some((var, number))
     }
 
-    /// The next variables of a row as far as the piece has them whole from `at` on, where the row can end in its bits after
-    /// them. It may always return `None`.
+    /// The next variables of a row, several at once: bits of the piece from `at` on, at least one, spell them with
+    /// these numbers, and what is left of the row has a reading in the bits that are left of it. It may always return
+    /// `None`, which promises nothing. `at` must not be past the end of the piece, which has fewer than 2^64 bits.
     #[inline(always)]
     pub fn ahead(row: &RowRest, piece: &[u8], at: usize) -> Option<RowRun>
         requires inside { at ≤ length (bits piece.now) }
@@ -79,7 +80,7 @@ impl RowRun {
         Some(run)
     }
 
-    /// The next variable as `next` answers it, where the row can end in its bits after it.
+    /// The next variable as `next` gives it, if the row can end in its bits after it.
     fn fitting(&self, piece: &[u8], at: usize) -> Option<(Var, u64)>
         requires goes { Goes (ReadsIn self.now.rest.place self.now.rest.len) }
         requires inside { at ≤ length (bits piece.now) }

@@ -15,7 +15,7 @@ pub(crate) trait Taker: Sized {
     ghost use Rattle.etcs_rows.specs.Totals.{InTotal};
     ghost use Rattle.etcs_rows.specs.Takers.{TakerLaws};
 
-    /// It is the other after these sums, and where the flag is set, it wants no more.
+    /// It is the other after these sums, and if the flag is set, it needs no more.
     ghost Took: { Self → Self → Bool → (ℕ → Type 0) → Type 0 };
 
     /// It has no use for numbers from this one on.
@@ -23,7 +23,7 @@ pub(crate) trait Taker: Sized {
 
     ghost laws: { TakerLaws Self Took Past };
 
-    /// Takes sums. Answers whether it wants no more, and `None` where there is no room.
+    /// Takes sums. Returns whether it needs no more, and `None` if there is no room.
     fn take(&mut self, sum: Total) -> Option<bool>
         ensures { IfSome result (λ b. Took self.old self.new b (InTotal sum)) };
 
@@ -62,7 +62,7 @@ impl Taker for Sought {
 /// How many sums are kept at most.
 const MOST_SUMS: usize = 8;
 
-/// All sums up to 8191.
+/// All sums up to 8,191.
 #[derive(Drop)]
 pub struct Kept {
     pub sums: ArrayVec<Total, MOST_SUMS>,

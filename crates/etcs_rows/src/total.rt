@@ -17,8 +17,8 @@ pub struct Times {
     pub last: u64,
 }
 
-/// The sums of numbers in equal steps, of a group as often as it may be there, and of at most `slack` more. How often it
-/// occurs is tried only at the end.
+/// The sums of numbers in equal steps, of a group as often as it may be there, and of at most `slack` more. How often
+/// it occurs is tried only at the end.
 #[derive(Clone, Copy)]
 pub struct Total {
     pub steps: Progression,
@@ -76,7 +76,7 @@ impl Total {
         Total { steps, ..self }
     }
 
-    /// With a part added, if that can be said.
+    /// With a part added, if the sum is of this form again.
     pub(crate) fn with(self, added: Added) -> Option<Total>
         ensures { IfSome result (λ t. AreTotal t (Plus (InTotal self) (InAdded added))) }
     {
@@ -99,7 +99,7 @@ impl Total {
         }
     }
 
-    /// Those next to a number, where there is no slack.
+    /// Those next to a number, if there is no slack.
     pub(crate) fn around(self, number: usize) -> Option<Near>
         ensures { IfSome result (λ n. IsNear (InTotal self) number n) }
     {

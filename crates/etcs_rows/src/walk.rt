@@ -31,12 +31,13 @@ pub enum Step {
 /// Why a walk takes no bit.
 #[derive(Clone, Copy, Debug, PartialEq, Eq)]
 pub enum Stopped {
-    /// No spelling of the row continues with this bit. It is the variable's.
+    /// No spelling of the row continues with this bit, which the variable holds.
     Refused(Var),
     /// The row was whole before.
     Ended,
 }
 
+/// Prints a fixed text for each, of a refusal with the name of the variable.
 impl fmt::Display for Stopped {
     ghost output = { λ stopped. Some (stopped_text stopped) };
 
@@ -80,7 +81,8 @@ fn digit(b: bool) -> u64
 }
 
 impl RowWalk {
-    /// The beginning of a row that takes `len` bits. `None` exactly where it has no such spelling.
+    /// A walk before the first bit of a row that takes `len` bits. `None` exactly if the row has no spelling of `len`
+    /// bits, at most 8,191.
     pub fn start(row: Row, len: usize) -> Option<RowWalk>
         ensures some { IsSome result ↔ Lengths (layout row.items.now) [] len }
         ensures walk { IfSome result (λ w. (w.left ≡ layout row.items.now) × (w.len ≡ len) × (w.part ≡ []) × (w.refused ≡ None)) }
@@ -93,28 +95,28 @@ impl RowWalk {
         }
     }
 
-    /// Whether the row is whole.
+    /// Whether the row is whole: nothing is left of it.
     pub fn is_whole(&self) -> bool
         ensures { IsTrue result ↔ (self.now.left ≡ whole) }
     {
         self.feeder.rest().place.var().is_none()
     }
 
-    /// The variable that holds the next bit. `None` where the row is whole.
+    /// The variable that comes next, which holds the next bit. `None` if the row is whole.
     pub fn var(&self) -> Option<Var>
         ensures { result ≡ first_variable self.now.left }
     {
         self.holder()
     }
 
-    /// The place in the row, after the variables that are whole.
+    /// What is left of the row after the variables that are whole, as a place.
     pub fn place(&self) -> &Place
         ensures { result.now ≡ self.now.left }
     {
         &self.feeder.rest().place
     }
 
-    /// The variable that holds the next bit. `None` where the row is whole: no bit is left.
+    /// The variable that holds the next bit. `None` if the row is whole: no bit is left.
     fn holder(&self) -> Option<Var>
         ensures next { result ≡ first_variable self.now.left }
         ensures done { IsNone result → IsDone self.now }
@@ -122,7 +124,7 @@ impl RowWalk {
         self.feeder.var()
     }
 
-    /// The bits of the unfinished variable as a number, and how many they are.
+    /// The bits of the unfinished variable as a number, and how many there are.
     pub(crate) fn unfinished(&self) -> (u64, usize)
         ensures bits { self.now.part ≡ num result.1 result.0 }
         ensures small { result.0 < 2 ^ result.1 }
@@ -130,7 +132,7 @@ impl RowWalk {
         self.feeder.unfinished()
     }
 
-    /// How many bits the next variable wants. 0 where the row is whole.
+    /// How many bits are left of the next variable. 0 if the row is whole.
     pub(crate) fn wanted(&self) -> usize
         ensures next { (x : Var) → first_variable self.now.left ≡ Some x → length self.now.part + result ≡ width x }
         ensures whole { self.now.left ≡ whole → result ≡ 0 }
@@ -141,12 +143,14 @@ impl RowWalk {
         }
     }
 
-    /// Takes a bit, and says whether it ended a variable or the row with it.
+    /// Takes a bit: `Whole` if the row ends with it, `Number` if a variable ends with it and the row continues, both
+    /// with the variable and its number, else `More`, inside a variable.
     ///
     /// # Errors
     ///
-    /// `Refused` where no spelling of the row continues so, with the variable that holds the bit. Each later
-    /// call answers it again. `Ended` where the row was whole.
+    /// `Refused` exactly if no reading of what is left of the row, in as many bits as are left, continues with this
+    /// bit; the variable named holds it in every such reading that continues with the bits before. Each later call
+    /// returns the same and changes nothing. `Ended` if the row was whole before; nothing changes.
     pub fn bit(&mut self, b: bool) -> Result<Step, Stopped>
         ensures { TakesBit self.old b result self.new }
     {

@@ -12,8 +12,8 @@ use std::alloc::AllocError;
 /// How many bits of its row the length of a packet can count.
 const ROW_LIMIT: usize = 8168;
 
-/// Whether the numbers are those of a spelling of the row of at most 8,168 bits, which is what L_PACKET leaves to a packet
-/// to the train.
+/// Whether the row spells these numbers, all of them and no more, in at most 8,168 bits, which is what L_PACKET leaves
+/// to a packet to the train.
 pub fn admits_fields(row: Row, fields: &[u64]) -> bool
     ensures { IsTrue result ↔ AdmitsFields (layout row.items.now) fields.now }
 {
@@ -32,11 +32,12 @@ pub fn admits_fields(row: Row, fields: &[u64]) -> bool
     place.var().is_none()
 }
 
-/// Appends the one spelling of the numbers, which the row must admit.
+/// Appends the one spelling of the numbers by the row. The row must admit them (`admits_fields`), and all bits must be
+/// fewer than 2^64.
 ///
 /// # Errors
 ///
-/// `AllocError` where there is no memory. `out` then stays as it was.
+/// `AllocError` if memory runs out. `out` then stays as it was.
 pub fn write_row(row: Row, fields: &[u64], out: &mut Bits) -> Result<(), AllocError>
     requires admitted { AdmitsFields (layout row.items.now) fields.now }
     requires room { (b : List Bool) → Spells (layout row.items.now) [] fields.now b → length out.old + length b < 2 ^ 64 }
@@ -57,8 +58,9 @@ pub fn write_row(row: Row, fields: &[u64], out: &mut Bits) -> Result<(), AllocEr
     Ok(())
 }
 
-/// Writes the one spelling of the numbers, which the row must admit, into `bytes` from the bit `start` on, without
-/// memory, and answers the place after it, in bits. All other bits stay. It must end inside `bytes`, below bit 2^64.
+/// Writes the one spelling of the numbers by the row into `bytes` from the bit `start` on, without allocating, and
+/// returns the place after it, in bits. All other bits stay. The row must admit the numbers (`admits_fields`), and the
+/// spelling must end inside `bytes`, below bit 2^64.
 pub fn put_row(row: Row, fields: &[u64], bytes: &mut [u8], start: usize) -> usize
     requires admitted { AdmitsFields (layout row.items.now) fields.now }
     requires inside { (b : List Bool) → Spells (layout row.items.now) [] fields.now b → start + length b ≤ length (bits bytes.old) }

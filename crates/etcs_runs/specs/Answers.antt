@@ -1,17 +1,18 @@
--- What is returned for digits.
+-- What `line_bytes` returns for the digits of a line.
 use Rattle.std.specs.Prelude.{◌≡◌, ℕ, ◌-◌, ◌%◌, ◌<◌, ◌≤◌, Bool, false, nat_le, List, [], length, drop, Result, Ok, Err}
 use Rattle.hex.specs.Hex.{decode_of}
 use Rattle.etcs_runs.specs.declared.digits.NoBytes.{NoBytes}
 use Rattle.etcs_runs.specs.declared.digits.NoBytes.TheVariants.{Empty, NoDigits, OddDigits}
 
--- the bytes that the digits say are the last n of the buffer, which are some; there are no digits; there is an odd number
+-- the digits stand for bytes, and these are the last n of the buffer, at least one; or there are no digits, or n, an
+-- odd number
 abbrev pub Says : List ℕ → Result ℕ NoBytes → List ℕ → Type 0
 Says digits (Ok n) buffer = (0 < n) × (n ≤ length buffer) × (decode_of digits ≡ Ok (drop (length buffer - n) buffer))
 Says digits (Err Empty) buffer = ⊥
 Says digits (Err NoDigits) buffer = digits ≡ []
 Says digits (Err (OddDigits n)) buffer = (n ≡ length digits) × (n % 2 ≡ 1)
 
--- digits with this result are enough for an item
+-- digits with this result are enough for an item: 20, or 10 bytes
 abbrev pub says_enough : Result ℕ NoBytes → Bool
 says_enough (Ok n) = nat_le 10 n
 says_enough (Err Empty) = false

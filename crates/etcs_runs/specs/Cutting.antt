@@ -6,15 +6,15 @@ use Rattle.etcs_runs.specs.declared.fault.RunFault.{RunFault}
 use Rattle.etcs_runs.specs.Faults.{IfFault}
 use Rattle.etcs_runs.specs.Lines.{IsLine, lines_text}
 
--- of the line that begins so, all is kept, and those before it were taken; or it is too long, and was taken with them
+-- all of the line that has begun is kept, and those before it were taken; or it is too long, and was taken with them,
 -- however it continues
 abbrev pub IsKept : (List (List ℕ) → List ℕ → Type 0) → ℕ → List (List ℕ) → List ℕ → List ℕ → List ℕ → Type 0
 IsKept Took most lines part begun output =
     ((length part ≤ most + 1) × (begun ≡ part) × Took lines output)
     ⊎ ((most + 1 < length part) × ((rest : List ℕ) → IsLine rest → Took (lines ++ (part ++ rest) ∷ []) output))
 
--- the bytes are lines, of which the last has no LF yet, but n characters; the others were taken, and this text was written
--- of them
+-- the bytes are lines, the last of which has n characters and no LF yet; the others were taken, and this text was
+-- written of them
 pub record LinesStand (Took : List (List ℕ) → List ℕ → Type 0) (most : ℕ) (begun : List ℕ) (n line : ℕ) (given output : List ℕ) : Type 0 where
   pub lines : List (List ℕ)
   pub part : List ℕ
@@ -30,23 +30,23 @@ module _ {H J T : Type 0} (h : HandlerOf H J T) where
   Stands s given output = LinesStand (h.took s.handler) (h.most (h.job s.handler)) s.begun.items s.count s.line given output
 
   module _ (old : Lines H J T) (text : List ℕ) where
-    -- some were, and this many more may be
+    -- some bytes were given, and n more may be
     abbrev pub HasRoom : ℕ → Type 0
     HasRoom n = (given : List ℕ) × (output : List ℕ) × Stands old given (output ++ text) × (length given + n < 2 ^ 62)
 
-    -- whatever they are, and whatever text was written before this one
+    -- this holds of the bytes that were given and of the text that was written before this one, whatever they are
     abbrev pub WhereGiven : (List ℕ → List ℕ → Type 0) → Type 0
     WhereGiven Holds = (given output : List ℕ) → Stands old given (output ++ text) → Holds given output
 
     module _ (text' : List ℕ) (r : Result Unit RunFault) where
-      -- this part more is taken
+      -- if it succeeds, this part is taken too
       abbrev pub TakesPart : Lines H J T → List ℕ → Type 0
       TakesPart new part = WhereGiven (λ given output. OnOk r (Stands new (given ++ part) (output ++ text')))
 
-      -- each input that continues with these bytes stops so
+      -- if it fails, each input that continues with these bytes ends with the fault
       abbrev pub StopsAt : List ℕ → Type 0
       StopsAt bytes = WhereGiven (λ given output. IfFault r ((h.promises (h.job old.handler)).Stops (given ++ bytes) (output ++ text')))
 
-      -- where it fails, the handler says this
+      -- if it fails, the handler describes the text that was written
       abbrev pub SaysSo : Lines H J T → Type 0
       SaysSo new = WhereGiven (λ given output. OnErr r (h.said new.handler (output ++ text')))

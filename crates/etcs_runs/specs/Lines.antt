@@ -2,7 +2,7 @@
 use Rattle.std.specs.Prelude.{◌≡◌, ℕ, List, [], ◌∷◌, ◌++◌, flat_map, All}
 use Rattle.std.specs.Io.BufRead.{strip_last}
 
--- no LF
+-- no character of the line is LF
 abbrev pub IsLine : List ℕ → Type 0
 IsLine line = All (λ c. c ≡ 10 → ⊥) line
 
@@ -10,6 +10,6 @@ IsLine line = All (λ c. c ≡ 10 → ⊥) line
 abbrev pub strip_cr : List ℕ → List ℕ
 strip_cr line = strip_last 13 line
 
--- each line with its LF
+-- the text of lines, each with its LF
 abbrev pub lines_text : List (List ℕ) → List ℕ
 lines_text lines = flat_map (λ line. line ++ 10 ∷ []) lines

@@ -11,8 +11,10 @@ use Rattle.etcs_runs.specs.Passes.{counted}
 use Rattle.etcs_runs.specs.Pipes.{Piped, PipedFirst}
 use Rattle.etcs_runs.specs.Promises.{Promises, EndsWhole, StarvesIn}
 
--- by its answer, with at most this number of reads: of the source what is left, how often it was read and how often that failed;
--- of the sink what it holds, how often it failed and how often it was flushed; each of them before the run and after it
+-- by the result of a run, with at most this many reads: what the source gave and the sink took, how often calls of each
+-- failed, and how often the sink was flushed. Of the source there is what is left, how often it was read and how often
+-- that failed; of the sink what it holds, how often it failed and how often it was flushed; each before the run and
+-- after it
 pub record Ran {T : Type 0} (p : Promises T) (most : ℕ) (left left' : Option (List ℕ)) (reads reads' missed missed' : ℕ) (held held' : Option (List ℕ)) (failed failed' flushes flushes' : ℕ) (result : Result T RunFault) : Type 0 where
   pub ok : IfOk result (λ answer. Piped (λ given output. p.Ends given output answer) left left' held held')
   pub at_end : OnOk result (IsAtEnd left' × (missed' ≡ missed) × (failed' ≡ failed))
@@ -26,7 +28,7 @@ pub record Ran {T : Type 0} (p : Promises T) (most : ℕ) (left left' : Option (
   pub failures : IfErr result (λ e. FailedBy e missed missed' failed failed')
   pub pieces : (given : List ℕ) × Consumes left left' given × (length given + 4096 * reads ≤ 4096 * reads')
 
--- of a source and a sink
+-- the same of a source and a sink
 abbrev pub RanOver : {S W T : Type 0} → SourceOf S → SinkOf W → Promises T → ℕ → (source source' : S) (sink sink' : W) → Result T RunFault → Type 0
 RanOver s w p most source source' sink sink' r =
     Ran p most (s.remaining source) (s.remaining source') (s.reads source) (s.reads source') (s.failures source) (s.failures source') (w.contents sink) (w.contents sink') (w.failures sink) (w.failures sink') (w.flushes sink) (w.flushes sink') r

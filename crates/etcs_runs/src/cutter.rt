@@ -9,7 +9,9 @@ use crate::fault::RunFault;
 use crate::lines::{split_line, without_cr};
 use std::alloc::{AllocError, Global};
 
-/// Takes the lines of a text one after another, and reports the items in them.
+/// Takes the lines of a text one after another, each with its number, and reports the items in them. Each implementation is
+/// proved to do what is written here; lines that were taken, and the text written of them, are an engine's bytes and text
+/// (`took_outputs`, `long_outputs`), and its `promises` follow from one another as `Sound` lists.
 pub trait LineHandler {
     ghost use Rattle.std.specs.Prelude.{◌≡◌, ◌+◌, ◌<◌, ◌^◌, ℕ, List, [], ◌++◌, ◌∷◌, length};
     ghost use Rattle.etcs_runs.specs.Lines.{IsLine, lines_text};
@@ -18,7 +20,7 @@ pub trait LineHandler {
     /// What it was asked to do, which stays the same.
     type Job;
 
-    /// What it answers at the end of the input.
+    /// What it returns at the end of the input.
     type Tally: Copy;
 
     ghost job: { Self → Self.Job };
@@ -35,16 +37,21 @@ pub trait LineHandler {
     /// This text was written of the lines, up to a fault.
     ghost said: { Self → List ℕ → Type 0 };
 
-    /// How many characters a line has at most.
+    /// Returns how many characters a line has at most, fewer than 2^62.
     fn most(&self) -> usize
         ensures value { result ≡ most (job self.now) }
         ensures fits { result < 2 ^ 62 };
 
-    /// Takes the line of this number, which had a LF, and perhaps a CR before it. It may be longer than `most`.
+    /// Takes the next line, which had a LF and perhaps a CR before it, and appends the text of it. It may be longer
+    /// than `most`. If it succeeds, the line was taken after those before.
+    ///
+    /// Requires that fewer than 2^62 lines were taken (`took`).
     ///
     /// # Errors
     ///
-    /// A fault with which every input that begins like this one ends; or `Memory`. The text of the items before was appended.
+    /// A fault other than `Read` and `Write`: if `number` is that of the line, counted from 1, each input that begins
+    /// with the lines taken and this one ends with it after the text written (`Stops`), which is appended, and for
+    /// which `said` holds. `Memory` may come at any line.
     fn handle_line(&mut self, line: &[u8], number: u64, text: &mut Vec<u8>) -> Result<(), RunFault>
         requires took { TookSome (took self.old) }
         ensures job { job self.new ≡ job self.old }
@@ -52,12 +59,14 @@ pub trait LineHandler {
         ensures err { StopsAtLine (took self.old) (promises (job self.old)) line.now number text.old.items text.new.items result }
         ensures said { SaysAfter (took self.old) (said self.new) text.old.items text.new.items result };
 
-    /// Takes the line of this number, which has more characters than `most` and a CR, and isn't kept. After `Ok` the line has
-    /// been reported, however it continues, and the next call is for the line after it, or is `close`.
+    /// Takes the line of this number, which has more characters than `most` and a CR, and isn't kept. If it succeeds,
+    /// the line was taken, however it continues, and the next call is for the line after it, or is `close`.
+    ///
+    /// Requires that fewer than 2^62 lines were taken (`took`).
     ///
     /// # Errors
     ///
-    /// As `handle_line`.
+    /// As `handle_line`, of each input whose next line begins like this one and is too long.
     fn refuse_long(&mut self, number: u64, text: &mut Vec<u8>) -> Result<(), RunFault>
         requires took { TookSome (took self.old) }
         ensures job { job self.new ≡ job self.old }
@@ -65,11 +74,15 @@ pub trait LineHandler {
         ensures err { StopsAtLong (took self.old) (promises (job self.old)) (most (job self.old)) number text.old.items text.new.items result }
         ensures said { SaysAfter (took self.old) (said self.new) text.old.items text.new.items result };
 
-    /// Takes the last line, of this number, which may be empty and has no LF; and writes what comes at the end.
+    /// Takes the last line, of this number, which may be empty and has no LF, and appends what is written at the end. If it
+    /// succeeds, the lines taken and this one are a whole input with all the text written and this result (`Ends`).
+    ///
+    /// Requires that fewer than 2^62 lines were taken (`took`), and an empty text (`empty`).
     ///
     /// # Errors
     ///
-    /// As `handle_line`, and what is wrong with an input that ends so.
+    /// A fault other than `Read` and `Write`: the input of these lines ends with it after the text written (`StopsAtEnd`),
+    /// which is appended, and for which `said` holds.
     fn handle_last(
         &mut self,
         line: &[u8],
@@ -82,11 +95,15 @@ pub trait LineHandler {
         ensures err { StopsWith (took self.old) (promises (job self.old)) line.now number text.new.items result }
         ensures said { (lines : List (List ℕ)) (output : List ℕ) → took self.old lines output → OnErr result (said self.new (output ++ text.new.items)) };
 
-    /// The last line was too long, and was reported: writes what comes at the end.
+    /// Ends an input whose last line was too long and was taken by `refuse_long`, and appends what is written at the
+    /// end. If it succeeds, the lines taken are a whole input with all the text written and this result (`Ends`).
+    ///
+    /// Requires that fewer than 2^62 lines were taken (`took`), and an empty text (`empty`).
     ///
     /// # Errors
     ///
-    /// What is wrong with an input that ends so, and `Memory`.
+    /// A fault other than `Read` and `Write`: the input of these lines ends with it after the text written (`StopsAtEnd`),
+    /// which is appended, and for which `said` holds.
     fn close(&mut self, text: &mut Vec<u8>) -> Result<Self::Tally, RunFault>
         requires took { TookSome (took self.old) }
         requires empty { text.old.items ≡ [] }
@@ -94,18 +111,22 @@ pub trait LineHandler {
         ensures err { StopsLong (took self.old) (promises (job self.old)) (most (job self.old)) text.new.items result }
         ensures said { (lines : List (List ℕ)) (output : List ℕ) → took self.old lines output → OnErr result (said self.new (output ++ text.new.items)) };
 
+    /// Its promises follow from one another as `Sound` lists.
     ghost sound: { (t : Self) → Sound (promises (job t)) };
 
+    /// What was written of the lines taken is the text of all that is whole in them and in the line begun after them.
     ghost took_outputs: { (t : Self) (lines : List (List ℕ)) (begun output : List ℕ) → took t lines output → IsLine begun → (promises (job t)).Outputs (lines_text lines ++ begun) output };
 
     /// The last of the lines is too long, and may have no LF yet.
     ghost long_outputs: { (t : Self) (lines : List (List ℕ)) (part output : List ℕ) → took t (lines ++ part ∷ []) output → IsLine part → most (job t) + 1 < length part → (promises (job t)).Outputs (lines_text lines ++ part) output };
 
+    /// What was written of the lines taken may be the text up to a fault.
     ghost took_said: { (t : Self) (lines : List (List ℕ)) (output : List ℕ) → took t lines output → said t output };
 }
 
-/// The line that isn't whole yet, how many characters it has so far and how many lines came before it, and what they are
-/// given to.
+/// Cuts pieces of an input into lines, for whatever handler takes them: an engine ([`Engine`]) with the handler's
+/// promises. It holds the line that isn't whole yet, how many characters it has so far, and how many lines came before
+/// it.
 #[derive(Drop)]
 pub struct Lines<T: LineHandler> {
     begun: Vec<u8>,
@@ -117,7 +138,9 @@ pub struct Lines<T: LineHandler> {
 impl<T: LineHandler> Lines<T> {
     ghost use Rattle.etcs_runs.specs.Cutting.{HasRoom, SaysSo, StopsAt, TakesPart};
 
-    /// Nothing has come yet.
+    /// Returns a cutter that was fed nothing, over a handler that has the same job.
+    ///
+    /// Requires that the handler took no line and wrote no text.
     pub fn new(alloc: Global, handler: T) -> Lines<T>
         requires { T.took handler [] [] }
         ensures job { T.job result.handler ≡ T.job handler }
@@ -135,7 +158,7 @@ impl<T: LineHandler> Lines<T> {
     ///
     /// # Errors
     ///
-    /// Those of the handler where the line becomes too long, and `Memory`.
+    /// Those of the handler if the line becomes too long, and `Memory`.
     fn keep(&mut self, part: &[u8], text: &mut Vec<u8>) -> Result<(), RunFault>
         requires stands { HasRoom T.LineHandler self.old text.old.items (length part.now) }
         requires line { IsLine part.now }
@@ -160,7 +183,7 @@ impl<T: LineHandler> Lines<T> {
         }
     }
 
-    /// A line ends here, of which this is the last part. One that lies whole in it isn't kept.
+    /// Ends a line, of which this is the last part. A line that is whole in it isn't kept.
     fn end_line(&mut self, part: &[u8], text: &mut Vec<u8>) -> Result<(), RunFault>
         requires stands { HasRoom T.LineHandler self.old text.old.items (length part.now) }
         requires line { IsLine part.now }

@@ -1,4 +1,4 @@
-//! The digits of a line as people have them.
+//! The digits of a line of a log or a dump.
 
 ghost use Rattle.std.specs.Prelude.{◌≡◌, ◌+◌, ◌-◌, ◌*◌, ◌/◌, ◌<◌, ◌≤◌, ◌++◌, ◌∷◌, if◌then◌else◌, Ok, Err, IfSome, IsNone, IsTrue, ℕ, List, [], drop, false, length, not, find, slice_index, take, true};
 ghost use Rattle.std.specs.List.{list_all};
@@ -10,12 +10,13 @@ ghost use Rattle.etcs_runs.specs.Answers.{Says, says_enough};
 use crate::hexadecimal::{decode, is_digit};
 use memchr::memchr3;
 
-/// Why a line has no bytes.
+/// Why a line has no bytes, as [`line_bytes`] finds its digits.
 #[derive(Clone, Copy, Debug, PartialEq, Eq)]
 pub enum NoBytes {
-    /// It is blank, or a comment: its first character that is no blank is `#`.
+    /// It is blank or a comment: its first character that isn't a blank, a tab or a CR is `#`.
     Empty,
-    /// There are no digits at its end, nor enough for an item anywhere.
+    /// The last part of its last word isn't of digits, and no words or parts before it are digits enough for an item, 20.
+    /// Digits that touch any other letter don't count, since they are a part of a word that isn't of digits.
     NoDigits,
     /// It has this number of digits, which is odd.
     OddDigits(usize),
@@ -70,7 +71,7 @@ impl Cut {
     }
 }
 
-/// Where the last word ends.
+/// The place at which the last word ends.
 pub(crate) fn end_of_word(cut: Cut, text: &[u8]) -> usize
     ensures within { result ≤ length text.now }
     ensures words { words (parts_at cut) text.now ≡ words (parts_at cut) (take result text.now) }
@@ -84,7 +85,7 @@ pub(crate) fn end_of_word(cut: Cut, text: &[u8]) -> usize
     end
 }
 
-/// Where the word begins with which the text ends.
+/// The place at which the word begins with which the text ends.
 pub(crate) fn start_of_word(cut: Cut, text: &[u8]) -> usize
     ensures within { result ≤ length text.now }
     ensures word { list_all (λ c. not (parts_at cut c)) (drop result text.now) ≡ true }
@@ -143,8 +144,8 @@ pub(crate) fn without_mark(line: &[u8]) -> &[u8]
     }
 }
 
-/// Writes what the last words of a text say before a place of the buffer, as long as each has `count` digits, and answers
-/// where that begins.
+/// Writes the bytes of the last words of a text before a place of the buffer, as long as each word has `count` digits, and
+/// returns the place at which they begin.
 fn take_words(cut: Cut, count: usize, text: &[u8], buffer: &mut [u8], end: usize) -> usize
     requires room { length text.now ≤ 2 * end }
     requires within { end ≤ length buffer.old }
@@ -186,7 +187,7 @@ pub(crate) fn is_of_digits(word: &[u8]) -> bool
     word.iter().all(|character| is_digit(*character))
 }
 
-/// Writes what a word of digits says to the end of the buffer.
+/// Writes the bytes of a word of digits to the end of the buffer.
 fn take_word(word: &[u8], buffer: &mut [u8]) -> Result<usize, NoBytes>
     requires room { length word.now ≤ 2 * length buffer.old }
     ensures digits { Says (if list_all is_hex_digit word.now then word.now else []) result buffer.new }
@@ -234,7 +235,7 @@ pub(crate) fn is_group(word: &[u8]) -> bool
     is_size(word.len()) && is_of_digits(word)
 }
 
-/// Writes what the last groups of a text say to the end of the buffer, or what its last word says.
+/// Writes the bytes of the last groups of a text to the end of the buffer, or those of its last word.
 fn take_groups(cut: Cut, text: &[u8], buffer: &mut [u8]) -> Result<usize, NoBytes>
     requires room { length text.now ≤ 2 * length buffer.old }
     ensures digits { Says (groups (last_first (parts_at cut) text.now)) result buffer.new }
@@ -266,7 +267,7 @@ fn are_enough(taken: Result<usize, NoBytes>) -> bool
     }
 }
 
-/// Writes what the digits of a word say to the end of the buffer.
+/// Writes the bytes of a word's digits to the end of the buffer.
 fn take_parts(word: &[u8], buffer: &mut [u8]) -> Result<usize, NoBytes>
     requires room { length word.now ≤ 2 * length buffer.old }
     ensures digits { Says (word_digits word.now) result buffer.new }
@@ -287,7 +288,7 @@ fn take_parts(word: &[u8], buffer: &mut [u8]) -> Result<usize, NoBytes>
     take_groups(Cut::Joints, word, buffer)
 }
 
-/// Writes what the digits at the end of a line say to the end of the buffer.
+/// Writes the bytes of the digits at the end of a line to the end of the buffer.
 fn take_end(line: &[u8], buffer: &mut [u8]) -> Result<usize, NoBytes>
     requires room { length line.now ≤ 2 * length buffer.old }
     ensures digits { Says (end_digits (last_first is_gap line.now)) result buffer.new }
@@ -303,7 +304,7 @@ fn take_end(line: &[u8], buffer: &mut [u8]) -> Result<usize, NoBytes>
     take_parts(word, buffer)
 }
 
-/// Writes what the digits of a text say to the end of the buffer.
+/// Writes the bytes of a text's digits to the end of the buffer.
 fn take_last(line: &[u8], buffer: &mut [u8]) -> Result<usize, NoBytes>
     requires room { length line.now ≤ 2 * length buffer.old }
     ensures digits { Says (text_digits line.now) result buffer.new }
@@ -334,7 +335,7 @@ fn begins_comment(text: &[u8]) -> bool
         && (text[1] == b'#' || text[1] == b';' || (count > 2 && text[1] == b'/' && text[2] == b'/'))
 }
 
-/// A line before its comment, where it has one.
+/// The part of a line before its comment, if it has one.
 pub(crate) fn before_comment(line: &[u8]) -> Option<&[u8]>
     ensures none { IsNone result → without_comment line.now ≡ line.now }
     ensures some { IfSome result (λ front. front.now ≡ without_comment line.now) }
@@ -351,7 +352,7 @@ pub(crate) fn before_comment(line: &[u8]) -> Option<&[u8]>
     None
 }
 
-/// Writes what the digits of a line without a byte order mark say to the end of the buffer.
+/// Writes the bytes of the digits of a line without a byte order mark to the end of the buffer.
 fn take_line(line: &[u8], buffer: &mut [u8]) -> Result<usize, NoBytes>
     requires room { length line.now ≤ 2 * length buffer.old }
     ensures digits { Says (text_digits (read_text line.now)) result buffer.new }
@@ -366,7 +367,7 @@ fn take_line(line: &[u8], buffer: &mut [u8]) -> Result<usize, NoBytes>
     take_last(line, buffer)
 }
 
-/// The first character that is no blank.
+/// The first character that isn't a blank, a tab or a CR.
 fn first_character(line: &[u8]) -> Option<u8>
     ensures { result ≡ find (λ c. not (is_blank c)) line.now }
 {
@@ -383,17 +384,25 @@ fn is_empty(line: &[u8]) -> bool
     }
 }
 
-/// Writes the bytes that the digits of a line stand for to the end of `buffer`, and returns how many they are. The digits
-/// are found as docs/FORMAT.md describes: those of the last words that are groups of one even size (at most 16 digits, the
-/// last group perhaps smaller), or else those at the end of the last word, cut at characters that are neither digits nor
-/// letters. If they are fewer than 20, the part or word at the end is skipped, and then the one before it, until there are
-/// 20; if there never are, the digits are those at the end. A comment (`#`, `;` or `//` after a blank) is skipped if there
-/// are 20 digits before it; a byte order mark and what is in front of the digits always are.
+/// Writes the bytes that the digits of a line stand for to the end of `buffer`, and returns how many there are, at least
+/// one. It succeeds exactly if the line is neither blank nor a comment and has an even number of digits, not none.
+///
+/// The digits (`line_digits`) are found as docs/FORMAT.md describes: those of the last words that are groups of one even
+/// size (at most 16 digits, the last group perhaps smaller), or else those at the end of the last word, cut at characters
+/// that are neither digits nor letters. If they are fewer than 20, the part or word at the end is skipped, and then the one
+/// before it, until there are 20; if there never are, the digits are those at the end. A comment (`#`, `;` or `//` after a
+/// blank) is skipped if there are 20 digits before it; a byte order mark and what is in front of the digits always are.
+///
+/// Requires a buffer of at least half as many bytes as the line has characters (`room`). Its length stays.
 ///
 /// # Errors
 ///
-/// `Empty` if the line is blank or a comment, which is looked at first; `NoDigits` if it has none at its end and nowhere 20;
-/// `OddDigits` with their number if that is odd. No clause says what the buffer holds then.
+/// - `Empty` exactly if the line has no word, or its first one begins with `#`, whatever digits it has;
+/// - `NoDigits` if it has no digits: what is at its end isn't of digits, and no words or parts before that are 20 of them.
+///   Digits that touch any other letter don't count: they are a part of a word;
+/// - `OddDigits` with their number if that is odd.
+///
+/// What the buffer holds after an error isn't promised.
 pub fn line_bytes(line: &[u8], buffer: &mut [u8]) -> Result<usize, NoBytes>
     requires room { length line.now ≤ 2 * length buffer.old }
     ensures empty { IsTrue (is_passed_over line.now) → result ≡ Err NoBytes.Empty }

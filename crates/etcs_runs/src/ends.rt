@@ -1,4 +1,4 @@
-//! Where bytes come from and where they go, with a count of reads, flushes and failures.
+//! Sources and sinks of bytes, with a count of reads, flushes and failures.
 
 ghost use Rattle.std.specs.Prelude.{◌≡◌, ℕ, ◌+◌, ◌-◌, ◌%◌, ◌^◌, ◌<◌, List, Option, Some, codes};
 ghost use Rattle.std.specs.Io.KnownBytes.{Keeps, ReadConsumes, WriteAppends};
@@ -9,7 +9,7 @@ use std::error::Error;
 use std::fmt;
 use std::io::{Read, Write};
 
-/// A call of a reader or a writer failed.
+/// A call of a reader or a writer failed. It is printed as `a read or a write failed`.
 #[derive(Clone, Copy, Debug, PartialEq, Eq)]
 pub struct Failed;
 
@@ -23,7 +23,7 @@ impl fmt::Display for Failed {
 
 impl Error for Failed {}
 
-/// Gives bytes.
+/// Gives bytes, and counts its calls and its failures.
 pub trait Source {
     ghost remaining: { Self → Option (List ℕ) };
 
@@ -31,11 +31,14 @@ pub trait Source {
 
     ghost failures: { Self → ℕ };
 
-    /// Reads some bytes into the buffer and returns how many: 0 only at the end, or with no room.
+    /// Reads some bytes, those that come next, to the front of the buffer and returns how many: 0 only at the end, or
+    /// if the buffer is empty. The call is counted.
+    ///
+    /// Requires that fewer than 2^64 - 1 calls were counted, and fewer than 2^64 - 1 failures.
     ///
     /// # Errors
     ///
-    /// `Failed` for any error of the reader. No byte is lost then.
+    /// `Failed` if the reader failed. One failure more is counted, and no byte is lost.
     fn read(&mut self, buffer: &mut [u8]) -> Result<usize, Failed>
         requires more_reads { reads self.old < 2 ^ 64 - 1 }
         requires more_failures { failures self.old < 2 ^ 64 - 1 }
@@ -44,16 +47,16 @@ pub trait Source {
         ensures counted { reads self.new ≡ reads self.old + 1 }
         ensures failed { failures self.new ≡ failures self.old + failed_calls result };
 
-    /// How often `read` was called.
+    /// Returns how often `read` was called.
     fn reads(&self) -> u64
         ensures { result ≡ reads self.now };
 
-    /// How often it failed.
+    /// Returns how often `read` failed.
     fn failures(&self) -> u64
         ensures { result ≡ failures self.now };
 }
 
-/// Takes bytes.
+/// Takes bytes, and counts its failures and its flushes.
 pub trait Sink {
     ghost contents: { Self → Option (List ℕ) };
 
@@ -62,11 +65,14 @@ pub trait Sink {
     /// How often `flush` was called. After 2^64 - 1 comes 0.
     ghost flushes: { Self → ℕ };
 
-    /// Writes some bytes of the piece from its front on and returns how many.
+    /// Writes some bytes of the piece from its front on and returns how many. If it took none of a piece that has some, one
+    /// failure more is counted. Nothing is flushed.
+    ///
+    /// Requires that fewer than 2^64 - 1 failures were counted.
     ///
     /// # Errors
     ///
-    /// `Failed` for any error of the writer. No byte was written then.
+    /// `Failed` if the writer failed. One failure more is counted, and no byte was written.
     fn write(&mut self, piece: &[u8]) -> Result<usize, Failed>
         requires { failures self.old < 2 ^ 64 - 1 }
         ensures bound { WritesAtMost result piece.now }
@@ -74,18 +80,21 @@ pub trait Sink {
         ensures failed { failures self.new ≡ failures self.old + failed_writes result piece.now }
         ensures unflushed { flushes self.new ≡ flushes self.old };
 
-    /// Passes on what the writer may have kept back.
+    /// Passes on what the writer may have kept back. The flush is counted, modulo 2^64, whether it fails or not. That it
+    /// reaches the writer isn't proved, since std's writers count no flush.
+    ///
+    /// Requires that fewer than 2^64 - 1 failures were counted.
     ///
     /// # Errors
     ///
-    /// `Failed` for any error of the writer. What was written before stays written.
+    /// `Failed` if the writer failed. One failure more is counted, and what was written before stays written.
     fn flush(&mut self) -> Result<(), Failed>
         requires { failures self.old < 2 ^ 64 - 1 }
         ensures bytes { Keeps (contents self.old) (contents self.new) }
         ensures failed { failures self.new ≡ failures self.old + failed_calls result }
         ensures flushed { flushes self.new ≡ (flushes self.old + 1) % 2 ^ 64 };
 
-    /// How often a call failed, or took no byte of a piece that has some.
+    /// Returns how often a call failed, or took no byte of a piece that has some.
     fn failures(&self) -> u64
         ensures { result ≡ failures self.now };
 }
@@ -99,7 +108,7 @@ fn counted(failures: &mut u64) -> Failed
     Failed
 }
 
-/// A source over any reader.
+/// A source over any reader. That a failure of it is one of the reader is only tested.
 #[derive(Drop)]
 pub struct Input<R> {
     reader: R,
@@ -108,7 +117,7 @@ pub struct Input<R> {
 }
 
 impl<R: Read> Input<R> {
-    /// A source over the reader, with no read so far.
+    /// Returns a source of the bytes that the reader has left, with no read and no failure so far.
     pub fn new(reader: R) -> Input<R>
         ensures bytes { ⟦<Input<R> as Source>⟧.remaining result ≡ R.remaining reader }
         ensures reads { ⟦<Input<R> as Source>⟧.reads result ≡ 0 }
@@ -146,7 +155,7 @@ impl<R: Read> Source for Input<R> {
     }
 }
 
-/// A sink over any writer.
+/// A sink over any writer. That a failure of it is one of the writer, and that it flushes the writer, is only tested.
 #[derive(Drop)]
 pub struct Output<W> {
     writer: W,
@@ -155,7 +164,7 @@ pub struct Output<W> {
 }
 
 impl<W: Write> Output<W> {
-    /// A sink over the writer, with no failure and no flush so far.
+    /// Returns a sink over the writer, whose bytes are those of the writer, with no failure and no flush so far.
     pub fn new(writer: W) -> Output<W>
         ensures bytes { ⟦<Output<W> as Sink>⟧.contents result ≡ W.contents writer }
         ensures failures { ⟦<Output<W> as Sink>⟧.failures result ≡ 0 }

@@ -1,4 +1,4 @@
-//! What is fed with the input, and writes text of it.
+//! What is fed an input, and writes text of it.
 
 ghost use Rattle.std.specs.Prelude.{◌≡◌, ◌<◌, ◌≤◌, ◌+◌, ◌^◌, ℕ, List, [], ◌++◌, length, IfOk, OnErr, OnOk};
 ghost use Rattle.etcs_runs.specs.Faults.{IfFault};
@@ -8,7 +8,11 @@ use crate::fault::RunFault;
 /// How many bytes a read asks for at most.
 pub const MOST_READ: usize = 4096;
 
-/// Writes text of the bytes that it is fed.
+/// Writes text of the bytes that it is fed. Each implementation is proved to do what is written here: an engine that
+/// was fed some bytes and wrote some text of them is, after a call of `feed` that succeeds, one that was fed the piece
+/// too and wrote the text of the call too. What a run over an engine promises are its `promises` (`Promises`), which
+/// follow from one another as `Sound` lists; what was written so far is the text of all that is whole in what was fed
+/// (`stands_outputs`).
 pub trait Engine {
     ghost use Rattle.std.specs.Prelude.{◌≡◌, ◌<◌, ◌≤◌, ◌+◌, ◌^◌, ℕ, List, [], ◌++◌, length};
     ghost use Rattle.etcs_runs.specs.Promises.{Promises, Sound};
@@ -16,7 +20,7 @@ pub trait Engine {
     /// What it was asked to do, which stays the same.
     type Job;
 
-    /// What it answers at the end of the input.
+    /// What it returns at the end of the input.
     type Tally: Copy;
 
     ghost job: { Self → Self.Job };
@@ -30,16 +34,21 @@ pub trait Engine {
     /// This text was written of what was fed, up to a fault.
     ghost said: { Self → List ℕ → Type 0 };
 
-    /// How many bytes the next read asks for, so that it ends with an item where the items' length is known.
+    /// How many bytes the next read asks for, so that it ends with an item if the items' length is known.
     fn wanted(&self) -> usize
         ensures some { 0 < result }
         ensures most { result ≤ 4096 };
 
-    /// Takes a piece of the input, and appends the text of each item that becomes whole.
+    /// Takes a piece of the input, and appends the text of each item that becomes whole. If it succeeds, the piece was fed
+    /// after what was fed before, and the text appended was written after what was written before.
+    ///
+    /// Requires an empty text (`empty`), and that all that is fed is fewer than 2^62 bytes (`stands`).
     ///
     /// # Errors
     ///
-    /// A fault with which every input that begins like this one ends; or `Memory`. The text of the items before was appended.
+    /// A fault other than `Read` and `Write`: each input that begins with all that was fed, this piece included, ends
+    /// with it after the text written (`Stops`), which is appended, and for which `said` holds. `Memory`
+    /// may come at any piece.
     fn feed(&mut self, piece: &[u8], text: &mut Vec<u8>) -> Result<(), RunFault>
         requires stands { (given : List ℕ) × (output : List ℕ) × stands self.old given output × (length given + length piece.now < 2 ^ 62) }
         requires empty { text.old.items ≡ [] }
@@ -48,11 +57,15 @@ pub trait Engine {
         ensures err { (given output : List ℕ) → stands self.old given output → IfFault result ((promises (job self.old)).Stops (given ++ piece.now) (output ++ text.new.items)) }
         ensures said { (given output : List ℕ) → stands self.old given output → OnErr result (said self.new (output ++ text.new.items)) };
 
-    /// The input ends here.
+    /// Ends the input. If it succeeds, what was fed is a whole input, with all the text written, that appended here
+    /// included, and with this result (`Ends`).
+    ///
+    /// Requires an empty text (`empty`), and that fewer than 2^62 bytes were fed (`stands`).
     ///
     /// # Errors
     ///
-    /// The same, and what is wrong with an input that ends so.
+    /// A fault other than `Read` and `Write`: the input of the bytes that were fed ends with it after the text written
+    /// (`StopsAtEnd`), which is appended, and for which `said` holds.
     fn finish(&mut self, text: &mut Vec<u8>) -> Result<Self::Tally, RunFault>
         requires stands { (given : List ℕ) × (output : List ℕ) × stands self.old given output × (length given < 2 ^ 62) }
         requires empty { text.old.items ≡ [] }
@@ -60,7 +73,9 @@ pub trait Engine {
         ensures err { (given output : List ℕ) → stands self.old given output → IfFault result ((promises (job self.old)).StopsAtEnd given (output ++ text.new.items)) }
         ensures said { (given output : List ℕ) → stands self.old given output → OnErr result (said self.new (output ++ text.new.items)) };
 
+    /// Its promises follow from one another as `Sound` lists.
     ghost sound: { (e : Self) → Sound (promises (job e)) };
 
+    /// What was written so far is the text of all that is whole in what was fed.
     ghost stands_outputs: { (e : Self) (given output : List ℕ) → stands e given output → (promises (job e)).Outputs given output };
 }

@@ -17,8 +17,8 @@ pub enum RunFault {
     /// The input ends inside an item, after this many bits of it.
     #[error("item {item} was truncated after {bits} bits")]
     Truncated { item: u64, bits: u64 },
-    /// A line isn't hexadecimal. The place is that of the first other character, or the count of
-    /// characters where it is odd, or 4,096 where the line is longer.
+    /// A line isn't hexadecimal. The place is 4,096 if the line is longer than that, its length if that is odd, else
+    /// that of the first character that is no digit.
     #[error("line {line} is bad hexadecimal at {place}")]
     BadHex { line: u64, place: u64 },
     /// A line isn't the JSON of an item of the kind, or is longer than 1,048,576 bytes.
@@ -38,11 +38,12 @@ pub enum RunFault {
     Memory,
 }
 
-/// Writes the fault's line, with its LF.
+/// Writes the line of the fault for standard error, with its LF (`fault_line`). If it succeeds, exactly this line was
+/// written.
 ///
 /// # Errors
 ///
-/// That of the writer. A part of the line may then be written.
+/// That of the writer. Any part of the line may then be written.
 #[tactic(auto, using(std::proofs::Common::append_assoc))]
 pub fn write_fault<W: Write>(fault: &RunFault, out: &mut W) -> io::Result<()>
     ensures { OnOk result (Appends (W.contents out.old) (W.contents out.new) (fault_line fault.now)) }

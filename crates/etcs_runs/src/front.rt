@@ -64,7 +64,7 @@ fn find_run(cut: Cut, size: usize, text: &[u8]) -> Found
     found
 }
 
-/// The last groups of a text, or its last word where it is of digits.
+/// The last groups of a text, or its last word if it is of digits.
 fn find_groups(cut: Cut, text: &[u8]) -> Found
     ensures cut { result.cut ≡ cut }
     ensures words { result.words ≡ group_words (last_first (parts_at cut) text.now) }
@@ -141,7 +141,7 @@ fn find_end(line: &[u8]) -> Found
     }
 }
 
-/// Whether a text has digits enough.
+/// Whether a text has enough digits for an item.
 fn has_enough(text: &[u8]) -> bool
     ensures { result ≡ are_enough (text_digits text.now) }
 {
@@ -183,9 +183,12 @@ fn before_digits(line: &[u8]) -> &[u8]
     before_words(found.cut, found.words, line)
 }
 
-/// What is before the digits of a line, as a time or a source (`line_bytes` says which the digits are), without a byte order
-/// mark in front and without blanks, tabs and CRs at the end. A `0x` in front of the digits belongs to them; a name, a quote
-/// or a bracket that touches them does not. Of a line without digits this is all of it.
+/// Returns what is before the digits of a line, for instance a time or a source, without a byte order mark in front and
+/// without blanks, tabs and CRs at the end. The line without its byte order mark begins with it.
+///
+/// The digits are those of [`line_bytes`](crate::line_bytes), whether their number is even or odd. A `0x` in front of them
+/// belongs to them; a name, a quote or a bracket that touches them does not. If the line has no digits, this is all of it,
+/// without the mark and the blanks at its end. A comment is no exception: of `# dead` it is `#`.
 pub fn line_front(line: &[u8]) -> &[u8]
     ensures value { result.now ≡ line_front line.now }
     ensures prefix { (rest : List ℕ) × (without_mark line.now ≡ result.now ++ rest) }

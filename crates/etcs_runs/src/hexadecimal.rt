@@ -1,4 +1,4 @@
-//! Hexadecimal digits, and the bytes that they say.
+//! Hexadecimal digits, and the bytes that they stand for.
 
 ghost use Rattle.std.specs.Prelude.{◌≡◌, ◌*◌, Ok, IsTrue, length, unwrap_or};
 ghost use Rattle.std.specs.List.{list_all};
@@ -32,14 +32,17 @@ fn digit(character: u8) -> u16
     DIGITS[usize::from(character)]
 }
 
-/// Whether the character is a hexadecimal digit of either case.
+/// Returns whether the character is a hexadecimal digit of either case.
 pub fn is_digit(character: u8) -> bool
     ensures { result ≡ is_hex_digit character }
 {
     digit(character) < 256
 }
 
-/// Writes the bytes that a word says all over `bytes`, or answers that it isn't digits.
+/// Decodes a word of hexadecimal digits of either case into `bytes`, which it fills, and returns `true` exactly if each
+/// character of the word is such a digit. What `bytes` has after `false` isn't promised, except that its length stays.
+///
+/// Requires that the word has twice as many characters as `bytes` has bytes.
 pub fn decode(word: &[u8], bytes: &mut [u8]) -> bool
     requires { length word.now ≡ 2 * length bytes.old }
     ensures good { result ≡ list_all is_hex_digit word.now }

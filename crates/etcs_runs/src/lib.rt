@@ -1,4 +1,6 @@
-//! What runs share: where bytes come from and where they go, the form of an input, the lines of a text, and why a run ends.
+//! What runs share: [`Source`] and [`Sink`], the pump that runs an `Engine` over a source, the cutter of lines
+//! (`Lines` over a `LineHandler`), the bytes of a line's digits ([`line_bytes`]), [`Form`] and [`RunFault`]. Items
+//! are for `etcs_stream`, `etcs_explain` and `etcs_log`.
 #![tactic(auto)]
 
 mod cutter;

@@ -1,4 +1,4 @@
-//! Bytes from a source through an engine to a sink.
+//! Passes the bytes of a source through an engine to a sink.
 
 ghost use Rattle.std.specs.Prelude.{◌≡◌, ◌+◌, ◌-◌, ◌%◌, ◌^◌, ◌<◌, ◌≤◌, ℕ, List, [], length, IfErr, OnErr, OnOk};
 ghost use Rattle.std.specs.Io.{ReadsAtMost};
@@ -20,7 +20,7 @@ use std::alloc::Global;
 ///
 /// # Errors
 ///
-/// Where a write fails or takes nothing, with what `sent` is then.
+/// `Write` if a write fails or takes nothing, with what `sent` is then.
 fn write_all<W: Sink>(sink: &mut W, text: &[u8], sent: &mut u64) -> Result<(), RunFault>
     requires failures { W.failures sink.old < 2 ^ 63 }
     requires room { length text.now < 2 ^ 64 }
@@ -109,12 +109,35 @@ fn read_wanted<E: Engine, S: Source>(
     source.read(&mut buffer[..wanted])
 }
 
-/// Runs an engine over the whole input.
+/// Runs an engine over the whole input: feeds it what the source gives, piece by piece, and writes its text to the sink. It
+/// reads at most `most_reads` times, and each read gives at most 4,096 bytes.
+///
+/// In each case, *given* are all the bytes that the source gave, and *output* is a text which the sink took, all of it
+/// unless the result is `Write`. What the engine promises (`Promises`) then holds:
+///
+/// - `Ok`: given is a whole input with this output and this result (`Ends`). The source is at its end, no call of source or
+///   sink failed, and the sink was flushed exactly once, as counted modulo 2^64.
+/// - A fault of the engine, as every fault but `Read` and `Write` is: each input that begins with given ends with this
+///   fault, after this output (`Stops`); or the source is at its end, and the input given ends with it (`StopsAtEnd`);
+///   or it is `Endless` after `most_reads` reads. No call failed.
+/// - `Endless` after `most_reads` reads: that many bytes are given, or more, and output is the text of all that is whole in
+///   them (`Outputs`).
+/// - `Memory`: output is the text of some first items of what is given (`Prints`), and begins with the text of all that is
+///   whole in it without its last bytes, at most 4,096 (`StarvesIn`). The engine's `said` holds of output.
+/// - `Read`: output is the text of all that is whole in what is given (`Outputs`). Exactly one call failed, of the source.
+/// - `Write { sent }`: output is the text of some first items of what is given (`Prints`), or the source is at its end and
+///   output is all the text of the whole input given. The sink took exactly its first `sent` bytes, where `sent` is at most
+///   2^64 - 1, also if the sink took more. Exactly one call failed, of the sink.
+///
+/// After a fault the sink wasn't flushed; or it was once, and the fault is `Write`, `sent` counts all of output, the sink
+/// took it, the source is at its end, and output is all the text of the whole input given.
+///
+/// Requires an engine that was fed nothing (`fresh`), at most 2^49 reads (`few`), and fewer than 2^63 reads and
+/// failed calls so far (`reads`, `read_failures`, `write_failures`).
 ///
 /// # Errors
 ///
-/// Those of the engine, after what it wrote before them; `Read` and `Write` of a call that failed; `Endless` after
-/// `most_reads` reads.
+/// The faults above. When memory is refused isn't promised.
 #[inline(never)]
 pub fn run_engine<E: Engine, S: Source, W: Sink>(
     engine: &mut E,

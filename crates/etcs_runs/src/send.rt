@@ -5,11 +5,16 @@ ghost use Rattle.std.specs.Io.KnownBytes.{Appends};
 
 use crate::ends::{Failed, Sink};
 
-/// Writes all of the text, and adds to `sent` how many bytes were taken.
+/// Writes all of the text, and adds to `sent` how many bytes the sink took. If it succeeds, the sink took all of the text,
+/// and no call failed. Nothing is flushed in any case.
+///
+/// Requires that fewer than 2^63 calls of the sink failed so far (`failures`), and that `sent` and the length of
+/// the text make fewer than 2^64 (`room`).
 ///
 /// # Errors
 ///
-/// Where a write fails or takes nothing. The sink has then taken the front of the text that is counted.
+/// `Failed` if a write fails or takes nothing: one call failed then, and the sink took the front of the text, as many bytes
+/// as were added to `sent`.
 pub fn send<W: Sink>(sink: &mut W, text: &[u8], sent: &mut u64) -> Result<(), Failed>
     requires failures { W.failures sink.old < 2 ^ 63 }
     requires room { sent.old + length text.now < 2 ^ 64 }

@@ -1,4 +1,4 @@
--- What is held of the packet that is being read, and that nothing is held where nothing was read.
+-- What is held of the packet that is being read, and that nothing is held if nothing was read.
 use Rattle.std.proofs.Common.{◌≡◌, ℕ, ◌+◌, ◌<◌, Bool, true, false, List, [], ◌∷◌, ◌++◌, ◌&&◌, length, Some, None, refl, sym, ap, ◌∙◌, arith, inl, inr}
 use Rattle.std.specs.Prelude.{IsTrue, Option, is_some, nat_lt, map}
 use Rattle.std.proofs.lemmas.List.{length-append}

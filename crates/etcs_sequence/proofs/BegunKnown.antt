@@ -61,7 +61,7 @@ frame_unmarked nid dir bits n t q e =
     let (v2, n2, r2) = sent_parts Q_DIR NID_VBCMK dir n ((L_PACKET, 23 + bits) ∷ t) q r1 in
     absurd cc
 
--- a frame, followed by fewer bits than it says
+-- a frame, followed by fewer bits than it counts
 framed_unpacked : (way : Way) (nid dir bits : ℕ) (t : Reading) → length (spelled t) < bits → NoPacket way (in_frame way nid dir bits t)
 framed_unpacked ToTrain nid dir bits t less (packets.marker n) q h e = frame_unmarked nid dir bits n t q e
 framed_unpacked ToTrack nid dir bits t less (packets.marker n) q h e = absurd cc

@@ -47,7 +47,7 @@ bit_number v (suc (suc n)) h = absurd (omega arith)
 
 -- ---- What is left of them.
 
--- none are wanted
+-- no bits are left
 pub no_bits : (v : Var) → Same (BitsLeft v 0) (λ r. r ≡ [])
 no_bits v r = (λ (b, l, e). none b r l e, λ e. ([], refl, e))
   where

@@ -8,7 +8,7 @@ use Rattle.etcs_vars.proofs.Walk.{Regular}
 use Rattle.etcs_reader.specs.Rests.{Goes}
 use Rattle.etcs_sequence.specs.ChainLaws.{Chain}
 
--- before others, a reading that agrees with one that begins with p begins with p where both do
+-- before others, a reading that agrees with one that begins with p begins with p if both do
 begins_alike : (p a b c q : Reading) → Agree a (p ++ c) → a ++ b ≡ p ++ q → (a' : Reading) × (a ≡ p ++ a') × (a' ++ b ≡ q)
 begins_alike [] a b c q h e = (a, refl, e)
 begins_alike (x ∷ p) [] b c q h e = elim h [ ]

@@ -58,7 +58,7 @@ whole_part L regular r part l (q, c, m, e) =
     let all : spelled r ++ (part ++ c) ≡ spelled q ++ [] = sym (append_assoc (spelled r) part c) ∙ sym e ∙ sym (append-nil (spelled q)) in
     no_front part c (apart r q (part ++ c) [] (regular.agree r q l m) (regular.fit r l) (regular.fit q m) all).1
 
--- ---- What a feeder's answer says.
+-- ---- What a feeder's result means.
 
 module _ {R : Type 0} (left : R → Reading → Type 0) (next : R → Option Var) (v : FeederValue R) (n : ℕ) (found : Option Var) (here : found ≡ next v.rest) where
   pub fed_more : (x : Var) → found ≡ Some x → (v.stop ≡ None → IfSome found (Owner (left v.rest) v.part)) → IsFed left next v (Ok n) (Ok More)
@@ -121,7 +121,7 @@ module _ {R V W P : Type 0} {left : R → Reading → Type 0} {next : R → Opti
       let l = subst (left v.rest) (w.ended v.rest e at.goes.0 at.goes.1) at.goes.1 in
       subst L (append-nil (far v.rest)) (at.residual.from [] l)
 
-  -- so where a reader hasn't stopped and nothing comes next
+  -- so if a reader hasn't stopped and nothing comes next
   pub ended_reading : (v : FeederValue R) → Is v → is_some v.stop ≡ false → is_some (next v.rest) ≡ false → L (far v.rest)
   ended_reading v is stop end = whole_reading v (at_of v (none_there v.stop stop) is) (none_there (next v.rest) end)
 
@@ -133,11 +133,11 @@ module _ {R V W P : Type 0} {left : R → Reading → Type 0} {next : R → Opti
   pub whole_value : (v : FeederValue R) → At v → next v.rest ≡ None → IsValue (made v.rest) × Reads (value (made v.rest)) (far v.rest)
   whole_value v at e = w.whole v.rest e (whole_reading v at e) at.held
 
-  -- how many bytes are wanted
+  -- how many bytes are left
   pub bytes_wanted : (v : FeederValue R) → At v → v.count / 8 ≤ most
   bytes_wanted v at = omega (arith, viable_length (seen v) at.viable, at.counted)
 
-  -- where memory is refused, the variable with which all that is left begins asks for it
+  -- if memory is refused, it may be needed at the variable with which all that is left begins
   first_asks : (s : R) (q : Reading) (x : Var) → Goes (left s) → BeginsWith (left s) x → fails s → holds s q → IsTrue (asks_memory x) × (asked_from x ≤ length (spelled q))
   first_asks s q x g begins f h = by_next (next s) refl
     where
@@ -183,7 +183,7 @@ module _ {R V W P : Type 0} {left : R → Reading → Type 0} {next : R → Opti
           ∙ sym (append_assoc (spelled (far old.rest)) old.part t);
     }
 
-    -- and where it has come to
+    -- and what it has come to
     module _ (new : FeederValue R) (b : List Bool) (f : Passed (λ p. follows old.rest p new.rest) (old.part ++ b) new.part) (g : Goes (left new.rest)) where
       far_new : far old.rest ++ f.whole ≡ far new.rest
       far_new = w.far_is new.rest (far old.rest ++ f.whole) g (w.held old.rest new.rest f.whole (far old.rest) f.follows at.held)
@@ -243,7 +243,7 @@ module _ {R V W P : Type 0} {left : R → Reading → Type 0} {next : R → Opti
     long : length xs ≡ 8 * taken
     long = omega (arith, length-bits (take taken piece), length-take-le taken piece within)
 
-    -- more bits are wanted
+    -- more bits are left
     more : (n : ℕ) (x : Var) → new.stop ≡ None → new.count ≡ old.count + n → Takes R left next follows old.rest old.part xs n new.rest new.part → next new.rest ≡ Some x → Owner (left new.rest) new.part x → Answer old new piece (Ok More)
     more n x none count h some own =
         let (all, o) = h.more x some in
@@ -359,7 +359,7 @@ module _ {R V W P : Type 0} {left : R → Reading → Type 0} {next : R → Opti
       let same = same_bits (seen old) b (sym (going_progress old none g) ∙ e ∙ h) in
       subst (λ (t : List Bool). Feeds Reads value IsValue least t (bits piece) result (progress new)) same a.fed
 
-  -- where it reads, it hasn't stopped and something comes next
+  -- if it reads, it hasn't stopped and something comes next
   pub still_reads : (v : FeederValue R) (b : List Bool) → progress v ≡ reading b → (v.stop ≡ None) × (is_some (next v.rest) ≡ true)
   still_reads v b = by_stop (next v.rest) v.stop
     where

@@ -115,7 +115,7 @@ marker_room room n starts = (after_marker room n (opens_number (MarkerLeft room)
 length_room : (c : Carrier) (nid room : ℕ) (r : Reading) → LengthLeft c nid room r → frame_bits (way_of c) ≤ room
 length_room c nid room r (l, q, e, (least, most, le, b)) = omega (arith, least, le)
 
--- where Q_DIR is sent, it comes before L_PACKET
+-- if Q_DIR is sent, it comes before L_PACKET
 sent_head : (way : Way) (dir : ℕ) → IsTrue (sends way dir) → head_bits way ≡ 10
 sent_head ToTrain dir h = refl
 sent_head ToTrack dir h = absurd cc

@@ -59,7 +59,7 @@ module _ {R V W P : Type 0} {left : R → Reading → Type 0} {next : R → Opti
       let h = held_in v at x (sym f) own (Members k.packets.items k.numbers.items k.bits) members part taken same fits short in
       (seen w v, sym e ∙ going_progress w v none (ap is_some (sym f)), h)
 
-  -- where nothing is held, nothing is being read
+  -- if nothing is held, nothing is being read
   pub none_stops : (v : FeederValue R) (stop : Option Stop) → v.stop ≡ stop → is_some stop ≡ true → IsReading (progress w v) → ⊥
   none_stops v None e h i = absurd cc
   none_stops v (Some (Refused j x)) e h i = rw e at i

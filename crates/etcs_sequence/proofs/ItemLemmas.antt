@@ -21,7 +21,7 @@ with_none o s e = rw e refl
 pub none_done : {V : Type 0} (IsValue : V → Type 0) (size : V → ℕ) (o : Option (V × ℕ)) (s : Progress V) → o ≡ None → IsDone IsValue size o s
 none_done IsValue size o s e = rw e tt
 
--- where one is kept, it is finished
+-- if one is kept, it is finished
 pub some_kept : {V : Type 0} (o : Option (V × ℕ)) (s p : Progress V) → is_some o ≡ true → progress_with o s ≡ p → (v : V) × (p ≡ finished v)
 some_kept None s p e same = absurd cc
 some_kept (Some d) s p e same = (d.0, sym same)

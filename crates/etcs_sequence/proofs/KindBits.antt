@@ -29,7 +29,7 @@ one_value v u b hv hu ev eu =
     let same : spelled (packet_reading v) ++ [] ≡ spelled (packet_reading u) ++ [] = ap (λ (t : List Bool). t ++ []) (ev ∙ sym eu) in
     packet_same ToTrain v u hv hu (apart (packet_reading v) (packet_reading u) [] [] (packet_agree ToTrain v u hv hu) (packet_fit ToTrain v hv) (packet_fit ToTrain u hu) same).0
 
--- and say its number
+-- and have its number first
 pub number_said : (v : PacketValue) (b : List Bool) → IsPacket v → spelled (packet_reading v) ≡ b → value (part 0 8 b) ≡ nid_of v
 number_said v b h e = ap (λ (t : List Bool). value (part 0 8 t)) (sym e ∙ sym (append-nil (spelled (packet_reading v)))) ∙ packet_number v [] h
 

@@ -120,7 +120,7 @@ direction_more c s nid n x f k h (event.Marker m) ex eh (ef, ek, carried, is, he
 direction_more c s nid n x f k h (event.Typed nid' dir) ex eh (ek, (r, (carried, en, is)), here) = absurd (frame_more (way_of c) nid nid' n dir (length (spelled r)) r (rw (eh, ex) at is))
 direction_more c s nid n x f k h (event.Kept nid' dir) ex eh (ef, carried, is, here) = absurd (frame_more (way_of c) nid nid' n dir (length k) (kept OTHER_DATA k) (rw (eh, ex) at is))
 
--- where a packet is whole, a list grew
+-- if a packet is whole, a list grew
 pub grows_whole : (c : Carrier) (s s' : Stage) (x : Var) (n : ℕ) (e : Event) (f : List ℕ) (k : List Bool) (h : Reading) → next_of s ≡ Some x → Becomes c s x n e s' → Here c s f k h → (e ≡ event.More → ⊥) → IsTrue (may_grow s)
 grows_whole c (Direction nid) s' x n e f k h next b here other = absurd (other (direction_more c s' nid n x _ _ h e (let same : Q_DIR ≡ x = cc in sym same) here.2 (b f k h here)))
 grows_whole c Closed s' x n e f k h next b here other = absurd cc

@@ -30,7 +30,7 @@ two_sent_ok with both (Err x) old mid new a b q first second is = tt
 
 -- ---- The numbers of a row.
 
--- where no variable comes next, there are none
+-- if no variable comes next, there are none
 pub read_ended : (row : Layout) (n : ℕ) (f : List ℕ) → first_variable row ≡ None → read_of row (n ∷ f) ≡ []
 read_ended whole n f e = refl
 read_ended (one w rest) n f e = absurd cc

@@ -1,4 +1,4 @@
--- Packets are cut by the lengths that they say themselves.
+-- Packets are cut by the lengths in their own bits.
 use Rattle.std.proofs.Common.{◌≡◌, ℕ, zero, suc, ◌+◌, ◌-◌, ◌<◌, ◌≤◌, ◌==◌, Bool, false, List, [], ◌∷◌, ◌++◌, length, take, drop, refl, sym, ap, ◌∙◌, arith, append_assoc, length-append}
 use Rattle.std.specs.Prelude.{All, if◌then◌else◌}
 use Rattle.std.proofs.lemmas.Bool.{ne_eqb}
@@ -33,7 +33,7 @@ least_ahead b (v, c, h, e) =
     let all : length b ≡ length (spelled (packet_reading v)) + length c = ap (λ (t : List Bool). length t) e ∙ length-append (spelled (packet_reading v)) c in
     omega (arith, all, packet_bits v, some_bits ToTrain v)
 
--- a packet with a frame takes as many bits as L_PACKET says, and is here
+-- a packet with a frame takes as many bits as L_PACKET counts, and is here
 framed_ahead : (b : List Bool) → BeginsWithPacket b → (value (part 0 8 b) ≡ 0 → ⊥) → 23 ≤ length b
 framed_ahead b (marker n, c, h, e) other = absurd (other (ap (λ (t : List Bool). value (part 0 8 t)) e ∙ packet_number (marker n) c h))
 framed_ahead b (typed nid dir r, c, h, e) other =

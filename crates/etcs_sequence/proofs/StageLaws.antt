@@ -48,7 +48,7 @@ length_room : (way : Way) (nid room : ℕ) (r : Reading) → LengthLeft (Message
 length_room way nid room r (l, rest, e, (least, most, le, (a, b, f, body, run))) =
     omega (arith, least, le, frame_is way, body_length way nid (l - frame_bits way) a body, run_room way (room - l) b run, ap (λ (t : Reading). length (spelled t)) e, length-sent L_PACKET l rest, ap (λ (t : Reading). length (spelled t)) f, both_length a b)
 
--- before L_PACKET are NID_PACKET and, where it is sent, Q_DIR
+-- before L_PACKET are NID_PACKET and, if it is sent, Q_DIR
 direction_room : (way : Way) (nid room : ℕ) (r : Reading) → DirectionLeft (Message way) nid room r → room ≤ length (spelled r) + 15
 direction_room ToTrack nid room r (dir, rest, e, (a, h)) = absurd cc
 direction_room ToTrain nid room r (dir, rest, e, (a, h)) = omega (arith, length_room ToTrain nid room rest h, ap (λ (t : Reading). length (spelled t)) e, length-sent Q_DIR dir rest)
@@ -74,14 +74,14 @@ closed_room way room s p c' room' s' k o m e =
     let b = m.ahead_is in
     omega (arith, a, b, is)
 
--- and where they begin so
+-- and if they begin so
 pub begun_room : (way : Way) (room : ℕ) (c' : Carrier) (room' : ℕ) (s' : Stage) → ahead c' room' s' ≡ room → Same (left_of c' room' s') (PacketsIn (Message way) room) → s' ≡ stage.Closed → room' ≤ 7
 begun_room way room c' room' s' a same e =
     let none : left_of c' room' s' [] = rw e refl in
     let is : ahead c' room' s' ≡ room' = rw e refl in
     omega (arith, run_room way room [] ((same []).0 none), a, is)
 
--- where nothing may be left the packets are closed
+-- if nothing may be left, the packets are closed
 pub none_closed : (c : Carrier) (room : ℕ) (s : Stage) → IsTrue (is_stage c room s) → left_of c room s [] → is_closed s ≡ true
 none_closed c room s k h = by_test (is_closed s) refl
   where

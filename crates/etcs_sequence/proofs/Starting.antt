@@ -1,4 +1,4 @@
--- The tests of first bits say which numbers continue.
+-- The tests of first bits tell which numbers continue.
 use Rattle.std.proofs.Common.{◌≡◌, ℕ, ◌-◌, ◌/◌, ◌^◌, ◌<◌, ◌≤◌, Bool, sym, ap, ◌∙◌, arith}
 use Rattle.std.specs.Prelude.{IsTrue, ◌↔◌}
 use Rattle.etcs_vars.specs.declared.var.Var.{Var}

@@ -1,4 +1,4 @@
--- A packet with a row is one where its numbers are, and where its bits are.
+-- A packet with a row is one if its numbers are, and if its bits are.
 use Rattle.std.proofs.Common.{◌≡◌, ℕ, Bool, List, [], ◌∷◌, ◌++◌, length, Some, None, refl, sym, ap, subst, ◌∙◌}
 use Rattle.std.specs.Prelude.{map, All, Option}
 use Rattle.std.proofs.lemmas.Grind.{not_there}
@@ -57,7 +57,7 @@ one_by_bits way nid dir = one_by spelled way nid dir (same_bits way nid dir)
 pub more_made : {P : Type 0} (form : P → Form) (old new : List P) (p : P) (vs : List PacketValue) (v : PacketValue) → new ≡ old ++ p ∷ [] → vs ≡ map (λ p. (form p).value) old → All (λ p. (form p).made) old → v ≡ (form p).value → (form p).made → (vs ++ v ∷ [] ≡ map (λ p. (form p).value) new) × All (λ p. (form p).made) new
 more_made form old new p vs v is e made same one = rw is (rw (e, same) (sym (map_push (λ p. (form p).value) old p)), All-push (λ p. (form p).made) old p made one)
 
--- what is somewhere said to be none is none
+-- what is none in one place is none
 pub none_by : {A B : Type 0} (o : Option B) → ∥ A ∥₁ → (A → o ≡ None) → o ≡ None
 none_by None there is = refl
 none_by (Some b) there is = absurd (not_there there (λ a. (let e = is a in absurd cc)))

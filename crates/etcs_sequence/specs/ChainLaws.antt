@@ -1,4 +1,4 @@
--- What the reader asks of a reading of one language with one of another after it, which may depend on the first.
+-- A reading of one language with one of another after it, which may depend on the first, as the reader takes them.
 use Rattle.std.proofs.Common.{◌≡◌, ◌++◌}
 use Rattle.etcs_vars.specs.Reading.{Reading}
 

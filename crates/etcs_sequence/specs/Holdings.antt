@@ -1,4 +1,4 @@
--- What a reader of a language holds between two pieces.
+-- What a reader of a language holds between two pieces: whole variables, and the first bits of the next one.
 use Rattle.std.specs.Prelude.{◌≡◌, ℕ, ◌^◌, ◌<◌, Bool, List, ◌∷◌, ◌++◌}
 use Rattle.etcs_bits.specs.Bits.{num}
 use Rattle.etcs_vars.specs.declared.var.Var.{Var}
@@ -6,8 +6,9 @@ use Rattle.etcs_vars.specs.Vars.{width}
 use Rattle.etcs_vars.specs.Reading.{Reading, spelled, Owner}
 use Rattle.etcs_sequence.specs.Progress.{Progress, reading}
 
--- the bits b are those of whole variables, which the members say, and the first bits of the next one, with which each
--- reading of L continues after them that begins with b
+-- the bits b are those of whole variables, of which Members holds, and then `taken` bits, fewer than the next variable
+-- is wide, which are the number `part`; every reading of L that begins with b continues after the whole variables with
+-- the next one, which holds its next bit, and some reading begins with b
 pub record HeldIn (L Members : Reading → Type 0) (b : List Bool) (part taken : ℕ) : Type 0 where
   pub far : Reading
   pub next : Var
@@ -18,6 +19,6 @@ pub record HeldIn (L Members : Reading → Type 0) (b : List Bool) (part taken :
   pub owned : Owner L b next
   pub short : taken < width next
 
--- what a reader holds that wants more
+-- the progress is `reading b`, and HeldIn of the bits b
 abbrev pub IsHeld : {V : Type 0} → (L Members : Reading → Type 0) → Progress V → ℕ → ℕ → Type 0
 IsHeld L Members s part taken = (b : List Bool) × (s ≡ reading b) × HeldIn L Members b part taken

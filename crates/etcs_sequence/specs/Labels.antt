@@ -1,4 +1,4 @@
--- Variables with their numbers.
+-- Variables with their numbers, and how many bits they take.
 use Rattle.std.specs.Prelude.{ℕ, ◌+◌, List, [], ◌∷◌}
 use Rattle.etcs_vars.specs.declared.var.Var.{Var}
 use Rattle.etcs_vars.specs.Vars.{width}
@@ -15,7 +15,7 @@ abbrev pub widths : List Var → ℕ
 widths [] = 0
 widths (v ∷ vs) = width v + widths vs
 
--- and those of a reading
+-- how many bits the variables of a reading take
 abbrev pub widths_of : Reading → ℕ
 widths_of [] = 0
 widths_of (p ∷ r) = width p.0 + widths_of r

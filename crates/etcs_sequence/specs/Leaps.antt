@@ -1,4 +1,4 @@
--- From one variable of packets to another by several.
+-- From one variable of packets to another by several (SUBSET-026, 7.4 and 8).
 use Rattle.std.specs.Prelude.{◌≡◌, ℕ, ◌-◌, Bool, List, ◌++◌, length}
 use Rattle.etcs_vars.specs.declared.var.Var.TheVariants.{OTHER_DATA}
 use Rattle.etcs_vars.specs.Reading.{Reading, spelled, numbers, kept}
@@ -15,22 +15,24 @@ use Rattle.etcs_sequence.specs.declared.state.PacketsState.{PacketsState}
 abbrev pub IsFrontOf : Carrier → ℕ → ℕ → Reading → Type 0
 IsFrontOf c room bits p = Residual (PacketsIn c room) p (PacketsIn c (room - bits)) × (length (spelled p) ≡ bits)
 
--- by the variables p the first comes to the second
+-- by the variables p, what is left of packets at s becomes what is left at t
 abbrev pub Moves : PacketsState → Reading → PacketsState → Type 0
 Moves s p t = Moved s.carrier s.room s.stage p t.carrier t.room t.stage
 
--- p are numbers of a row, which are held after those so far
+-- the numbers of p are held after those so far of the row that is being read
 abbrev pub RowBecomes : PacketsState → Reading → Event → PacketsState → Type 0
 RowBecomes s p e t = (f : List ℕ) (k : List Bool) (h : Reading) → Here s.carrier s.stage f k h → After s.carrier t.stage (f ++ numbers p) k (h ++ p) e
 
--- b are bits of OTHER_DATA, which are kept after those so far
+-- the bits b of OTHER_DATA are kept after those so far
 abbrev pub KeptBecomes : PacketsState → List Bool → Event → PacketsState → Type 0
 KeptBecomes s b e t = (f : List ℕ) (k : List Bool) (h : Reading) → Here s.carrier s.stage f k h → After s.carrier t.stage f (k ++ b) (h ++ kept OTHER_DATA b) e
 
--- by p the first comes to the second, and what is held is that of all variables so far
+-- by the variables p, what is left of packets at s becomes what is left at t, and what H holds of the variables so far
+-- becomes what H' holds of these and p
 abbrev pub Follows : PacketsState → Holds → Reading → PacketsState → Holds → Type 0
 Follows s H p t H' = Moves s p t × ((q : Reading) → HoldsAt s.carrier s.stage H q → HoldsAt t.carrier t.stage H' (q ++ p))
 
--- and by n bits of xs from at on, after which something is left
+-- by n bits of xs from at on, what is left of packets at s becomes what is left at t, of which there is something, and
+-- what H holds becomes what H' holds
 abbrev pub Leaps : PacketsState → Holds → PacketsState → Holds → List Bool → ℕ → ℕ → Type 0
 Leaps s H t H' xs at n = LeapsBy (left_of t.carrier t.room t.stage) (λ p. Follows s H p t H') xs at n

@@ -41,7 +41,8 @@ abbrev pub after_framed : Way → ℕ → Stage
 after_framed ToTrain nid = Direction nid
 after_framed ToTrack nid = Length nid 0
 
--- the readings that are left; the room counts from the packet's first bit until its length is known
+-- the readings of packets that are left at a stage; the room counts from the packet's first bit until its length is
+-- known
 abbrev pub left_of : Carrier → ℕ → Stage → Reading → Type 0
 left_of c room Number = PacketsIn c room
 left_of c room Marker = MarkerLeft room
@@ -51,7 +52,7 @@ left_of c room (Row nid dir row) = Then (ReadsIn row.place row.len) (PacketsIn c
 left_of c room (Kept nid dir left) = Then (KeptIn left) (PacketsIn c room)
 left_of c room Closed = λ r. r ≡ []
 
--- how many bits of the room are left
+-- how many bits of the room are left after the variables that were read
 abbrev pub ahead : Carrier → ℕ → Stage → ℕ
 ahead c room Number = room
 ahead c room Marker = room - 8
@@ -61,16 +62,17 @@ ahead c room (Row nid dir row) = row.len + room
 ahead c room (Kept nid dir left) = left + room
 ahead c room Closed = room
 
--- more packets come, or packet 255
+-- more packets come, or packet 255, in a room of this many bits
 abbrev pub is_open : Carrier → ℕ → Bool
 is_open Telegram room = true
 is_open (Message way) room = nat_lt 7 room
 
+-- a telegram carries the packets
 abbrev pub is_telegram : Carrier → Bool
 is_telegram Telegram = true
 is_telegram (Message way) = false
 
--- what holds of what comes next
+-- the stage is one that packets in this room can come to
 abbrev pub is_stage : Carrier → ℕ → Stage → Bool
 is_stage c room Number = is_open c room
 is_stage c room Marker = is_telegram c
@@ -80,6 +82,7 @@ is_stage c room (Row nid dir row) = is_some (row_to (way_of c) nid) && (is_direc
 is_stage c room (Kept nid dir left) = is_kept (way_of c) nid && (is_direction (way_of c) dir && nat_lt 0 left)
 is_stage c room Closed = true
 
+-- nothing comes next: the packets are closed
 abbrev pub is_closed : Stage → Bool
 is_closed Number = false
 is_closed Marker = false
@@ -89,7 +92,7 @@ is_closed (Row nid dir row) = false
 is_closed (Kept nid dir left) = false
 is_closed Closed = true
 
--- memory may be asked for: where a packet or a list grows
+-- memory may be needed for what comes next: a packet is made, or a list grows
 abbrev pub may_grow : Stage → Bool
 may_grow Number = true
 may_grow Marker = true
@@ -101,7 +104,8 @@ may_grow Closed = false
 
 -- ---- From one variable to another.
 
--- by the variables p the first comes to the second
+-- by the variables p, what is left at the stage s of a room becomes what is left at s', the residual, and the bits of
+-- the room that are left become fewer by theirs
 pub record Moved (c : Carrier) (room : ℕ) (s : Stage) (p : Reading) (c' : Carrier) (room' : ℕ) (s' : Stage) : Type 0 where
   pub same : c' ≡ c
   pub residual : Residual (left_of c room s) p (left_of c' room' s')
@@ -109,7 +113,7 @@ pub record Moved (c : Carrier) (room : ℕ) (s : Stage) (p : Reading) (c' : Carr
 
 -- ---- The packet that is being read.
 
--- h are the frame and the numbers f of a row of which so much is left
+-- h are the frame and the first variables of a row, with the numbers f, after which `left` is left of it, in `len` bits
 pub record RowHere (way : Way) (nid dir : ℕ) (left : Layout) (len : ℕ) (f : List ℕ) (h : Reading) : Type 0 where
   pub row : Layout
   pub total : ℕ
@@ -121,7 +125,8 @@ pub record RowHere (way : Way) (nid dir : ℕ) (left : Layout) (len : ℕ) (f : 
   pub here : h ≡ in_frame way nid dir total read
   pub numbers_are : numbers read ≡ f
 
--- h are the variables so far of the packet that is being read, with the numbers f of its row or the bits k that are kept
+-- h are the variables so far of the packet that is being read, with the numbers f of its row or the bits k that are
+-- kept
 abbrev pub Here : Carrier → Stage → List ℕ → List Bool → Reading → Type 0
 Here c Number f k h = (f ≡ []) × (k ≡ []) × (h ≡ [])
 Here c Marker f k h = (f ≡ []) × (k ≡ []) × (h ≡ (NID_PACKET, 0) ∷ [])
@@ -141,11 +146,13 @@ keeps_at (Row nid dir row) = keep.Number
 keeps_at (Kept nid dir left) = keep.Bit
 keeps_at Closed = keep.Nothing
 
+-- the numbers f of a row, with n after them if it is one of them
 abbrev pub numbers_with : Keep → List ℕ → ℕ → List ℕ
 numbers_with keep.Nothing f n = f
 numbers_with keep.Number f n = f ++ n ∷ []
 numbers_with keep.Bit f n = f
 
+-- the kept bits k, with n after them if it is one of them
 abbrev pub bits_with : Keep → List Bool → ℕ → List Bool
 bits_with keep.Nothing k n = k
 bits_with keep.Number k n = k
@@ -164,16 +171,17 @@ Becomes c s x n e s' = (f : List ℕ) (k : List Bool) (h : Reading) → Here c s
 
 -- ---- All packets.
 
--- q are the variables so far: those of whole packets and those of the one that is being read, of which so much is held
+-- q are the variables so far: those of whole packets and those of the one that is being read, whose numbers or bits are
+-- held with the packets
 abbrev pub HoldsAt : Carrier → Stage → (List PacketValue → List ℕ → List Bool → Type 0) → Reading → Type 0
 HoldsAt c s holds q = (vs : List PacketValue) × (f : List ℕ) × (k : List Bool) × (h : Reading) × holds vs f k × All (Carries c) vs × Here c s f k h × (q ≡ readings_to (way_of c) vs ++ h)
 
 -- ---- A packet that is whole.
 
--- H holds as much of the packet that is being read as there is after an event
+-- H holds packets, and of the one that is being read, or that an event made whole, its numbers or bits
 abbrev pub MayFinish : Way → Holds → Event → Type 0
 MayFinish way H e = (c : Carrier) × (s : Stage) × (vs : List PacketValue) × (f : List ℕ) × (k : List Bool) × (h : Reading) × (way_of c ≡ way) × H vs f k × After c s f k h e
 
--- by it what H holds becomes what H' holds
+-- by an event what H holds becomes what H' holds: a packet that it made whole is after the others
 abbrev pub Finishes : Way → Holds → Holds → Event → Type 0
 Finishes way H H' e = (c : Carrier) (s : Stage) (vs : List PacketValue) (f : List ℕ) (k : List Bool) (h : Reading) → way_of c ≡ way → H vs f k → All (Carries c) vs → After c s f k h e → HoldsAt c s H' (readings_to (way_of c) vs ++ h)

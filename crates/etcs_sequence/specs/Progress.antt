@@ -1,4 +1,4 @@
--- What a reader of a language of values stands for, and what a feed returns.
+-- What a reader of a language of values stands for, its progress, and what a feed returns.
 use Rattle.std.specs.Prelude.{◌≡◌, ℕ, ◌+◌, ◌*◌, ◌%◌, ◌<◌, ◌≤◌, Bool, true, false, List, ◌++◌, length, take, Option, Some, None, is_some, Result, Ok, Err, IsTrue, if◌then◌else◌}
 use Rattle.etcs_vars.specs.declared.var.Var.{Var}
 use Rattle.etcs_vars.specs.declared.var.Var.TheVariants.{NID_MESSAGE, L_MESSAGE, T_TRAIN, M_ACK, NID_LRBG, NID_ENGINE, NID_EM, Q_ORIENTATION, D_SR, D_REF, Q_STATUS, Q_DIR, PAD, PADDING}
@@ -12,39 +12,42 @@ use Rattle.etcs_reader.specs.declared.feeder.Stop.{Stop}
 use Rattle.etcs_reader.specs.declared.feeder.Stop.TheVariants as stop
 use Rattle.etcs_reader.specs.Rests.{Goes}
 
--- it has taken these bits and wants more; it has a value; it refused a bit; a growth was refused after these many bits
+-- how far a reader came: it has taken these bits and expects more; it has a value; it refused this bit, which this
+-- variable holds; it was out of memory after this many accepted bits
 pub data Progress (V : Type 0) : Type 0 where
   reading : List Bool → Progress V
   finished : V → Progress V
   stopped : ℕ → Var → Progress V
   starved : ℕ → Progress V
 
--- how many leading bits were accepted, where a value has this many
+-- how many leading bits were accepted; of a finished value as many as it has
 abbrev pub seen_of : {V : Type 0} → (V → ℕ) → Progress V → ℕ
 seen_of size (reading b) = length b
 seen_of size (finished v) = size v
 seen_of size (stopped i x) = i
 seen_of size (starved n) = n
 
+-- the reader expects more: its progress is `reading`
 abbrev pub IsReading : {V : Type 0} → Progress V → Type 0
 IsReading (reading b) = Unit {0}
 IsReading (finished v) = ⊥
 IsReading (stopped i x) = ⊥
 IsReading (starved n) = ⊥
 
--- what each later feed returns
+-- what each later feed returns: `Refused` after `stopped`, `Memory` after `starved`, else `Ended`
 abbrev pub fault_of : {V : Type 0} → Progress V → ReadFault
 fault_of (reading b) = Ended
 fault_of (finished v) = Ended
 fault_of (stopped i x) = Refused i x
 fault_of (starved n) = Memory
 
+-- the fault that a feed returns after a stop
 abbrev pub fault_by : Stop → ReadFault
 fault_by (stop.Refused i x) = Refused i x
 fault_by stop.Memory = Memory
 
--- memory may be asked for at a variable of packets and at bits that are kept: no number of Q_DIR, PAD or PADDING is among
--- what grows
+-- memory may be needed at this variable: at any but Q_DIR, PAD, PADDING, and those that are in the front of a message
+-- alone, as NID_MESSAGE, L_MESSAGE and T_TRAIN
 abbrev pub asks_memory : Var → Bool
 asks_memory NID_MESSAGE = false
 asks_memory L_MESSAGE = false
@@ -61,14 +64,16 @@ asks_memory PAD = false
 asks_memory PADDING = false
 asks_memory v = true
 
--- NID_LRBG is in packets to the track, and ends the 75 bits of the header of a message to the train, in which none is asked
--- for
+-- the bits after which memory may be needed at this variable: at NID_LRBG 75, so not in the header of a message to the
+-- track, which it ends
 abbrev pub asked_from : Var → ℕ
 asked_from NID_LRBG = 75
 asked_from v = 0
 
--- the bits seen and the new ones together, the answer, and the progress after it: a value as it is kept stands for
--- one that has readings, and memory is refused after this many bits alone, at a variable that asks for it
+-- the result of a feed is the outcome of the bits seen and the new ones together, with the progress after it: `More` of
+-- `more`, `Done` of `done` with the bits seen and those of the bytes taken, and an admitted value, `Refused` of
+-- `refused`; `Memory` only after a number of bits, at least `least`, no fewer than were seen and fewer than all, with
+-- the next of which a reading continues, and which a variable holds at which memory may be needed
 abbrev pub Feeds : {V W : Type 0} → (W → Reading → Type 0) → (V → W) → (V → Type 0) → ℕ → List Bool → List Bool → Result Fed ReadFault → Progress V → Type 0
 Feeds {V} Reads value IsValue least seen new (Ok More) s = (s ≡ reading (seen ++ new)) × IsOutcome Reads (seen ++ new) more
 Feeds {V} Reads value IsValue least seen new (Ok (Done k)) s = (v : V) × (s ≡ finished v) × IsValue v × (8 * k ≤ length new) × IsOutcome Reads (seen ++ new) (done (value v) (length seen + 8 * k))
@@ -78,14 +83,14 @@ Feeds {V} Reads value IsValue least seen new (Err Ended) s = ⊥
 
 -- ---- The progress by what is kept.
 
--- the variable that comes next, the bits so far, the value where nothing comes, how many bits were taken, and why no more
--- are
+-- the progress by the variable that comes next, the bits so far, the value if nothing comes, how many bits were taken,
+-- and why no more are
 abbrev pub progress_by : {V : Type 0} → Option Var → List Bool → V → ℕ → Option Stop → Progress V
 progress_by next seen v count None = if is_some next then reading seen else finished v
 progress_by next seen v count (Some (stop.Refused i x)) = stopped i x
 progress_by next seen v count (Some stop.Memory) = starved count
 
--- it has come by the variables far, of which so much is held, and the bits part of the next one to what is left of L
+-- a reader has come by the variables far, which `holds`, and the bits part of the next one to what is left of L
 pub record Reached (L left holds : Reading → Type 0) (far : Reading) (part : List Bool) (count : ℕ) : Type 0 where
   pub residual : Residual L far left
   pub goes : Goes left
@@ -94,7 +99,8 @@ pub record Reached (L left holds : Reading → Type 0) (far : Reading) (part : L
   pub counted : count ≡ length (spelled far ++ part)
   pub bytes : count % 8 ≡ 0
 
--- between two pieces the bytes are whole; after a refused bit it has counted those before it
+-- what holds of a reader between two pieces: what it has come to, of whole bytes, if it hasn't stopped; after a refused
+-- bit that it has counted those before it
 abbrev pub IsReader : (L left holds : Reading → Type 0) → Reading → List Bool → ℕ → Option Stop → Type 0
 IsReader L left holds far part count None = Reached L left holds far part count
 IsReader L left holds far part count (Some (stop.Refused i x)) = count ≡ i

@@ -9,21 +9,21 @@ use Rattle.etcs_packets.specs.PacketReadings.{packet_reading, packets_reading}
 abbrev pub IsPacketBits : List Bool → Type 0
 IsPacketBits b = (v : PacketValue) × IsPacket v × (spelled (packet_reading v) ≡ b)
 
--- this many packets one after another, and anything after them
+-- these bits are n packets one after another, and anything after them
 abbrev pub ArePackets : ℕ → List Bool → Type 0
 ArePackets n b = (vs : List PacketValue) × (c : List Bool) × All IsPacket vs × (length vs ≡ n) × (b ≡ spelled (packets_reading vs) ++ c)
 
--- the bits of each packet, in order
+-- the spelling of each packet to the train, in order
 abbrev pub spellings : List PacketValue → List (List Bool)
 spellings vs = map (λ v. spelled (packet_reading v)) vs
 
--- ---- By the lengths that the bits themselves say.
+-- ---- By the lengths in the bits themselves.
 
--- how many bits the packet takes that these begin with: packet 0 has no L_PACKET
+-- how many bits the packet takes that these begin with: 14 of packet 0, else the number of L_PACKET
 abbrev pub bits_ahead : List Bool → ℕ
 bits_ahead b = if value (part 0 8 b) == 0 then 14 else value (part 10 13 b)
 
--- the bits of each of the first n packets, in order
+-- the bits of each of the first n packets, in order, by the lengths in the bits themselves
 abbrev pub refs : ℕ → List Bool → List (List Bool)
 refs zero b = []
 refs (suc n) b = take (bits_ahead b) b ∷ refs n (drop (bits_ahead b) b)
@@ -34,11 +34,14 @@ BeginsWithPacket b = (v : PacketValue) × (c : List Bool) × IsPacket v × (b �
 
 -- ---- By the kind of the packet.
 
+-- these bits are packet 0's
 abbrev pub IsMarkerBits : List Bool → Type 0
 IsMarkerBits b = (n : ℕ) × IsPacket (marker n) × (spelled (packet_reading (marker n)) ≡ b)
 
+-- these bits are those of a typed packet of this number
 abbrev pub IsTypedBits : ℕ → List Bool → Type 0
 IsTypedBits nid b = (dir : ℕ) × (r : Reading) × IsPacket (typed nid dir r) × (spelled (packet_reading (typed nid dir r)) ≡ b)
 
+-- these bits are those of a kept packet of this number
 abbrev pub IsKeptBits : ℕ → List Bool → Type 0
 IsKeptBits nid b = (dir : ℕ) × (body : List Bool) × IsPacket (kept nid dir body) × (spelled (packet_reading (kept nid dir body)) ≡ b)

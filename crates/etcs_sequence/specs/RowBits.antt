@@ -1,4 +1,4 @@
--- A row whose bits are all there.
+-- A row whose bits are all there (SUBSET-026, 7.4).
 use Rattle.std.specs.Prelude.{◌≡◌, ℕ, ◌+◌, ◌≤◌, Bool, List, length}
 use Rattle.etcs_bits.specs.Bits.{part}
 use Rattle.etcs_vars.specs.Reading.{Reading, spelled}

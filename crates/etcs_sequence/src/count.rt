@@ -9,7 +9,8 @@ use etcs_tables::{Way, row_of};
 use etcs_vars::Var;
 use std::alloc::AllocError;
 
-/// How many packets were read. Takes no memory.
+/// How many packets were read, modulo 2^64. Takes no memory: as a [`PacketStore`] it never returns that it is out of
+/// it.
 #[derive(Clone, Copy, Debug, PartialEq, Eq, Drop)]
 pub struct PacketCount {
     /// Wraps round after the largest `usize`, which no room of packets reaches.

@@ -1,4 +1,4 @@
-//! What a reader returns where no more is taken.
+//! What a reader returns once it takes no more.
 
 ghost use Rattle.std.specs.Prelude.{◌≡◌};
 ghost use Rattle.etcs_sequence.specs.Progress.{fault_by};
@@ -6,7 +6,7 @@ ghost use Rattle.etcs_sequence.specs.Progress.{fault_by};
 use etcs_reader::Stop;
 use etcs_vars::ReadFault;
 
-/// The fault that a feed returns.
+/// The fault that a feed returns after this stop: `Refused` with the bit and its variable, or `Memory`.
 pub fn fault_by(stop: Stop) -> ReadFault
     ensures { result ≡ fault_by stop }
 {

@@ -10,12 +10,14 @@ use crate::item::{ItemReader, ItemRest};
 use etcs_vars::{Fed, ReadFault};
 use std::alloc::AllocError;
 
-/// The item that these bytes begin with, by a reader that has read none, and how many bytes it has. `None` where they
-/// begin with no whole item.
+/// The item of the reader's size that these bytes begin with, one that its type admits, and how many of the first bytes
+/// are its spelling. `None` only if no front of the bytes is the spelling of an item of this size.
+///
+/// Requires that the reader has taken no bits.
 ///
 /// # Errors
 ///
-/// `AllocError` where the reader was refused memory.
+/// `AllocError`: the reader is out of memory.
 pub fn first_item<R: ItemRest>(
     reader: ItemReader<R>,
     bytes: &[u8],

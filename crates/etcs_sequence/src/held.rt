@@ -3,7 +3,7 @@
 use etcs_bits::BitSlice;
 
 /// What a reader holds between two pieces: with the header's numbers and the frame of the packet that is being read,
-/// all that the bits so far say. `P` is the type of its packets.
+/// all of the bits so far. `P` is the type of its packets.
 #[derive(Debug, Drop)]
 pub struct Held<'a, P> {
     /// The whole packets, in order.

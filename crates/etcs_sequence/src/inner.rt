@@ -1,5 +1,5 @@
-//! For the crates above: bits and numbers that a piece or a slice holds, packets in bits that are known to hold them, and
-//! the item that bytes begin with.
+//! For the crates above: bits and numbers that a piece or a slice holds, packets in bits that are known to hold them,
+//! and the item that bytes begin with.
 
 ghost use Rattle.std.specs.Prelude.{◌≡◌, List, Bool, ◌++◌, length, All};
 ghost use Rattle.etcs_vars.specs.Reading.{spelled};
@@ -15,7 +15,8 @@ pub use crate::run::{Run, take_run};
 use etcs_bits::BitSlice;
 pub use etcs_reader::inner::number_at;
 
-/// The first `count` packets in these bits. Anything may follow them.
+/// The first `count` packets in these bits, each its spelling, in order; nothing is copied. Requires that the
+/// bits begin with that many packets to the train; anything may follow them.
 pub fn packets<'a>(rest: BitSlice<'a>, count: usize) -> Packets<'a>
     requires { ArePackets count rest }
     ensures { (vs : List PacketValue) (c : List Bool) → All IsPacket vs → length vs ≡ count → rest.entry ≡ spelled (packets_reading vs) ++ c → result ≡ spellings vs }

@@ -26,7 +26,8 @@ use std::mem;
 /// The most bytes whose bits a word counts.
 const MOST_NEAR: usize = usize::MAX / 8;
 
-/// What is left of an item whose packets go to a list, and the item that is made of what is kept of it.
+/// What is left of an item whose packets go to a list, and the item that is made of what is kept of it. The readers of
+/// telegrams and of messages are [`ItemReader`]s over one.
 pub trait ItemRest: Rest + Drop {
     /// What is known of the item's size before its first bit.
     type Size: Copy;
@@ -53,16 +54,16 @@ pub trait ItemRest: Rest + Drop {
     /// The most bytes that an item of this size has.
     ghost most: { Self.Size → ℕ };
 
-    /// Memory is refused after this many bits alone.
+    /// The reader is out of memory only after at least this many bits.
     ghost least: { ℕ };
 
     /// The variables that were read.
     ghost far: { Self → Reading };
 
-    /// These variables were read, and so much is kept of them.
+    /// These variables were read, and what is kept is theirs.
     ghost holds: { Self.Size → Self → Reading → Type 0 };
 
-    /// The item, where nothing is left.
+    /// The item, if nothing is left of it.
     ghost made: { Self → Self.Item };
 
     ghost store: { Self → PacketList Self.Packet };
@@ -79,9 +80,12 @@ pub trait ItemRest: Rest + Drop {
         ensures left { Same (Self.left result) (readings_of (Reads size)) }
         ensures holds { holds size result [] };
 
-    /// The item of this size that a piece begins with, where it lies whole in it, and how many bytes it has. It may
-    /// always return `None`, as where the piece begins with no such item, and where memory is refused. In `part` it may
-    /// then put what is left after this many bits of the piece.
+    /// The item of this size that a piece begins with, one that its type admits, and how many of the first bytes of the
+    /// piece are its spelling. It may always return `None`, for instance if the piece begins with no such item or if
+    /// out of memory, so `None` alone means nothing. In `part` it may then put what is left of an item after the first
+    /// bits of the piece, and how many they are.
+    ///
+    /// Requires that `part` is `None`, and that a word counts the bits of the piece.
     fn whole(
         room: &mut Room<Self::Packet>,
         size: Self::Size,
@@ -96,18 +100,19 @@ pub trait ItemRest: Rest + Drop {
         ensures left { IfSome result (λ t. part.new ≡ None) }
         ensures part { IfSome part.new (λ t. IsPart Self.left Self.follows (holds size) (Reads size) (most size) (bit_lists.bits piece.now) t.0 t.1) };
 
-    /// Takes the room of an item that isn't needed any more.
+    /// Takes the room of an item that isn't needed any more. It has no contract.
     fn reuse(item: Self::Item, room: &mut Room<Self::Packet>);
 
     /// Where the packets go.
     fn store(&self) -> &PacketList<Self::Packet>
         ensures { result.now ≡ store self.now };
 
-    /// Sends the variables that were read, which take this many bits.
+    /// Sends the variables that were read, in order. Requires that something can follow them, that what is kept
+    /// is theirs, and that they take `taken` bits.
     ///
     /// # Errors
     ///
-    /// That of the sink.
+    /// `AllocError`: the sink failed; its `failed` then holds.
     fn send<S: VarSink>(&self, taken: usize, out: &mut S) -> Result<(), AllocError>
         requires goes { Goes (Self.left self.now) }
         requires holds { (size : Self.Size) × holds size self.now (far self.now) }
@@ -115,7 +120,8 @@ pub trait ItemRest: Rest + Drop {
         ensures ok { OnOk result (out.new ≡ S.with out.old (far self.now)) }
         ensures err { OnErr result (S.failed out.old out.new) };
 
-    /// The item, where nothing is left of it.
+    /// The item that is made of what was read. Requires that nothing is left of it, that the variables that were
+    /// read are those of an item of this size, and that what is kept is theirs.
     fn into_item(self, size: Self::Size) -> Self::Item
         requires ended { Self.next self ≡ None }
         requires whole { readings_of (Reads size) (far self) }
@@ -124,7 +130,7 @@ pub trait ItemRest: Rest + Drop {
 }
 
 /// Reads an item from pieces of any length. It keeps none of the bytes: only what the rest keeps, and the
-/// bits of one unfinished variable, or the item where it was whole in the first piece.
+/// bits of one unfinished variable, or the item if it was whole in the first piece.
 #[derive(Drop)]
 pub struct ItemReader<R: ItemRest> {
     size: R::Size,
@@ -133,8 +139,8 @@ pub struct ItemReader<R: ItemRest> {
     done: Option<(R::Item, usize)>,
     /// Room for the next item.
     room: Room<R::Packet>,
-    /// What is left of the item after one pass over the first piece, and how many bits of the piece the pass took. `None`
-    /// except while that piece is fed.
+    /// What is left of the item after one pass over the first piece, and how many bits of the piece the pass took.
+    /// `None` except while that piece is fed.
     part: Option<(R, usize)>,
 }
 
@@ -149,7 +155,7 @@ impl<R: ItemRest> Model for ItemReader<R> {
     ghost invariant = { λ r. IsItemReader R R.Item R.Shown R.Packet R.left R.next R.follows R.fails R.far (R.holds r.size) (R.Reads r.size) R.value R.IsValue R.bits R.made R.store R.Members (R.most r.size) R.least r.feeder × IsDone R.IsValue R.bits r.done (progress_at R.next R.far R.made r.feeder) × (r.part ≡ None) };
 }
 
-/// What a feed of the item returns, given the feeder's result: the item is whole where nothing is left.
+/// What a feed of the item returns, given the feeder's result: the item is whole if nothing is left.
 fn fed<R: Rest>(feeder: &Feeder<R>, answer: Result<usize, Stop>) -> Result<Fed, ReadFault>
     ensures { IsFed R.left R.next feeder.now answer result }
 {
@@ -188,8 +194,8 @@ fn feed_part<R: ItemRest>(
     }
 }
 
-/// A reader that has taken the first `at` bits of a first piece, after which `rest` is left, and takes the others variable by
-/// variable; and what it returns for the whole piece.
+/// A reader that has taken the first `at` bits of a first piece, after which `rest` is left, and takes the others
+/// variable by variable; and what it returns for the whole piece.
 fn feed_after<R: ItemRest>(
     size: R::Size,
     rest: R,
@@ -207,7 +213,7 @@ fn feed_after<R: ItemRest>(
     (feeder, answer)
 }
 
-/// Takes the next piece variable by variable, where something is left of the item.
+/// Takes the next piece variable by variable; something is left of the item.
 fn feed_next<R: ItemRest>(
     size: R::Size,
     feeder: &mut Feeder<R>,
@@ -228,7 +234,10 @@ fn feed_next<R: ItemRest>(
 impl<R: ItemRest> ItemReader<R> {
     ghost use Rattle.etcs_sequence.specs.Progress.{Feeds, IsReading, fault_of, seen_of, reading, finished};
 
-    /// A reader of an item of this size, of which all is left.
+    /// A reader of an item of this size, which has taken no bits.
+    ///
+    /// Requires the facts about what is left of an item that a reader rests on (`Readable`), and that all of an
+    /// item of this size is left in `rest`, of which nothing is kept.
     pub fn new(size: R::Size, rest: R) -> Self
         requires readable { Readable R R.Item R.Shown R.Packet R.left R.next R.follows R.fails R.far (R.holds size) (R.Reads size) R.value R.IsValue R.bits R.made R.store R.Members (R.most size) R.least }
         requires same { Same (R.left rest) (readings_of (R.Reads size)) }
@@ -245,7 +254,8 @@ impl<R: ItemRest> ItemReader<R> {
         }
     }
 
-    /// How many leading bits were accepted, over all pieces.
+    /// How many leading bits were accepted, over all pieces: all of them while more are expected; after `Done` those of
+    /// the item; after `Refused` those before the refused bit; after `Memory` those before the bit at which it stopped.
     pub fn bits_seen(&self) -> usize
         ensures { result ≡ seen_of R.bits self.now.progress }
     {
@@ -255,14 +265,22 @@ impl<R: ItemRest> ItemReader<R> {
         }
     }
 
-    /// Takes the next piece: `More` where all of it was taken and the item isn't whole yet, `Done` with the
-    /// number of its bytes up to the item's end.
+    /// Takes the next piece, and returns the exact outcome of all bits so far, however they were cut, against the items
+    /// of this size: `Done` with the number of bytes of this piece up to the item's end, if the bits up to there spell
+    /// an item; `More` if the bits begin an item's spelling and no front of them is one.
     ///
     /// # Errors
     ///
-    /// `Refused` with the first bit, counted from 0 over all pieces, with which no item continues, and the
-    /// variable that holds it; `Memory` where memory is refused at a bit with which an item continues; `Ended`
-    /// where the item was whole before. The reader then returns the same for each later piece.
+    /// - `Refused` with the first bit, counted from 0 over all pieces, with which no item continues, and the variable
+    ///   that holds it.
+    /// - `Memory`: out of memory, at a bit with which an item continues, after at least `least` bits and no fewer than
+    ///   those of the pieces before. One variable holds this bit in every item that begins with the bits before it, and
+    ///   it is one for which memory may be needed (`asks_memory`). No clause says that memory was in fact refused, nor
+    ///   that no bit of the piece was to be refused.
+    /// - `Ended`: the item was whole before this piece.
+    ///
+    /// After `Done`, `Refused` or `Memory` the reader stays as it is, and returns `Ended`, the same `Refused` or
+    /// `Memory` for each later piece.
     pub fn feed(&mut self, piece: &[u8]) -> Result<Fed, ReadFault>
         ensures answer { (seen : List Bool) → self.old.progress ≡ reading seen → Feeds (R.Reads self.old.size) R.value R.IsValue R.least seen (bits piece.now) result self.new.progress }
         ensures after { (IsReading self.old.progress → ⊥) → (self.new ≡ self.old) × (result ≡ Err (fault_of self.old.progress)) }
@@ -277,7 +295,7 @@ impl<R: ItemRest> ItemReader<R> {
         self.feed_on(piece)
     }
 
-    /// Takes the first piece: the item where it lies whole in it, else what one pass found of it, and then the rest
+    /// Takes the first piece: the item if it lies whole in it, else what one pass found of it, and then the rest
     /// variable by variable.
     #[inline(always)]
     fn feed_first(&mut self, piece: &[u8]) -> Result<Fed, ReadFault>
@@ -311,8 +329,9 @@ impl<R: ItemRest> ItemReader<R> {
         feed_next(self.size, &mut self.feeder, piece)
     }
 
-    /// What it holds between two pieces: the whole packets, the numbers or kept bits of what is being read,
-    /// and the unfinished variable. `None` after `Done`, `Refused` or `Memory`.
+    /// What it holds between two pieces: the whole packets, the numbers or kept bits of what is being read, and the
+    /// first bits of the variable that comes next, with which every item continues that begins with the bits so far.
+    /// `None` exactly after `Done`, `Refused` or `Memory`.
     pub fn held(&self) -> Option<Held<'_, R::Packet>>
         ensures some { IfSome result (λ h. IsHeld (readings_of (R.Reads self.now.size)) (R.Members h.packets.now h.numbers.now h.kept) self.now.progress h.part h.taken) }
         ensures none { IsNone result → IsReading self.now.progress → ⊥ }
@@ -331,11 +350,11 @@ impl<R: ItemRest> ItemReader<R> {
         })
     }
 
-    /// The item, once `feed` has answered `Done`.
+    /// The item, returned exactly if it is whole, that is if `feed` has returned `Done`.
     ///
     /// # Errors
     ///
-    /// The reader itself, as it was, where there is no whole item.
+    /// The reader itself, as it was: the item isn't whole.
     #[inline(always)]
     pub fn take(self) -> Result<R::Item, Self>
         ensures { MatchResult result (λ t. self.progress ≡ finished t) (λ r. (r ≡ self) × ((t : R.Item) → self.progress ≢ finished t)) }
@@ -355,8 +374,8 @@ impl<R: ItemRest> ItemReader<R> {
         }
     }
 
-    /// The item, once `feed` has answered `Done`. The reader then reads another of the same size, from its first bit.
-    /// `None` where there is no whole item; the reader stays as it was.
+    /// The item, if it is whole, that is if `feed` has returned `Done`; the reader then has no bits, and reads another
+    /// of the same size. `None` exactly if the item isn't whole; the reader then stays as it was.
     #[inline(always)]
     pub fn take_next(&mut self) -> Option<R::Item>
         ensures some { IfSome result (λ t. (self.old.progress ≡ finished t) × (self.new.progress ≡ reading [])) }
@@ -369,7 +388,8 @@ impl<R: ItemRest> ItemReader<R> {
         }
     }
 
-    /// Takes the room of an item that isn't needed any more for the next ones.
+    /// Takes the room of an item that isn't needed any more for the next ones. The reader stays as it was; no clause
+    /// says that it uses the room.
     #[inline(always)]
     pub fn reuse(&mut self, item: R::Item)
         ensures { self.new ≡ self.old }

@@ -47,7 +47,7 @@ pub(crate) fn marker_packet(bits: &BitSlice<'_>) -> Packet
     }
 }
 
-/// A typed packet of this number.
+/// The typed packet of this number that the bits spell.
 pub(crate) fn typed_packet(
     alloc: Global,
     nid: u8,
@@ -67,7 +67,7 @@ pub(crate) fn typed_packet(
     }
 }
 
-/// A packet of this number, which is kept as bits.
+/// The packet of this number that the bits spell, which is kept as bits.
 pub(crate) fn kept_packet(alloc: Global, nid: u8, bits: &BitSlice<'_>) -> Result<Packet, AllocError>
     requires { IsKeptBits nid bits.now }
     ensures whole { IfOk result (λ p. IsWhole p) }

@@ -2,7 +2,7 @@
 
 ghost use Rattle.etcs_sequence.specs.Spellings.{OneSpelling};
 
-/// Packets of one room with one spelling are the same, and no spelling of them begins another.
+/// Packets of one room with one spelling are the same packets, and no spelling of such packets begins another.
 pub fn one_spelling()
     ensures { OneSpelling }
 {}

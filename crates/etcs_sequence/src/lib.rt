@@ -1,9 +1,10 @@
-//! Packets one after another in a room of bits, as telegrams and messages hold them.
+//! Packets one after another in a room of bits, with what closes them, as telegrams and messages hold them; and the
+//! reader of every item, [`ItemReader`], over what is left of one ([`ItemRest`]).
 //!
 //! [`PacketsRest`] is what is left of packets in a room. What is read goes into a [`PacketStore`]:
 //! [`PacketList`] makes packets of it, [`PacketCount`] counts them and takes no memory. [`Packets`] are
-//! those in bytes of the caller's, which aren't copied. `specs/Progress.antt` and `proofs/Feeding.antt` say
-//! what a reader of any such language is and returns.
+//! those in bytes of the caller's, which aren't copied. `specs/Progress.antt` has what a reader of any such language is
+//! and returns.
 #![tactic(auto)]
 
 mod count;

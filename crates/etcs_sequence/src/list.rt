@@ -10,7 +10,8 @@ use etcs_packets::inner::AnyPacket;
 use std::alloc::{AllocError, Global};
 use std::mem;
 
-/// The packets that were read, and the numbers or bits of the one that is being read.
+/// The packets that were read, and the numbers or bits of the one that is being read. As a [`PacketStore`] it holds
+/// exactly these packets, numbers and bits.
 #[derive(Drop)]
 pub struct PacketList<P: AnyPacket> {
     pub alloc: Global,
@@ -22,7 +23,7 @@ pub struct PacketList<P: AnyPacket> {
 }
 
 impl<P: AnyPacket> PacketList<P> {
-    /// Nothing yet. Takes no memory.
+    /// A list of no packets, numbers or bits. Takes no memory.
     pub fn new(alloc: Global) -> PacketList<P>
         ensures packets { result.packets.items ≡ [] }
         ensures numbers { result.numbers.items ≡ [] }

@@ -13,22 +13,22 @@ use etcs_packets::inner::AnyPacket;
 pub trait ListStore<P: AnyPacket>: PacketStore + Drop {
     ghost list: { Self → PacketList P };
 
-    /// A store of nothing yet, over a list of nothing.
+    /// A store that holds nothing, over this list. Requires that the list has no packets, numbers or bits.
     fn over(packets: PacketList<P>) -> Self
         requires packets { packets.packets.items ≡ [] }
         requires numbers { packets.numbers.items ≡ [] }
         requires bits { packets.bits ≡ [] }
         ensures { Self.holds result [] [] [] };
 
-    /// The packets.
+    /// Its list, which has what the store holds.
     fn list(&self) -> &PacketList<P>
         ensures { result.now ≡ list self.now };
 
-    /// The packets.
+    /// Its list, which has what the store holds.
     fn into_list(self) -> PacketList<P>
         ensures { result ≡ list self };
 
-    /// They go the store's way.
+    /// The packets of its list go the store's way.
     ghost way_is: { P.WAY ≡ Self.WAY };
 
     /// What it holds is in the list.

@@ -15,7 +15,8 @@ use etcs_tables::{Way, row_of};
 use std::alloc::{AllocError, Global};
 use std::marker::Model;
 
-/// One packet in bytes of the caller's, which aren't copied (SUBSET-026, 7.4): its bits, from NID_PACKET on.
+/// One packet to the train in bytes of the caller's, which aren't copied (SUBSET-026, 7.4): its bits, from NID_PACKET
+/// on, which spell exactly one packet.
 #[derive(Debug, Drop)]
 pub struct PacketRef<'a> {
     bits: BitSlice<'a>,
@@ -41,14 +42,15 @@ impl<'a> PacketRef<'a> {
         PacketRef { bits }
     }
 
-    /// NID_PACKET.
+    /// NID_PACKET of the packet that these bits spell.
     pub fn nid(&self) -> u8
         ensures { (v : PacketValue) → IsPacket v → spelled (packet_reading v) ≡ self.now → result ≡ nid_of v }
     {
         number_in(&self.bits, 0, 8) as u8
     }
 
-    /// The packet's bits, its frame among them: 14 of packet 0, of another as many as L_PACKET says, 23 to 8,191.
+    /// The packet's bits, its frame among them, which spell a packet: 14 of packet 0, of another as many as L_PACKET
+    /// counts, 23 to 8,191.
     pub fn bits(&self) -> BitSlice<'a>
         ensures bits { result ≡ self.now }
         ensures packet { IsPacketBits self.now }
@@ -56,11 +58,11 @@ impl<'a> PacketRef<'a> {
         cut_in(&self.bits, 0, self.bits.len())
     }
 
-    /// The packet with values of its own. Takes memory where it holds a list or bits.
+    /// The packet that these bits spell, with values of its own. Takes memory if it holds a list or bits.
     ///
     /// # Errors
     ///
-    /// `AllocError` where there is no memory.
+    /// `AllocError`: out of memory.
     pub fn to_packet(&self, alloc: Global) -> Result<Packet, AllocError>
         ensures whole { IfOk result (λ p. IsWhole p) }
         ensures bits { IfOk result (λ p. spelled (packet_reading (packet_value p)) ≡ self.now) }

@@ -29,7 +29,10 @@ use etcs_tables::{CLOSING, CLOSING_BITS};
 use etcs_vars::Var;
 use std::alloc::AllocError;
 
-/// What is left of packets one after another in a room of bits, and where those go that were read.
+/// What is left of packets one after another in a room of bits, and the store of those that were read: a [`Rest`].
+/// After each variable, and after several that are taken at once (packet 255, whole packets, a run of a row's variables
+/// or of kept bits), what is left is the residual of the packets' language, and the store holds the packets that were
+/// read and the numbers or bits of the one that is being read.
 #[derive(Drop)]
 pub struct PacketsRest<S: PacketStore> {
     pub left: PacketsState,
@@ -40,7 +43,7 @@ pub struct PacketsRest<S: PacketStore> {
     pub ghost held: { ∥ (is_closed left.stage ≡ false → ((q : Reading) × HoldsAt left.carrier left.stage (S.holds store) q)) ∥₁ },
 }
 
-/// What the store answered. Where it was refused memory, nothing more is wanted, and the function returns.
+/// What the store returned. If it is out of memory, nothing more is expected, and the function returns.
 macro_rules! stored {
     ($this:ident, $answer:expr) => {
         match $answer {
@@ -53,7 +56,7 @@ macro_rules! stored {
     };
 }
 
-/// Keeps what a number says, which goes to a row's numbers or to kept bits.
+/// Keeps a number among a row's numbers or the kept bits, or nowhere.
 fn absorb<S: PacketStore>(store: &mut S, keep: Keep, number: u64) -> Result<(), AllocError>
     requires { keep ≡ Keep.Bit → ∥ ((vs : List PacketValue) × ((f : List ℕ) × ((k : List Bool) × (S.holds store.old vs f k × (length k < 8191))))) ∥₁ }
     ensures ok { OnOk result ((vs : List PacketValue) (f : List ℕ) (k : List Bool) → S.holds store.old vs f k → S.holds store.new vs (numbers_with keep f number) (bits_with keep k number)) }
@@ -96,7 +99,10 @@ fn finish<S: PacketStore>(store: &mut S, event: Event) -> Result<(), AllocError>
 }
 
 impl<S: PacketStore> PacketsRest<S> {
-    /// All packets of a room of this many bits, and a store that holds none.
+    /// All packets of a room of this many bits, and this store, which holds nothing.
+    ///
+    /// Requires that the store's packets go the carrier's way, that the room has at most 8,191 bits, and that
+    /// the store holds nothing.
     pub fn new(carrier: Carrier, room: usize, store: S) -> PacketsRest<S>
         requires way { way_of carrier ≡ S.WAY }
         requires small { room ≤ 8191 }
@@ -114,7 +120,10 @@ impl<S: PacketStore> PacketsRest<S> {
         }
     }
 
-    /// All packets of a room of this many bits again, where the store holds none yet.
+    /// All packets of a room of this many bits again, over the same store, which holds nothing yet.
+    ///
+    /// Requires that the store's packets go the carrier's way, that the room has at most 8,191 bits, and that
+    /// the store holds nothing.
     pub fn start(&mut self, carrier: Carrier, room: usize)
         requires way { way_of carrier ≡ S.WAY }
         requires small { room ≤ 8191 }
@@ -152,12 +161,12 @@ impl<S: PacketStore> PacketsRest<S> {
         Some(CLOSING_BITS)
     }
 
-    /// Takes the packet with a frame that begins at `at`, if it lies whole in the piece, and returns how many bits it has. It
-    /// may always return `None`.
+    /// Takes the packet with a frame that begins at `at`, if it lies whole in the piece, and returns how many bits it
+    /// has. It may always return `None`.
     ///
     /// # Errors
     ///
-    /// If memory is refused. Nothing more is wanted then, and no clause says what the store holds.
+    /// `AllocError`: out of memory. Nothing more is expected then, and no clause says what the store holds.
     fn leap_packet(&mut self, piece: &[u8], at: usize) -> Result<Option<usize>, AllocError>
         requires stage { self.old.left.stage ≡ Stage.Number }
         requires inside { at < length (bits piece.now) }
@@ -181,8 +190,8 @@ impl<S: PacketStore> PacketsRest<S> {
         Ok(Some(len))
     }
 
-    /// Takes packets from `at` on, one after another, up to the first that [`PacketsRest::leap_packet`] doesn't take, and
-    /// returns how many bits they have; `None` if it takes none.
+    /// Takes packets from `at` on, one after another, up to the first that [`PacketsRest::leap_packet`] doesn't take,
+    /// and returns how many bits they have; `None` if it takes none.
     ///
     /// # Errors
     ///
@@ -211,12 +220,12 @@ impl<S: PacketStore> PacketsRest<S> {
         Ok(Some(place - at))
     }
 
-    /// Takes the next variables of a row as far as the piece has them whole, if the row can end in its bits after them, and
-    /// returns how many bits they have.
+    /// Takes the next variables of a row as far as the piece has them whole, if the row can end in its bits after them,
+    /// and returns how many bits they have.
     ///
     /// # Errors
     ///
-    /// If memory is refused. Nothing more is wanted then, and no clause says what the store holds.
+    /// `AllocError`: out of memory. Nothing more is expected then, and no clause says what the store holds.
     #[inline(never)]
     fn leap_row(
         &mut self,
@@ -251,11 +260,11 @@ impl<S: PacketStore> PacketsRest<S> {
         Ok(Some(taken))
     }
 
-    /// Takes a run of OTHER_DATA, of which `left` bits are wanted, and returns how many bits it took.
+    /// Takes a run of OTHER_DATA, of which `left` bits are left, and returns how many bits it took.
     ///
     /// # Errors
     ///
-    /// If memory is refused. Nothing more is wanted then, and no clause says what the store holds.
+    /// `AllocError`: out of memory. Nothing more is expected then, and no clause says what the store holds.
     fn leap_kept(
         &mut self,
         nid: u8,
@@ -283,8 +292,11 @@ impl<S: PacketStore> PacketsRest<S> {
 }
 
 impl<S: PacketStore + Drop> PacketsRest<S> {
-    /// Continues after the packets that a store has taken of the room, of which this many bits are left, where the own store
-    /// has taken none.
+    /// Continues, with this store in place of its own, after the packets that the store has taken of the room, of which
+    /// `left` bits are left.
+    ///
+    /// Requires that NID_PACKET comes next, that its own store holds no packets, and that the store holds
+    /// packets with which the room begins and which leave that many bits of it (`RunFirst`).
     #[cold]
     #[inline(never)]
     pub fn resume(&mut self, store: S, left: usize)

@@ -10,8 +10,9 @@ use etcs_bits::BitSlice;
 use etcs_tables::{MARKER_BITS, Way, head_bits};
 use std::marker::Model;
 
-/// The packets in a telegram's or a message's bytes, in order (SUBSET-026, 7.4). They are read from these bytes one by
-/// one: nothing is copied, and no memory is taken.
+/// The packets in a telegram's or a message's bytes, in order (SUBSET-026, 7.4): an iterator each of whose items is the
+/// first packet of what is left, which it takes off; `None` exactly if nothing is left. They are read from these bytes
+/// one by one: nothing is copied, and no memory is taken.
 #[derive(Debug, Drop)]
 pub struct Packets<'a> {
     /// The bits from the next packet on, and what follows the last.
@@ -60,7 +61,7 @@ impl<'a> Iterator for Packets<'a> {
     }
 }
 
-/// How many bits the packet takes that these begin with: 14 where it is packet 0, else as many as L_PACKET says.
+/// How many bits the packet takes that these begin with: 14 of packet 0, else as many as L_PACKET counts.
 fn len_ahead(rest: &BitSlice<'_>) -> usize
     requires { BeginsWithPacket rest.now }
     ensures len { result ≡ bits_ahead rest.now }

@@ -6,7 +6,7 @@ ghost use Rattle.etcs_bits.specs.Bits.{bits, num, value, part};
 use etcs_bits::BitSlice;
 use etcs_bits::inner::slice_in;
 
-/// This many bits of a piece, which holds them.
+/// The `count` bits of a piece from bit `at` on. Requires that the piece holds them.
 pub fn bits_at<'a>(piece: &'a [u8], at: usize, count: usize) -> BitSlice<'a>
     requires { at + count ≤ length (bits piece.now) }
     ensures { result ≡ part at count (bits piece.now) }
@@ -14,7 +14,10 @@ pub fn bits_at<'a>(piece: &'a [u8], at: usize, count: usize) -> BitSlice<'a>
     slice_in(piece, at, count)
 }
 
-/// The bits of a piece from here on, at most this many.
+/// Bits of a piece from bit `at` on, at most `most`, and at least one unless `most` is 0. No clause says that they are
+/// as many as the piece has.
+///
+/// Requires that the piece has the bit `at`, and that a word counts its bits.
 pub fn run_at<'a>(piece: &'a [u8], at: usize, most: usize) -> BitSlice<'a>
     requires inside { at < length (bits piece.now) }
     requires small { length (bits piece.now) < 2 ^ 64 }

@@ -9,7 +9,7 @@ use std::alloc::Global;
 use std::marker::Model;
 use std::mem;
 
-/// Room for the packets and bits of an item, which others had that aren't needed any more, or none.
+/// Room for the packets and bits of an item, left by others that aren't needed any more, or none.
 #[derive(Drop)]
 pub struct Room<P: AnyPacket> {
     list: PacketList<P>,
@@ -38,7 +38,7 @@ impl<P: AnyPacket> Room<P> {
         self.list.alloc
     }
 
-    /// A list of nothing, which has the room. None is left.
+    /// A list of no packets, numbers or bits, with the room, of which none is left. No clause says what room it has.
     #[inline(always)]
     pub fn take(&mut self) -> PacketList<P>
         ensures packets { result.packets.items ≡ [] }

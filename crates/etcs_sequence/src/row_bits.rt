@@ -16,7 +16,7 @@ struct Spot {
     before: u64,
 }
 
-/// Passes over the first item, which is there. `None` where a number isn't admitted or bits are missing.
+/// Passes over the first item, which is there. `None` if a number isn't admitted or bits are missing.
 #[cycle(ends)]
 #[inline(always)]
 fn step(spot: Spot, walker: &mut SliceWalker<'_>) -> Option<Spot>
@@ -56,7 +56,7 @@ fn step(spot: Spot, walker: &mut SliceWalker<'_>) -> Option<Spot>
     }
 }
 
-/// Passes over the items after a variable whose number is `before`, and says whether all bits are there and each
+/// Passes over the items after a variable whose number is `before`, and returns whether all bits are there and each
 /// number is admitted.
 #[cycle(ends)]
 fn passes(items: &'static [RowItem], before: u64, walker: &mut SliceWalker<'_>) -> bool
@@ -74,7 +74,7 @@ fn passes(items: &'static [RowItem], before: u64, walker: &mut SliceWalker<'_>) 
     true
 }
 
-/// The same of items that remain as often as the number before them says.
+/// The same of items that are repeated `before` times.
 #[cycle(ends)]
 fn passes_all(items: &'static [RowItem], before: u64, walker: &mut SliceWalker<'_>) -> bool
     requires { walker.old.place ≤ length walker.old.bits }

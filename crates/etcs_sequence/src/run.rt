@@ -60,7 +60,7 @@ fn closing_bits(carrier: Carrier) -> usize
     }
 }
 
-/// Whether nothing but what closes the packets comes next, where this many bits of the room are left and the word has the
+/// Whether nothing but what closes the packets comes next, if this many bits of the room are left and the word has the
 /// next ones.
 #[inline(always)]
 fn closes(carrier: Carrier, left: usize, word: u64) -> bool
@@ -76,7 +76,7 @@ fn closes(carrier: Carrier, left: usize, word: u64) -> bool
 ///
 /// # Errors
 ///
-/// If memory is refused. No clause says what the store holds then.
+/// `AllocError`: out of memory. No clause says what the store holds then.
 #[inline(always)]
 fn keep_bits<S: PacketStore>(store: &mut S, body: &BitSlice<'_>) -> Result<(), AllocError>
     requires small { length body.now ≤ 8191 }
@@ -90,12 +90,12 @@ fn keep_bits<S: PacketStore>(store: &mut S, body: &BitSlice<'_>) -> Result<(), A
     store.bits(body)
 }
 
-/// Keeps the packet of this number and direction with these bits after L_PACKET, where it isn't typed, and says whether it
-/// may be kept. Where it may not, the store stays as it was.
+/// Keeps the packet of this number and direction with these bits after L_PACKET, if it isn't typed, and returns whether
+/// it may be kept. If it may not, the store stays as it was.
 ///
 /// # Errors
 ///
-/// If memory is refused. No clause says what the store holds then.
+/// `AllocError`: out of memory. No clause says what the store holds then.
 #[inline(never)]
 fn keep_packet<S: PacketStore>(
     store: &mut S,
@@ -119,12 +119,12 @@ fn keep_packet<S: PacketStore>(
     Ok(true)
 }
 
-/// Puts the packet of this number and direction with these bits after L_PACKET into a store, typed or kept, and says whether
-/// there is such a packet. Where there is none, the store stays as it was.
+/// Puts the packet of this number and direction with these bits after L_PACKET into a store, typed or kept, and returns
+/// whether there is such a packet. If there is none, the store stays as it was.
 ///
 /// # Errors
 ///
-/// If memory is refused. No clause says what the store holds then.
+/// `AllocError`: out of memory. No clause says what the store holds then.
 #[inline(always)]
 fn put_packet<S: PacketStore>(
     store: &mut S,
@@ -147,12 +147,12 @@ fn put_packet<S: PacketStore>(
     keep_packet(store, way, nid, dir, &body)
 }
 
-/// Takes packet 0, the marker, of a telegram that has this many bits left, of which the word has the first, and says how
-/// many bits it has. `None` where packet 255 doesn't fit after it; the store stays as it was.
+/// Takes packet 0, the marker, of a telegram that has this many bits left, of which the word has the first, and returns
+/// how many bits it has. `None` if packet 255 doesn't fit after it; the store stays as it was.
 ///
 /// # Errors
 ///
-/// If memory is refused. No clause says what the store holds then.
+/// `AllocError`: out of memory. No clause says what the store holds then.
 #[inline(never)]
 fn take_marker<S: PacketStore>(
     store: &mut S,
@@ -198,13 +198,13 @@ fn fits(carrier: Carrier, room: usize, len: usize) -> bool
     }
 }
 
-/// Takes the packet with a frame that begins at `at`, where it lies whole in this many bits of the piece, and in the room,
-/// and leaves what may be left of that; and says how many bits it has. The word has its first bits. It may always return
-/// `None`, and then the store stays as it was.
+/// Takes the packet with a frame that begins at `at`, if it lies whole in this many bits of the piece, and in the room,
+/// and leaves what may be left of that; and returns how many bits it has. The word has its first bits. It may always
+/// return `None`, and then the store stays as it was.
 ///
 /// # Errors
 ///
-/// If memory is refused. No clause says what the store holds then.
+/// `AllocError`: out of memory. No clause says what the store holds then.
 #[inline(always)]
 pub(crate) fn take_framed<S: PacketStore>(
     store: &mut S,
@@ -242,12 +242,12 @@ pub(crate) fn take_framed<S: PacketStore>(
     Ok(None)
 }
 
-/// Takes the packet that begins at `at`, where it lies whole in the room and leaves what may be left of it, and says how many
-/// bits it has. The word has its first bits. It may always return `None`, and then the store stays as it was.
+/// Takes the packet that begins at `at`, if it lies whole in the room and leaves what may be left of it, and returns
+/// how many bits it has. The word has its first bits. It may always return `None`, and then the store stays as it was.
 ///
 /// # Errors
 ///
-/// If memory is refused. No clause says what the store holds then.
+/// `AllocError`: out of memory. No clause says what the store holds then.
 #[inline(always)]
 fn take_packet<S: PacketStore>(
     store: &mut S,
@@ -283,9 +283,15 @@ pub enum Run {
     First(usize),
 }
 
-/// Takes the packets of a room, which begins at `at`, with what closes them, and says how far it came. It may always return
-/// `None`, and then no clause says what the store holds: as where the first bits aren't those of a packet, and where memory is
-/// refused.
+/// Takes the packets of a room, which begins at bit `at` of a piece, with what closes them, into a store, and returns
+/// how many bits of the room are left: after `All` of them the bits before are the packets with what closes them; after
+/// the `First` the bits before are these packets, and others or what closes them may come. The store holds the packets.
+///
+/// It may always return `None`, for instance if the first bits aren't those of a packet or if out of memory. No clause
+/// says when, nor what the store then holds.
+///
+/// Requires that the store's packets go the carrier's way, that it holds nothing, that the piece holds the room,
+/// that the room has at most 8,191 bits, and that a word counts the bits of the piece.
 pub fn take_run<S: PacketStore>(
     store: &mut S,
     carrier: Carrier,

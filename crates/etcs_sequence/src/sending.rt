@@ -106,7 +106,7 @@ fn send_closing<S: VarSink>(carrier: Carrier, out: &mut S) -> Result<(), AllocEr
 }
 
 impl PacketsState {
-    /// How many bits of the room are left after the variables that were read.
+    /// How many bits of the room are left after the variables that were read. Requires that a word counts them.
     pub fn ahead(&self) -> usize
         requires small { ahead self.now.carrier self.now.room self.now.stage < 2 ^ 64 }
         ensures { result ≡ ahead self.now.carrier self.now.room self.now.stage }
@@ -122,8 +122,8 @@ impl PacketsState {
         }
     }
 
-    /// Sends the variables so far of the packet that is being read, of which these numbers or bits are kept, and which take
-    /// this many bits with the packets before it; or what closed the packets.
+    /// Sends the variables so far of the packet that is being read, of which these numbers or bits are kept, and which
+    /// take this many bits with the packets before it; or what closed the packets.
     fn send_here<P: AnyPacket, S: VarSink>(
         &self,
         taken: usize,
@@ -157,12 +157,15 @@ impl PacketsState {
         }
     }
 
-    /// Sends the packets that were read, and the variables so far of the one that is being read, or what closed them. They
-    /// take this many bits.
+    /// Sends the packets that were read, and the variables so far of the one that is being read, or what closed them,
+    /// in order.
+    ///
+    /// Requires that the list's packets go the carrier's way, that something can follow, that the list has the
+    /// numbers or bits of the packet that is being read, and that all that is sent takes `taken` bits.
     ///
     /// # Errors
     ///
-    /// That of the sink.
+    /// `AllocError`: the sink failed; its `failed` then holds.
     pub fn send<P: AnyPacket, S: VarSink>(
         &self,
         taken: usize,

@@ -120,8 +120,8 @@ impl PacketsState {
         }
     }
 
-    /// Whether some number of the variable that comes next continues whose first bits these are, with `rest`
-    /// bits more after them.
+    /// Whether the packets can continue with some number of the variable that comes next whose first bits these are,
+    /// with `rest` bits more after them.
     #[inline(always)]
     pub(crate) fn begins(&self, var: Var, rest: usize, number: u64) -> bool
         requires next { next_of self.now.stage ≡ Some var }
@@ -278,7 +278,7 @@ impl PacketsState {
         Event::Typed(nid, dir)
     }
 
-    /// After this many bits of OTHER_DATA, of which `left` are wanted.
+    /// After this many bits of OTHER_DATA, of which `left` are left.
     pub(crate) fn pass_bits(&mut self, nid: u8, dir: u8, left: usize, count: usize) -> Event
         requires stage { self.old.stage ≡ Stage.Kept nid dir left }
         requires some { 0 < count }
@@ -294,7 +294,7 @@ impl PacketsState {
         Event::Kept(nid, dir)
     }
 
-    /// Continues after the number of the variable that comes next, and says what is whole then.
+    /// Continues after the number of the variable that comes next, and returns what is whole then.
     #[inline(always)]
     pub(crate) fn pass(&mut self, var: Var, number: u64) -> Event
         requires next { next_of self.old.stage ≡ Some var }
@@ -348,7 +348,7 @@ impl PacketsState {
         }
     }
 
-    /// Wants nothing more, whatever was left.
+    /// Expects nothing more, whatever was left.
     pub(crate) fn close(&mut self)
         ensures stage { self.new.stage ≡ Stage.Closed }
         ensures carrier { self.new.carrier ≡ self.old.carrier }

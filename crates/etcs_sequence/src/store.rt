@@ -13,7 +13,8 @@ use etcs_bits::BitSlice;
 use std::alloc::AllocError;
 
 /// Where packets go as they are read: first the numbers of a typed packet's row, or the bits of one that is
-/// kept, and then the packet that they make. If memory is refused, no clause says what it holds.
+/// kept, and then the packet that they make. A store that is given what was read holds it. If it is out of memory, no
+/// clause says what it holds.
 pub trait PacketStore {
     ghost use Rattle.etcs_tables.specs.declared.row.Way.{Way};
 
@@ -24,63 +25,69 @@ pub trait PacketStore {
     /// bits.
     ghost holds: { Self → List PacketValue → List ℕ → List Bool → Type 0 };
 
-    /// Such a store may be refused memory. False where it takes none.
+    /// Such a store may be out of memory. False of one that takes none.
     ghost fails: { Type 0 };
 
-    /// Takes the next number of a row.
+    /// Puts the next number of a row after those that the store holds.
     ///
     /// # Errors
     ///
-    /// `AllocError` where there is no memory.
+    /// `AllocError`: out of memory.
     fn number(&mut self, number: u64) -> Result<(), AllocError>
         ensures ok { OnOk result ((vs : List PacketValue) (f : List ℕ) (k : List Bool) → holds self.old vs f k → holds self.new vs (f ++ number ∷ []) k) }
         ensures err { OnErr result fails };
 
-    /// Takes bits of a packet that is kept, or of FILL.
+    /// Puts bits of a packet that is kept, or of FILL, after those that the store holds. Requires that these are
+    /// at most 8,191 in all.
     ///
     /// # Errors
     ///
-    /// `AllocError` where there is no memory.
+    /// `AllocError`: out of memory.
     fn bits(&mut self, slice: &BitSlice<'_>) -> Result<(), AllocError>
         requires { ∥ ((vs : List PacketValue) × ((f : List ℕ) × ((k : List Bool) × (holds self.old vs f k × (length k + length slice.now ≤ 8191))))) ∥₁ }
         ensures ok { OnOk result ((vs : List PacketValue) (f : List ℕ) (k : List Bool) → holds self.old vs f k → holds self.new vs f (k ++ slice.now)) }
         ensures err { OnErr result fails };
 
-    /// Packet 0 is whole, with this NID_VBCMK.
+    /// Puts packet 0 with this NID_VBCMK after the packets that the store holds, if its way has one with this number.
     ///
     /// # Errors
     ///
-    /// `AllocError` where there is no memory.
+    /// `AllocError`: out of memory.
     fn marker(&mut self, number: u8) -> Result<(), AllocError>
         ensures ok { OnOk result (IsTrue (is_marker WAY number) → (vs : List PacketValue) → holds self.old vs [] [] → holds self.new (vs ++ marker number ∷ []) [] []) }
         ensures err { OnErr result fails };
 
-    /// The typed packet of this number and direction is whole, with the numbers that were taken.
+    /// Puts the typed packet of this number and direction, with the numbers that the store holds, after its packets; it
+    /// then holds no numbers. Requires that there is such a packet.
     ///
     /// # Errors
     ///
-    /// `AllocError` where there is no memory.
+    /// `AllocError`: out of memory.
     fn typed(&mut self, nid: u8, dir: u8) -> Result<(), AllocError>
         requires { ∥ ((vs : List PacketValue) × ((f : List ℕ) × (holds self.old vs f [] × IsTyped WAY nid dir f))) ∥₁ }
         ensures ok { OnOk result ((vs : List PacketValue) (f : List ℕ) (v : PacketValue) → holds self.old vs f [] → IsTypedOf nid dir v → IsPacketTo WAY v → numbers (variables_of v) ≡ f → holds self.new (vs ++ v ∷ []) [] []) }
         ensures err { OnErr result fails };
 
-    /// The packet of this number and direction is whole whose bits were taken.
+    /// Puts the kept packet of this number and direction, with the bits that the store holds, after its packets; it
+    /// then holds no bits. Requires that there is such a packet.
     ///
     /// # Errors
     ///
-    /// `AllocError` where there is no memory.
+    /// `AllocError`: out of memory.
     fn kept(&mut self, nid: u8, dir: u8) -> Result<(), AllocError>
         requires { ∥ ((vs : List PacketValue) × ((k : List Bool) × (holds self.old vs [] k × (other_fault WAY nid dir (length k) ≡ None)))) ∥₁ }
         ensures ok { OnOk result ((vs : List PacketValue) (k : List Bool) → holds self.old vs [] k → holds self.new (vs ++ kept nid dir k ∷ []) [] []) }
         ensures err { OnErr result fails };
 
-    /// Takes the typed packet of this number and direction with these bits after L_PACKET, and says
-    /// whether there is one. Where there is none, it stays as it was.
+    /// Puts the packet of this number and direction with these bits after L_PACKET after the packets that the store
+    /// holds, and returns `true`: then the number is typed, and there is such a packet. If it returns `false`, the
+    /// store stays as it was; no clause says when.
+    ///
+    /// Requires that there are no more bits than a kept packet of this way may have.
     ///
     /// # Errors
     ///
-    /// `AllocError` where there is no memory.
+    /// `AllocError`: out of memory.
     fn whole(&mut self, nid: u8, dir: u8, body: BitSlice<'_>) -> Result<bool, AllocError>
         requires small { length body ≤ kept_limit WAY }
         ensures row { IfOk result (λ b. IsTrue b → ((row : Layout) × (row_to WAY nid ≡ Some row))) }

@@ -1,4 +1,4 @@
--- The lines of a balise group.
+-- The lines that are written of the telegrams of a balise group, and at its end.
 use Rattle.std.specs.Prelude.{◌≡◌, ◌⊎◌, ℕ, ◌+◌, Bool, List, ◌++◌, Option, Result, Ok, Err, codes, map}
 use Rattle.std.specs.Fmt.{decimal}
 use Rattle.etcs_tables.specs.declared.row.Way.TheVariants.{ToTrain}
@@ -16,6 +16,7 @@ use Rattle.etcs_group.specs.GroupLines.{AreMissing, positions_text, trues}
 use Rattle.etcs_packet_text.specs.Packets.{packets_text}
 use Rattle.etcs_stream.specs.Reported.{Reported}
 
+-- the name of a clash
 abbrev pub clash_name : Clash → List ℕ
 clash_name BadPosition = codes "BadPosition"
 clash_name BadDuplicate = codes "BadDuplicate"
@@ -24,26 +25,30 @@ clash_name OtherTotal = codes "OtherTotal"
 clash_name Counter = codes "Counter"
 clash_name Differs = codes "Differs"
 
+-- `new`, `repeat`, or `clash` with the clash's name
 abbrev pub answer_words : Result Added Clash → List ℕ
 answer_words (Ok New) = codes "new"
 answer_words (Ok Repeat) = codes "repeat"
 answer_words (Err clash) = codes "clash " ++ clash_name clash
 
--- what a telegram is to those that are held
+-- what a telegram is to those held: `New` if it fits them and isn't held, `Repeat` if it fits and is, a clash if that
+-- is the first that the telegram has with them
 abbrev pub Answers : List (Option TelegramContent) → TelegramContent → Result Added Clash → Type 0
 Answers held t (Ok New) = Joins held t × (Holds held t → ⊥)
 Answers held t (Ok Repeat) = Joins held t × Holds held t
 Answers held t (Err clash) = IsFirstClash clash held t
 
+-- how many clashes there were, one more if this is a clash
 abbrev pub clashes_with : ℕ → Result Added Clash → ℕ
 clashes_with n (Ok added) = n
 clashes_with n (Err clash) = n + 1
 
--- the line of the item of this number
+-- `item`, the number, and `new`, `repeat`, or `clash` with the clash's name
 abbrev pub answer_line : ℕ → Result Added Clash → List ℕ
 answer_line item answer = codes "item " ++ decimal item ++ codes " " ++ answer_words answer ++ codes "\n"
 
--- what is written of a telegram, and what is held then: it too where it fits those held
+-- of a telegram in a group: its line by `Answers`, one item more, one clash more if it clashes, and what is held is
+-- that before, and the telegram too if it fits
 pub record GroupItem (v : TelegramValue) (s : Reported) (text : List ℕ) (s' : Reported) : Type 0 where
   pub telegram : TelegramContent
   pub made : IsTelegram telegram
@@ -56,17 +61,18 @@ pub record GroupItem (v : TelegramValue) (s : Reported) (text : List ℕ) (s' : 
   pub held_is : HeldAfter s.held telegram s'.held
   pub placed : IsGroup s'.held
 
--- NID_C and NID_BG of a group
+-- `group` with NID_C and NID_BG
 abbrev pub group_front : ℕ → ℕ → List ℕ
 group_front country group = codes "group " ++ decimal country ++ codes " " ++ decimal group
 
--- what a group is whole or not: its message, or the positions that are missing
+-- a group that is whole: front, `complete` and the text of the packets of its message; else front, `missing` and
+-- exactly the positions that are missing
 abbrev pub GroupLines : List (Option TelegramContent) → List ℕ → List ℕ → Type 0
 GroupLines held front text =
     (IsWhole held × ((ps : List Packet) × IsGroupMessage held ps × (text ≡ front ++ codes " complete\n" ++ packets_text ToTrain (map packet_value ps))))
     ⊎ ((IsWhole held → ⊥) × ((bs : List Bool) × AreMissing held bs × (text ≡ front ++ codes " missing" ++ positions_text (trues 8 bs) ++ codes "\n")))
 
--- the last lines of a run over a group
+-- `group empty` if nothing is held; else the lines of the group after NID_C and NID_BG of a telegram that is held
 abbrev pub LastLines : List (Option TelegramContent) → List ℕ → Type 0
 LastLines held text =
     (HoldsNone held × (text ≡ codes "group empty\n"))

@@ -13,8 +13,9 @@ use Rattle.etcs_stream.specs.Lines.{bad_place, lines_bytes, AreGood, IsHexText}
 use Rattle.etcs_stream.specs.JsonItems.{EndedJson, BadJsonLine, RefusedJsonLine, EndlessJson, WholeJson, FirstJson}
 use Rattle.etcs_stream.specs.Streams.{AreSpelled}
 
--- how the items of an input end: with the input; at a bit of an item, which the variable holds; inside an item, after this
--- many of its bits; at a place of a line; in a line of JSON; at a byte after the last item that a run may have
+-- how the items of an input end: with the input; at a refused bit of an item, which the variable holds; inside an item,
+-- after this many of its bits; at a place of a bad line of hexadecimal; in a bad line of JSON; at a byte or a line
+-- after the 1,000,000th item
 pub data End : Type 0 where
   ended : End
   refused : ℕ → Var → End
@@ -23,7 +24,8 @@ pub data End : Type 0 where
   bad_json : ℕ → End
   endless : End
 
--- the bits after this many items end so
+-- after n items, the bits of the rest end like this: there are none; one is refused; an item isn't whole; or an item is
+-- too many
 abbrev pub EndsWith : Kind → ℕ → List Bool → End → Type 0
 EndsWith kind n rest ended = rest ≡ []
 EndsWith kind n rest (refused i x) = (n < 1000000) × IsOutcome (EntryReads kind) rest (reading.refused i x)
@@ -32,7 +34,7 @@ EndsWith kind n rest (bad_hex line place) = ⊥
 EndsWith kind n rest (bad_json line) = ⊥
 EndsWith kind n rest endless = (n ≡ 1000000) × (0 < length rest)
 
--- these items are one after another in the bits, which then end so
+-- the bits are these items one after another, at most 1,000,000, and then end like this
 pub record BitItems (kind : Kind) (b : List Bool) (es : List EntryValue) (end : End) : Type 0 where
   pub spelt : List Bool
   pub rest : List Bool
@@ -41,8 +43,8 @@ pub record BitItems (kind : Kind) (b : List Bool) (es : List EntryValue) (end : 
   pub few : length es ≤ 1000000
   pub ends : EndsWith kind (length es) rest end
 
--- the line of this number is the first that isn't hexadecimal, by its character at this place, and the lines before it say
--- these bytes
+-- the line of this number is the first that isn't hexadecimal, by this place (`bad_place`), and the lines before it
+-- stand for these bytes
 pub record IsBad (text bytes : List ℕ) (line place : ℕ) : Type 0 where
   pub lines : List (List ℕ)
   pub bad : List ℕ
@@ -53,7 +55,8 @@ pub record IsBad (text bytes : List ℕ) (line place : ℕ) : Type 0 where
   pub bytes_are : bytes ≡ lines_bytes lines
   pub text_is : ((text ≡ lines_text lines ++ (bad ++ 10 ∷ beyond)) × (bad_place (strip_cr bad) ≡ Some place)) ⊎ ((text ≡ lines_text lines ++ bad) × (bad_place bad ≡ Some place))
 
--- the items of the lines before a bad one: a bit that is refused there comes first, and so does an item too many
+-- the items of the lines before a bad one, and the end: a refused bit or an item too many in these lines comes first,
+-- else it is the bad line
 abbrev pub BadItems : Kind → List Bool → List EntryValue → ℕ → ℕ → End → Type 0
 BadItems kind b es line place ended = ⊥
 BadItems kind b es line place (refused i x) = BitItems kind b es (refused i x)
@@ -62,7 +65,7 @@ BadItems kind b es line place (bad_hex l p) = (l ≡ line) × (p ≡ place) × (
 BadItems kind b es line place (bad_json l) = ⊥
 BadItems kind b es line place endless = BitItems kind b es endless
 
--- the items of lines of JSON
+-- the items of an input of lines of JSON, and how it ends
 abbrev pub JsonItems : Kind → List ℕ → List EntryValue → End → Type 0
 JsonItems kind input es ended = EndedJson kind input es
 JsonItems kind input es (refused i x) = RefusedJsonLine kind input es i x
@@ -71,7 +74,8 @@ JsonItems kind input es (bad_hex line place) = ⊥
 JsonItems kind input es (bad_json line) = BadJsonLine kind input es line
 JsonItems kind input es endless = EndlessJson kind input es
 
--- the items of an input of this form, and how it ends. A line is checked before any of its bytes is used
+-- the items of an input of this form, and how it ends. Of lines of hexadecimal they are those of the bytes of all
+-- lines; if a line is bad, a refused bit or an item too many in the lines before it comes first
 abbrev pub ItemsOf : Form → Kind → List ℕ → List EntryValue → End → Type 0
 ItemsOf Bin kind input es end = BitItems kind (bits input) es end
 ItemsOf Json kind input es end = JsonItems kind input es end
@@ -81,13 +85,13 @@ ItemsOf Hex kind input es end =
 
 -- ---- The front of an input.
 
--- what is there of an input, which isn't JSON, says these bytes: of lines, those that have a LF
+-- what is there of an input, which isn't JSON, stands for these bytes: of lines, those that have a LF
 abbrev pub SaysSoFar : Form → List ℕ → List ℕ → Type 0
 SaysSoFar Bin given bytes = bytes ≡ given
 SaysSoFar Json given bytes = ⊥
 SaysSoFar Hex given bytes = (lines : List (List ℕ)) × (rest : List ℕ) × (given ≡ lines_text lines ++ rest) × AreGood lines × IsLine rest × (bytes ≡ lines_bytes lines)
 
--- these are all items that are whole there
+-- these are all items that are whole in the bytes for which that stands
 pub record WholeBytes (form : Form) (kind : Kind) (given : List ℕ) (es : List EntryValue) : Type 0 where
   pub bytes : List ℕ
   pub says : SaysSoFar form given bytes
@@ -98,19 +102,19 @@ pub record WholeBytes (form : Form) (kind : Kind) (given : List ℕ) (es : List 
   pub few : length es ≤ 1000000
   pub none_more : NoneYet (readings_of (EntryReads kind)) rest
 
--- these are all items that are whole in what is there
+-- these are all items that are whole in what is there of an input: of lines, in those that have a LF
 abbrev pub WholeItems : Form → Kind → List ℕ → List EntryValue → Type 0
 WholeItems Hex kind given es = WholeBytes Hex kind given es
 WholeItems Bin kind given es = WholeBytes Bin kind given es
 WholeItems Json kind given es = WholeJson kind given es
 
--- some lines at its front say these bytes, the last of them perhaps without a LF
+-- some lines at its front stand for these bytes, the last of them perhaps without a LF
 abbrev pub SaysFirst : Form → List ℕ → List ℕ → Type 0
 SaysFirst Bin given bytes = bytes ≡ given
 SaysFirst Json given bytes = ⊥
 SaysFirst Hex given bytes = ((lines : List (List ℕ)) × (rest : List ℕ) × (given ≡ lines_text lines ++ rest) × AreGood lines × (bytes ≡ lines_bytes lines)) ⊎ IsHexText given bytes
 
--- these are the first items of bytes that begin so
+-- these are some first items of the bytes for which such a front stands
 pub record FirstBytes (form : Form) (kind : Kind) (given : List ℕ) (es : List EntryValue) : Type 0 where
   pub bytes : List ℕ
   pub says : SaysFirst form given bytes
@@ -120,7 +124,7 @@ pub record FirstBytes (form : Form) (kind : Kind) (given : List ℕ) (es : List 
   pub bits_are : bits bytes ≡ spelt ++ rest
   pub few : length es ≤ 1000000
 
--- these are the first items of an input that begins so
+-- these are some first items of an input that begins with what is given
 abbrev pub FirstItems : Form → Kind → List ℕ → List EntryValue → Type 0
 FirstItems Hex kind given es = FirstBytes Hex kind given es
 FirstItems Bin kind given es = FirstBytes Bin kind given es

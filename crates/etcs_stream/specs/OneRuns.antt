@@ -1,4 +1,4 @@
--- An input has one list of items, one end and one text, so what the clauses of a run say about it is unambiguous.
+-- An input has one list of items, one end and one text, so what a run promises of it is unambiguous.
 use Rattle.std.specs.Prelude.{◌≡◌, ℕ, List, Option, ◌++◌}
 use Rattle.etcs_telegram.specs.Telegrams.{TelegramContent}
 use Rattle.etcs_group.specs.Groups.{IsGroup}
@@ -18,7 +18,7 @@ OneEnd = (form : Form) (kind : Kind) (input : List ℕ) (es es' : List EntryValu
 abbrev pub OneWhole : Type 0
 OneWhole = (form : Form) (kind : Kind) (given : List ℕ) (es es' : List EntryValue) → WholeItems form kind given es → WholeItems form kind given es' → es ≡ es'
 
--- the items of an input begin with any first items of it
+-- the list of an input's items begins with any first items of it
 abbrev pub OneFront : Type 0
 OneFront = (form : Form) (kind : Kind) (input : List ℕ) (es es' : List EntryValue) (end : End) → FirstItems form kind input es → ItemsOf form kind input es' end → (beyond : List EntryValue) × (es' ≡ es ++ beyond)
 
@@ -26,6 +26,6 @@ OneFront = (form : Form) (kind : Kind) (input : List ℕ) (es es' : List EntryVa
 abbrev pub OneText : Type 0
 OneText = (command : Command) (es : List EntryValue) (text text' : List ℕ) → ItemsText command es text → ItemsText command es text' → text ≡ text'
 
--- the last lines of a group are one text
+-- a group that is held has one text of last lines
 abbrev pub OneLast : Type 0
 OneLast = (held : List (Option TelegramContent)) (text text' : List ℕ) → IsGroup held → LastLines held text → LastLines held text' → text ≡ text'

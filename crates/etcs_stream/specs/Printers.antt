@@ -1,4 +1,4 @@
--- What a run writes of its items, one after another, and after the last.
+-- What a command writes of the items of an input, one after another, and after the last.
 use Rattle.std.specs.Prelude.{◌≡◌, ◌↔◌, ℕ, ◌+◌, true, List, [], ◌∷◌, ◌++◌, None, replicate}
 use Rattle.hex.specs.Hex.{encode_upper}
 use Rattle.serde_json.specs.Written.{compact_text}
@@ -15,18 +15,20 @@ use Rattle.etcs_text.specs.Kinds.{IsOfTelegrams}
 use Rattle.etcs_stream.specs.Groups.{GroupItem, LastLines}
 use Rattle.etcs_stream.specs.Reported.{Reported}
 
--- messages aren't grouped
+-- the job groups no messages: only kinds of telegrams are grouped
 abbrev pub IsGroupable : Job → Type 0
 IsGroupable job = job.command ≡ Group → IsOfTelegrams job.kind
 
+-- what was reported at the start of a run: no item, no clash, and nothing is held
 abbrev pub nothing_reported : Reported
 nothing_reported = record { count = 0; clashes = 0; held = replicate 8 None }
 
--- one item more
+-- one item more was reported
 abbrev pub one_more : Reported → Reported
 one_more s = record { count = s.count + 1; clashes = s.clashes; held = s.held }
 
--- what is written of an item after those reported
+-- what the command writes of an item after those reported, and what was reported then: its text with its number, one
+-- more than were reported; its line of `check`; its digits, its bytes or its line of JSON; or its line in a group
 abbrev pub OutputsItem : Command → EntryValue → Reported → List ℕ → Reported → Type 0
 OutputsItem Show e s text s' = (text ≡ entry_text e (s.count + 1)) × (s' ≡ one_more s)
 OutputsItem Check e s text s' = (text ≡ check_line e (s.count + 1)) × (s' ≡ one_more s)
@@ -36,16 +38,18 @@ OutputsItem (Convert Json) e s text s' = (text ≡ compact_text (json_tree e) ++
 OutputsItem Group (of_telegram t) s text s' = GroupItem t s text s'
 OutputsItem Group (of_message way m) s text s' = ⊥
 
--- and of items one after another
+-- the same of items one after another
 abbrev pub OutputsItems : Command → Reported → List EntryValue → List ℕ → Reported → Type 0
 OutputsItems c s [] text s' = (text ≡ []) × (s' ≡ s)
 OutputsItems c s (e ∷ es) text s' = (mid : Reported) × (first : List ℕ) × (rest : List ℕ) × (text ≡ first ++ rest) × OutputsItem c e s first mid × OutputsItems c mid es rest s'
 
--- what is written of the items of an input
+-- what the command writes of items one after another, with nothing reported before
 abbrev pub ItemsText : Command → List EntryValue → List ℕ → Type 0
 ItemsText c es text = (s : Reported) × OutputsItems c nothing_reported es text s
 
--- what is written at the end of the input, and what a run returns then
+-- what is written at the end of an input after what was reported, and the tally: for a group its last lines, how many
+-- items, how many clashes, and complete exactly if it is whole; for each other command nothing, how many items, 0 and
+-- true
 abbrev pub Closes : Command → Reported → List ℕ → Tally → Type 0
 Closes Group s last tally = LastLines s.held last × (tally.items ≡ s.count) × (tally.clashes ≡ s.clashes) × ((tally.complete ≡ true) ↔ IsWhole s.held)
 Closes c s last tally = (last ≡ []) × (tally.items ≡ s.count) × (tally.clashes ≡ 0) × (tally.complete ≡ true)

@@ -14,7 +14,7 @@ use Rattle.etcs_text.specs.Readers.{ReaderValue, seen_bits}
 use Rattle.etcs_stream.specs.Readers.{Awaits, HasRoom}
 use Rattle.etcs_stream.specs.Streams.{AreSpelled}
 
--- of these bytes items were reported, and these bits of the next were seen
+-- of these bytes items were reported, and of the next one these bits were seen
 pub record ItemsStand (job : Job) (seen : List Bool) (after : Reported) (bytes output : List ℕ) : Type 0 where
   pub items : List EntryValue
   pub spelt : List Bool
@@ -26,11 +26,11 @@ pub record ItemsStand (job : Job) (seen : List Bool) (after : Reported) (bytes o
   pub none_more : NoneYet (readings_of (EntryReads job.kind)) seen
   pub text : OutputsItems job.command nothing_reported items output after
 
--- the bytes are the items
+-- the bytes given are the items themselves
 abbrev pub BinStands : Job → ReaderValue → Reported → List ℕ → List ℕ → Type 0
 BinStands job reader after given output = (job.from ≡ Bin) × Awaits job.kind reader × ItemsStand job (seen_bits reader.progress) after given output
 
--- they are lines of hexadecimal, of which these characters of the last are kept
+-- the bytes given are lines of hexadecimal, and these characters of the last one are kept
 pub record HexStands (job : Job) (reader : ReaderValue) (after : Reported) (begun : List ℕ) (line : ℕ) (given output : List ℕ) : Type 0 where
   pub form : job.from ≡ Hex
   pub waits : Awaits job.kind reader
@@ -43,14 +43,14 @@ pub record HexStands (job : Job) (reader : ReaderValue) (after : Reported) (begu
 
 -- ---- Lines.
 
--- lines of hexadecimal were taken
+-- these lines of hexadecimal were taken, and this text was written of their items
 pub record HexTook (job : Job) (reader : ReaderValue) (after : Reported) (lines : List (List ℕ)) (output : List ℕ) : Type 0 where
   pub form : job.from ≡ Hex
   pub waits : Awaits job.kind reader
   pub lines_good : AreGood lines
   pub items : ItemsStand job (seen_bits reader.progress) after (lines_bytes lines) output
 
--- lines of JSON were
+-- these lines of JSON were taken, and this text was written of their items
 pub record JsonTook (job : Job) (after : Reported) (lines : List (List ℕ)) (output : List ℕ) : Type 0 where
   pub form : job.from ≡ Json
   pub are_lines : All IsLine lines

@@ -1,4 +1,4 @@
--- How a run continues with each piece that it is given, and how it ends early.
+-- How a run continues with each piece that it gets, and how it ends early.
 use Rattle.std.specs.Prelude.{◌≡◌, ℕ, ◌+◌, ◌<◌, ◌≤◌, Bool, List, [], ◌++◌, length, take}
 use Rattle.etcs_bits.specs.Bits.{bits}
 use Rattle.etcs_vars.specs.Reading.{readings_of}
@@ -36,7 +36,7 @@ pub record TakesFront (job : Job) (reader reader' : ReaderValue) (before after :
   pub room : HasRoom after.count (seen_bits reader'.progress)
   pub advances : Advances job.kind job.command (seen_bits reader.progress) (seen_bits reader'.progress) before after (take n bytes) text text'
 
--- why no more is taken of the bits after this many items
+-- why no more is taken of the bits after n items
 abbrev pub HaltsBy : Kind → ℕ → List Bool → RunFault → Type 0
 HaltsBy kind n rest (Refused item i x) = (item ≡ n + 1) × (n < 1000000) × Refuses (readings_of (EntryReads kind)) rest i x
 HaltsBy kind n rest (Truncated item k) = ⊥
@@ -61,7 +61,7 @@ pub record Halts (kind : Kind) (command : Command) (seen : List Bool) (before : 
   pub text_is : text' ≡ text ++ added
   pub why : HaltsBy kind (before.count + length reported) rest fault
 
--- of some items this text was written, and at most one more was counted
+-- this text was written of some items, and at most one more was counted
 pub record Says (command : Command) (before now : Reported) (text text' : List ℕ) : Type 0 where
   pub reported : List EntryValue
   pub added : List ℕ
@@ -72,12 +72,12 @@ pub record Says (command : Command) (before now : Reported) (text text' : List �
 
 -- ---- Lines of JSON.
 
--- the item of a line was reported; an empty line is none
+-- the item of a line was reported, or the line is empty
 pub data TakesJson (job : Job) (line : List ℕ) (before after : Reported) (text text' : List ℕ) : Type 0 where
   empty_line : line ≡ [] → after ≡ before → text' ≡ text → TakesJson job line before after text text'
   item_line : (e : EntryValue) (added : List ℕ) → IsItemLine job.kind line e → before.count < 1000000 → OutputsItem job.command e before added after → text' ≡ text ++ added → TakesJson job line before after text text'
 
--- why it wasn't
+-- why the item of a line wasn't reported
 abbrev pub HaltsJson : Job → List ℕ → ℕ → Reported → RunFault → Type 0
 HaltsJson job line number before (Refused item i x) = (item ≡ before.count + 1) × (before.count < 1000000) × IsRefusedLine job.kind line i x
 HaltsJson job line number before (Truncated item k) = ⊥

@@ -22,7 +22,7 @@ pub(crate) struct Bin {
 }
 
 impl Bin {
-    /// Nothing has come yet.
+    /// An engine that was fed nothing.
     pub(crate) fn new(alloc: Global, job: Job) -> Bin
         requires form { job.from ≡ form.Bin }
         requires groupable { IsGroupable job }

@@ -32,7 +32,7 @@ pub(crate) struct ByteItems {
 }
 
 impl ByteItems {
-    /// Nothing was reported, and nothing has come.
+    /// A reader that was fed nothing, with nothing reported.
     pub(crate) fn new(alloc: Global, job: Job) -> ByteItems
         requires { IsGroupable job }
         ensures job { result.job ≡ job }
@@ -48,7 +48,7 @@ impl ByteItems {
         }
     }
 
-    /// How many bytes the next read asks for: as many as end with a telegram; messages have no one length.
+    /// How many bytes the next read asks for: as many as end with a telegram; messages have no fixed length.
     pub(crate) fn wanted(&self) -> usize
         ensures some { 0 < result }
         ensures most { result ≤ 4096 }
@@ -68,7 +68,7 @@ impl ByteItems {
     /// # Errors
     ///
     /// `Refused` with the number of the item, bit and variable; `Endless` if there is a byte after the last item that a run
-    /// may have; `Memory`. The text of the items before was appended, but after `Memory` perhaps not of all.
+    /// may have; `Memory`. The text of the items before was appended, but after `Memory` perhaps not that of all of them.
     pub(crate) fn take_bytes(&mut self, bytes: &[u8], text: &mut Vec<u8>) -> Result<(), RunFault>
         requires waits { Awaits self.old.job.kind self.old.reader }
         requires reported { self.old.printer.count ≤ 1000000 }
@@ -86,7 +86,7 @@ impl ByteItems {
         taken
     }
 
-    /// Takes bytes, and appends the text of each item that becomes whole to the page, as of [`ByteItems::take_bytes`].
+    /// Takes bytes, and appends the text of each item that becomes whole to the page, as [`ByteItems::take_bytes`] does.
     fn take_items(&mut self, bytes: &[u8], page: &mut Page) -> Result<(), RunFault>
         requires waits { Awaits self.old.job.kind self.old.reader }
         requires reported { self.old.printer.count ≤ 1000000 }
@@ -131,7 +131,7 @@ impl ByteItems {
         }
     }
 
-    /// Takes bytes up to the end of an item, which it reports, or all of them, and says how many.
+    /// Takes bytes up to the end of an item, which it reports, or all of them, and returns how many.
     #[inline(always)]
     fn take_front(&mut self, bytes: &[u8], page: &mut Page) -> Result<usize, RunFault>
         requires some { 0 < length bytes.now }

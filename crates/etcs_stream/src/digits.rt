@@ -10,7 +10,7 @@ use etcs_runs::inner::{decode, is_digit};
 /// How many characters a line may have.
 pub(crate) const MOST_CHARACTERS: usize = 4096;
 
-/// The place of the first character that is no digit, or the end.
+/// The place of the first character that is no digit, or the end if all are digits.
 fn first_bad(line: &[u8]) -> usize
     ensures { result ≡ position_or_len (λ c. not (is_hex_digit c)) line.now }
 {

@@ -16,11 +16,11 @@ use etcs_packets::Packet;
 use etcs_text::inner::write_item_number;
 use std::alloc::{AllocError, Global};
 
-/// Appends the line that says what the item of this number is to the group, or nothing.
+/// Appends the line that reports what the item of this number is to the group, or nothing.
 ///
 /// # Errors
 ///
-/// Where memory is refused.
+/// `AllocError` if out of memory.
 pub(crate) fn answer_line(
     item: u64,
     answer: Result<Added, Clash>,
@@ -42,7 +42,7 @@ pub(crate) fn answer_line(
 ///
 /// # Errors
 ///
-/// Where memory is refused.
+/// `AllocError` if out of memory.
 pub(crate) fn last_lines(assembly: &Assembly, text: &mut Vec<u8>) -> Result<(), AllocError>
     ensures ok { OnOk result ((last : List ℕ) × LastLines assembly.now last × (text.new.items ≡ text.old.items ++ last)) }
     ensures err { OnErr result (text.new.items ≡ text.old.items) }
@@ -72,7 +72,7 @@ fn name_of(clash: Clash) -> &'static str
     }
 }
 
-/// Appends the words of an answer.
+/// Appends the words for what a telegram is to the group.
 #[tactic(auto, using(etcs_packet_text::specs::laws::Fronts::begins_more))]
 fn write_words(answer: Result<Added, Clash>, page: &mut Page) -> Result<(), AllocError>
     ensures ok { OnOk result (page.new ≡ page.old ++ answer_words answer) }
@@ -88,7 +88,7 @@ fn write_words(answer: Result<Added, Clash>, page: &mut Page) -> Result<(), Allo
     }
 }
 
-/// Appends the line of an answer.
+/// Appends the line for what a telegram is to the group.
 #[tactic(auto, using(etcs_packet_text::specs::laws::Fronts::begins_more))]
 fn write_answer(item: u64, answer: Result<Added, Clash>, page: &mut Page) -> Result<(), AllocError>
     ensures ok { OnOk result (page.new ≡ page.old ++ answer_line item answer) }

@@ -28,7 +28,7 @@ pub(crate) struct HexLines {
 }
 
 impl HexLines {
-    /// Nothing was taken yet.
+    /// A handler that took nothing yet.
     pub(crate) fn new(alloc: Global, job: Job) -> HexLines
         requires form { job.from ≡ form.Hex }
         requires groupable { IsGroupable job }

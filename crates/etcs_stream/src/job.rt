@@ -16,8 +16,11 @@ pub enum Command {
     Check,
     /// Each item is written in this form.
     Convert(Form),
-    /// The items are the telegrams of a balise group, in any order: a line for each says whether it is new, a repeat or a
-    /// clash; at the end the message of the group is written, or which positions are missing.
+    /// The items are the telegrams of a balise group, in any order. For each a line is written: `new` if it fits those
+    /// that are held and isn't held, `repeat` if it fits them and is held, else `clash` and its first clash with them.
+    /// At the end come the last lines: `group empty` exactly if nothing is held; else NID_C and NID_BG of the group,
+    /// with `complete` and the packets of its message exactly if it is whole, or with `missing` and exactly the missing
+    /// positions, in rising order.
     Group,
 }
 
@@ -28,12 +31,12 @@ pub struct Job {
     pub kind: Kind,
     /// The form of the input.
     pub from: Form,
-    /// What is done.
+    /// What is done with the items.
     pub command: Command,
 }
 
 impl Job {
-    /// Whether the job can be done: only telegrams are grouped.
+    /// Returns `true` exactly if the job groups no messages: only telegrams can be grouped.
     pub fn is_groupable(&self) -> bool
         ensures { IsTrue result ↔ IsGroupable self.now }
     {

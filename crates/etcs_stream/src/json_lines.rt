@@ -1,4 +1,4 @@
-//! Lines of JSON, an item each.
+//! Lines of JSON, one item each.
 
 ghost use Rattle.std.specs.Prelude.{◌≡◌, ◌+◌, ◌<◌, ◌≤◌, ◌⊎◌, ◌++◌, ℕ, List, [], length, IfOk, IfErr, OnErr, OnOk};
 ghost use Rattle.etcs_text.specs.Entries.{EntryValue, entry_kind, entry_value};
@@ -34,7 +34,7 @@ pub(crate) struct JsonLines {
 }
 
 impl JsonLines {
-    /// Nothing was taken yet.
+    /// A handler that took nothing yet.
     pub(crate) fn new(alloc: Global, job: Job) -> JsonLines
         requires form { job.from ≡ form.Json }
         requires groupable { IsGroupable job }
@@ -52,7 +52,7 @@ impl JsonLines {
     ///
     /// # Errors
     ///
-    /// `BadJson` where no item of the kind has this JSON, or the line is too long; `Refused` where it was stored when fewer
+    /// `BadJson` if no item of the kind has this JSON, or the line is too long; `Refused` if it was stored when fewer
     /// packets were typed and no item has its bits; `Memory`.
     fn entry_in(&self, line: &[u8], number: u64) -> Result<Entry, RunFault>
         requires some { 0 < length line.now }
@@ -75,11 +75,11 @@ impl JsonLines {
         }
     }
 
-    /// Reports the item of a line; an empty one is none.
+    /// Reports the item of a line, or nothing if the line is empty.
     ///
     /// # Errors
     ///
-    /// `Endless` where a run may have no more items, else as of `entry_in`. Nothing was appended.
+    /// `Endless` if a run may have no more items, else as for `entry_in`. Nothing was appended.
     fn handle(&mut self, line: &[u8], number: u64, text: &mut Vec<u8>) -> Result<(), RunFault>
         requires reported { self.old.printer.count ≤ 1000000 }
         ensures job { self.new.job ≡ self.old.job }
@@ -103,7 +103,7 @@ impl JsonLines {
         }
     }
 
-    /// The input ends here: appends what the command writes then, or nothing.
+    /// Ends the input: appends what the command writes at the end, or nothing.
     fn end(&self, text: &mut Vec<u8>) -> Result<Tally, RunFault>
         ensures ok { IfOk result (λ tally. (last : List ℕ) × Closes self.now.job.command self.now.printer last tally × (text.new.items ≡ text.old.items ++ last)) }
         ensures err { IfErr result (λ e. (text.new.items ≡ text.old.items) × (e ≡ RunFault.Memory)) }

@@ -1,5 +1,6 @@
-//! A run: it reads items from a source, as lines of hexadecimal digits, as bytes or as lines of JSON, and writes what a
-//! command asks for to a sink. It takes any reader and writer.
+//! [`run`] reads items from any source, as bytes or as lines of hexadecimal digits or JSON, and writes what a
+//! [`Command`] asks for to any sink; a [`Job`] has kind, form and command. The first fault ends a run, unlike in
+//! `etcs_log`.
 //!
 //! ```rust
 //! let job = Job { kind: Kind::Long, from: Form::Hex, command: Command::Convert(Form::Json) };

@@ -1,4 +1,4 @@
-//! What is written for each item, and after the last one.
+//! What is written of each item, and after the last one.
 
 ghost use Rattle.std.specs.Prelude.{◌≡◌, ◌+◌, ◌<◌, ◌++◌, ◌∷◌, [], ℕ, List, Ok, Err, IfOk, OnErr, OnOk};
 ghost use Rattle.etcs_telegram.specs.Telegrams.{IsTelegram};
@@ -42,7 +42,7 @@ impl Model for Printer {
 }
 
 impl Printer {
-    /// Nothing was reported.
+    /// A printer that reported nothing.
     pub(crate) fn new() -> Printer
         ensures { result ≡ nothing_reported }
     {
@@ -64,7 +64,7 @@ impl Printer {
     ///
     /// # Errors
     ///
-    /// Where memory is refused.
+    /// `AllocError` if out of memory.
     pub(crate) fn print(
         &mut self,
         command: Command,
@@ -87,7 +87,7 @@ impl Printer {
     ///
     /// # Errors
     ///
-    /// Where memory is refused.
+    /// `AllocError` if out of memory.
     #[inline(always)]
     pub(crate) fn print_alone(
         &mut self,
@@ -105,11 +105,11 @@ impl Printer {
         write_alone(command, entry, self.count, page)
     }
 
-    /// Appends what the command writes at the end of the input, or nothing, and says what the run met.
+    /// Appends what the command writes at the end of the input, or nothing, and returns the tally.
     ///
     /// # Errors
     ///
-    /// Where memory is refused.
+    /// `AllocError` if out of memory.
     pub(crate) fn close(&self, command: Command, text: &mut Vec<u8>) -> Result<Tally, AllocError>
         ensures ok { IfOk result (λ tally. (last : List ℕ) × Closes command self.now last tally × (text.new.items ≡ text.old.items ++ last)) }
         ensures err { OnErr result (text.new.items ≡ text.old.items) }
@@ -124,7 +124,7 @@ impl Printer {
         }
     }
 
-    /// Appends the last lines of a group, or nothing, and says what the run met.
+    /// Appends the last lines of a group, or nothing, and returns the tally.
     fn close_group(&self, text: &mut Vec<u8>) -> Result<Tally, AllocError>
         ensures ok { IfOk result (λ tally. (last : List ℕ) × Closes Command.Group self.now last tally × (text.new.items ≡ text.old.items ++ last)) }
         ensures err { OnErr result (text.new.items ≡ text.old.items) }
@@ -137,7 +137,7 @@ impl Printer {
         })
     }
 
-    /// Appends the line that says what a telegram is to the group, or nothing.
+    /// Appends the line that reports what a telegram is to the group, or nothing.
     pub(crate) fn print_grouped(&mut self, entry: Entry, page: &mut Page) -> Result<(), AllocError>
         requires few { self.old.count < 1000000 }
         requires grouped { IsOfTelegrams (entry_kind (entry_value entry)) }
@@ -152,7 +152,7 @@ impl Printer {
         answer_line(self.count, answer, page)
     }
 
-    /// Counts a telegram, and holds it where it fits those that are held.
+    /// Counts a telegram, and holds it if it fits those that are held.
     fn add(&mut self, telegram: Telegram) -> Result<Added, Clash>
         requires { self.old.count < 1000000 }
         ensures made { IsTelegram telegram }

@@ -1,4 +1,4 @@
-//! One run: from a source, through the items, to a sink.
+//! One run: the items of a source, and what is written of them to a sink.
 
 ghost use Rattle.std.specs.Prelude.{◌≡◌, ◌+◌, ◌*◌, ◌%◌, ◌^◌, ◌<◌, ◌≤◌, ◌⊎◌, ℕ, List, [], length, Err, IfOk, IfErr, OnOk};
 ghost use Rattle.std.specs.Io.KnownBytes.{Consumes, IsAtEnd};
@@ -21,21 +21,49 @@ use std::alloc::Global;
 /// How many reads a run has at most.
 const MOST_READS: u64 = 16_000_000;
 
-/// Does the job, which must group no messages: reads the items of the input and writes what the command writes of each,
-/// once it is whole; for a group it also writes last lines at the end. In bytes and in hexadecimal the items follow one
-/// another, and the end of a line doesn't end an item; in JSON each line is one item. Empty lines are skipped.
+/// Does the job: reads the items of an input from the source, and writes to the sink what the command writes of each,
+/// once it is whole, and at the end of a group its last lines. It reads at most 16,000,000 times, and each read gives
+/// at most 4,096 bytes. In bytes and in hexadecimal the items follow one another, and the end of a line doesn't end an
+/// item; in JSON each line is one item. Empty lines are skipped.
+///
+/// What is promised depends on the result. *Given* are all the bytes that the source gave, and *output* is a text,
+/// which the sink took, all of it unless the result is `Write`. Items that are *whole* in what is given are, in
+/// hexadecimal and JSON, those of the lines that have a LF.
+///
+/// - `Ok`: given is the whole input, and is nothing but items of the job's kind in the job's form, at most 1,000,000.
+///   Output is what the command writes of them (`OutputsItems`), and after that what it writes at the end (`Closes`):
+///   for a group its last lines, else nothing. The tally has how many items there are, and for a group how many of them
+///   clash and whether the group is whole, else 0 and true. The source is at its end, no call of source or sink failed,
+///   and the sink was flushed exactly once, as counted modulo 2^64.
+/// - `Refused`, `Truncated`, `BadHex`, `BadJson`, and `Endless` for an item too many: every input that begins with what
+///   is given ends so after the items of output: with this item, bit and variable, with these bits, with this line and
+///   place, or with this line. Or the source is at its end, and the input given ends so. No call failed.
+/// - `Endless` for reads: there were 16,000,000 reads, and at least as many bytes are given. Output is the text of all
+///   items that are whole in them. No call failed.
+/// - `Memory`: output is the text of some first items of what is given, and begins with the text of all items that are
+///   whole in what is given without its last bytes, at most 4,096. No call failed.
+/// - `Read`: output is the text of all items that are whole in what is given. Exactly one call failed, of the source.
+/// - `Write { sent }`: output is the text of some first items of what is given; or the source is at its end, and output
+///   is all that a run of the given input writes, last lines of a group included. The sink took exactly the first
+///   `sent` bytes of it. Exactly one call failed, of the sink.
+///
+/// After a fault the sink wasn't flushed; or it was once, and the fault is `Write`, `sent` counts all of output, the sink
+/// took it, the source is at its end, and output is all that a run of the given input writes.
+///
+/// Requires a job that groups no messages (`groupable`, [`Job::is_groupable`]), since nothing is promised of one that
+/// does, and fewer than 2^63 reads and failed calls so far (`reads`, `read_failures`, `write_failures`).
 ///
 /// # Errors
 ///
 /// - [`RunFault::Refused`] if no item continues with a bit, [`RunFault::Truncated`] if the input ends inside an item;
 /// - [`RunFault::BadHex`] if a line isn't pairs of hexadecimal digits or has more than 4,096 characters,
 ///   [`RunFault::BadJson`] if no item of the kind has the JSON of a line, or the line has more than 1,048,576 characters;
-/// - [`RunFault::Read`] if a read failed, [`RunFault::Write`] if a write failed, with how many bytes of the text the sink
-///   took;
+/// - [`RunFault::Read`] if a read failed, [`RunFault::Write`] if a write or the flush failed, or a write took nothing, with
+///   how many bytes of the text the sink took;
 /// - [`RunFault::Endless`] if the input isn't at its end after 16,000,000 reads, or continues after 1,000,000 items;
-/// - [`RunFault::Memory`] if memory was refused.
+/// - [`RunFault::Memory`] if out of memory; when that happens isn't promised.
 ///
-/// The text of the items that were whole before a fault is written first, unless memory or the sink fails.
+/// After a fault no last lines of a group are written, except perhaps before `Write`.
 pub fn run<S: Source, W: Sink>(
     alloc: Global,
     job: Job,
@@ -76,12 +104,17 @@ fn run_form<S: Source, W: Sink>(
 {
     match job.from {
         Form::Hex => run_lines(alloc, HexLines::new(alloc, job), source, sink),
-        Form::Bin => run_engine(&mut Bin::new(alloc, job), MOST_READS, alloc, source, sink),
+        Form::Bin => {
+            let mut engine = Bin::new(alloc, job);
+            let ended = run_engine(&mut engine, MOST_READS, alloc, source, sink);
+            drop(engine);
+            ended
+        }
         Form::Json => run_lines(alloc, JsonLines::new(alloc, job), source, sink),
     }
 }
 
-/// Gives the lines of the input to what handles them.
+/// Runs a handler over the lines of the input.
 fn run_lines<T: LineHandler + Drop, S: Source, W: Sink>(
     alloc: Global,
     handler: T,

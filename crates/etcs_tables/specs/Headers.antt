@@ -5,11 +5,12 @@ use Rattle.etcs_vars.specs.declared.var.Var.TheVariants.{M_ACK, M_DUP, M_MCOUNT,
 use Rattle.etcs_tables.specs.declared.row.Way.{Way}
 use Rattle.etcs_tables.specs.declared.row.Way.TheVariants.{ToTrain, ToTrack}
 
--- those of a telegram
+-- the ten variables of a telegram's header
 abbrev pub header_row : List Var
 header_row = Q_UPDOWN ∷ M_VERSION_HEADER ∷ Q_MEDIA ∷ N_PIG ∷ N_TOTAL ∷ M_DUP ∷ M_MCOUNT ∷ NID_C ∷ NID_BG ∷ Q_LINK ∷ []
 
--- those of a typed message after L_MESSAGE
+-- the variables of a typed message's header after NID_MESSAGE and L_MESSAGE: to the train T_TRAIN, M_ACK, NID_LRBG, to
+-- the track T_TRAIN, NID_ENGINE
 abbrev pub head_row : Way → List Var
 head_row ToTrain = T_TRAIN ∷ M_ACK ∷ NID_LRBG ∷ []
 head_row ToTrack = T_TRAIN ∷ NID_ENGINE ∷ []

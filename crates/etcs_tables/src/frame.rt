@@ -19,7 +19,8 @@ pub const CLOSING: u8 = 255;
 /// The bits of packet 255, its NID_PACKET alone.
 pub const CLOSING_BITS: usize = 8;
 
-/// The bits in front of a packet's row: NID_PACKET, Q_DIR to the train, and L_PACKET.
+/// How many bits are before a packet's row, at most 23: those of NID_PACKET, Q_DIR to the train, and L_PACKET
+/// (SUBSET-026, 7.4).
 pub fn frame_bits(way: Way) -> usize
     ensures bits { result ≡ frame_bits way }
     ensures most { result ≤ 23 }
@@ -30,7 +31,7 @@ pub fn frame_bits(way: Way) -> usize
     }
 }
 
-/// The bits in front of L_PACKET.
+/// How many bits of a packet are before L_PACKET: those of NID_PACKET and, to the train, Q_DIR.
 pub fn head_bits(way: Way) -> usize
     ensures { result ≡ head_bits way }
 {
@@ -40,14 +41,14 @@ pub fn head_bits(way: Way) -> usize
     }
 }
 
-/// The most bits after a frame that L_PACKET counts.
+/// The most bits that a packet may have after its frame: 8,191, the largest L_PACKET, less the frame.
 pub fn kept_limit(way: Way) -> usize
     ensures { result ≡ kept_limit way }
 {
     MOST_LENGTH - frame_bits(way)
 }
 
-/// Whether packets of this number have a frame.
+/// Whether packets of this number have a frame: to the train the numbers 1 to 254, to the track all.
 pub fn is_framed(way: Way, nid: u8) -> bool
     ensures { result ≡ is_framed way nid }
 {
@@ -57,14 +58,15 @@ pub fn is_framed(way: Way, nid: u8) -> bool
     }
 }
 
-/// Whether packets of this number are kept as bits: they have a frame and aren't typed.
+/// Whether packets of this number are kept as bits: they have a frame (to the train the numbers 1 to 254, to the track
+/// all) and aren't typed.
 pub fn is_kept(way: Way, nid: u8) -> bool
     ensures { result ≡ is_kept way nid }
 {
     is_framed(way, nid) && row_of(way, nid).is_none()
 }
 
-/// Whether a packet may have this direction. To the track it is 0, and isn't sent.
+/// Whether a packet may have this direction: to the train what Q_DIR admits; to the track only 0, which isn't sent.
 #[inline]
 pub fn is_direction(way: Way, dir: u8) -> bool
     ensures { result ≡ is_direction way dir }

@@ -5,7 +5,7 @@ ghost use Rattle.etcs_tables.specs.Layouts.{passes};
 
 use etcs_vars::Var;
 
-/// What a guard asks of a number.
+/// What a guard tests of a number.
 #[derive(Clone, Copy, Debug, PartialEq, Eq)]
 pub enum Test {
     /// It is 0.
@@ -19,7 +19,7 @@ pub enum Test {
 }
 
 impl Test {
-    /// Whether a number passes.
+    /// Whether the number passes the test.
     pub fn passes(self, number: u64) -> bool
         ensures { result ≡ passes self number }
     {
@@ -37,7 +37,7 @@ impl Test {
 pub struct Guard {
     /// The variable that is looked at.
     pub var: Var,
-    /// What is asked of its number.
+    /// The test of its number.
     pub test: Test,
 }
 
@@ -46,9 +46,9 @@ pub struct Guard {
 pub enum RowItem {
     /// A variable.
     One(Var),
-    /// The next `n` items (those of nested groups count) are there only where the guard holds.
+    /// The next `n` items (those of nested groups count) are there only if the guard holds.
     When(Guard, usize),
-    /// The next items, this many with those of the groups in them, are there as often as the number of
-    /// the variable just before says.
+    /// The next `n` items (those of nested groups count) are there as often as the number of the variable just
+    /// before.
     Many(usize),
 }

@@ -14,7 +14,8 @@ pub enum Way {
     ToTrack,
 }
 
-/// A constant table of items.
+/// A row of a packet or a message, as a constant table of items. Its items are sound (`is_sound`), which is computed
+/// for each table and kept here.
 ///
 /// Its groups nest at most four deep, and each begins with a variable; a guard looks at
 /// the variable just before it, with nothing between them but groups on that variable; a count has at

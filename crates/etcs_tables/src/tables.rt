@@ -13,8 +13,8 @@ use crate::item::{Guard, RowItem, Test};
 use crate::row::{Row, Way};
 use etcs_vars::Var;
 
-/// One item of a row: a variable, `(V TEST n)` where the next n items are there if V passes the test, or `[n]` where
-/// they are there as often as the variable before says.
+/// One item of a row: a variable, `(V TEST n)` if the next n items are there only if V passes the test, or `[n]` if
+/// they are there as often as the number of the variable before.
 macro_rules! item {
     ($var:ident) => { One(Var::$var) };
     (($var:ident $test:ident $count:literal)) => {
@@ -186,15 +186,15 @@ static START_REPORT: TypedMessage = message!(2, [(10, 10), (13, 1023)] Q_STATUS)
 
 // ---- Headers.
 
-/// The variables of a telegram's header, in the order of sending (SUBSET-026, 8).
+/// The ten variables of a telegram's header, in the order of sending (SUBSET-026, 8).
 pub fn header_row() -> Row
     ensures { result.items.now ≡ map (λ v. item.One v) header_row }
 {
     row!(Q_UPDOWN M_VERSION_HEADER Q_MEDIA N_PIG N_TOTAL M_DUP M_MCOUNT NID_C NID_BG Q_LINK)
 }
 
-/// The variables of a typed message's header after NID_MESSAGE and L_MESSAGE, in the order of sending (SUBSET-026, 8). Those
-/// of its own follow, and then packets.
+/// The variables of a typed message's header after NID_MESSAGE and L_MESSAGE, in the order of sending (SUBSET-026, 8).
+/// Those of its own follow, and then packets.
 pub fn head_row(way: Way) -> Row
     ensures { result.items.now ≡ map (λ v. item.One v) (head_row way) }
 {
@@ -205,7 +205,7 @@ pub fn head_row(way: Way) -> Row
 }
 
 /// The row of a packet: what comes after its NID_PACKET, Q_DIR to the train, and L_PACKET (SUBSET-026, 7.4).
-/// `None` exactly where the number isn't typed; to the train 0 and 255 aren't.
+/// `None` exactly if the number isn't typed; to the train 0 and 255 aren't.
 pub fn row_of(way: Way, nid: u8) -> Option<Row>
     ensures { option_map (λ row. row.items.now) result ≡ option_map items (row_to way nid) }
 {
@@ -265,7 +265,7 @@ fn row_to_track(nid: u8) -> Option<Row>
 }
 
 /// The row of a message: the variables of its own, after the header (SUBSET-026, 8).
-/// `None` exactly where the number isn't typed.
+/// `None` exactly if the number isn't typed.
 pub fn message_row(way: Way, nid: u8) -> Option<Row>
     ensures { option_map (λ row. row.items.now) result ≡ option_map items (message_row_to way nid) }
 {
@@ -275,7 +275,8 @@ pub fn message_row(way: Way, nid: u8) -> Option<Row>
     })
 }
 
-/// How many bits the variables of a message's own take. `None` where its number isn't typed.
+/// How many bits the variables of a typed message's own take, after its header. `None` exactly if its number isn't
+/// typed.
 pub fn message_bits(way: Way, nid: u8) -> Option<usize>
     ensures { result ≡ option_map row_bits (message_row_to way nid) }
 {
@@ -283,7 +284,10 @@ pub fn message_bits(way: Way, nid: u8) -> Option<usize>
     Some(message.bits)
 }
 
-/// The numbers of bytes, L_MESSAGE, that a message of this number may have, as ranges with both ends.
+/// The numbers of bytes, L_MESSAGE, that leave at most 7 bits or the frame of a packet or more after header and row of
+/// a message of this number, as ranges with both ends; 3 to 1,023 if the number isn't typed. The contract is this
+/// computation; that these are the lengths that such a message may have is the contract of `message_lengths` of
+/// etcs_rows.
 pub fn message_ranges(way: Way, nid: u8) -> &'static [(u64, u64)]
     ensures { result.now ≡ lengths_after way (message_row_to way nid) }
 {

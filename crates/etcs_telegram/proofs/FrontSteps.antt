@@ -85,7 +85,7 @@ front_span vs xs at ns end f =
     let one = sym (length-widths (labelled vs ns) ∙ labelled_widths vs ns f.count) ∙ ap length f.bits ∙ length-part at (end - at) xs (omega (arith, onward, inside)) in
     omega (arith, one, onward)
 
--- and the reader may take them at once, where there are such
+-- and the reader may take them at once, if there are such
 pub front_leaps : (vs : List Var) (xs : List Bool) (at : ℕ) (ns : List ℕ) (end : ℕ) (Left Follows : Reading → Type 0) → 0 < widths vs → FrontAt vs xs at ns end → Goes Left → Follows (labelled vs ns) → LeapsBy Left Follows xs at (end - at)
 front_leaps vs xs at ns end Left Follows some f goes follows =
     let span = front_span vs xs at ns end f in

@@ -58,7 +58,7 @@ none_filled (b ∷ k) i e = absurd cc
 filled_frame : (r : Reading) (k : List Bool) (zeros nid dir bits : ℕ) (t : Reading) → r ≡ filled k zeros → r ≡ frame nid dir bits ++ t → ⊥
 filled_frame r k zeros nid dir bits t e is = no_direction k zeros dir ((L_PACKET, 23 + bits) ∷ t) (sent_parts NID_PACKET NID_PACKET 255 nid (kept FILL k ++ kept PAD (replicate zeros false)) ((Q_DIR, dir) ∷ (L_PACKET, 23 + bits) ∷ t) (sym e ∙ is)).2
 
--- where it is what is begun of a packet, no bit of FILL is there
+-- if it is what is begun of a packet, no bit of FILL is there
 filled_begun : (r : Reading) (f : List ℕ) (k l : List Bool) (zeros : ℕ) → r ≡ filled l zeros → Begun ToTrain r f k → (f ≡ []) × (k ≡ l)
 filled_begun r f k l zeros e (inl (inl none, i, j)) = let two : ◌≡◌ {A = Reading} (filled l zeros) [] = sym e ∙ none in absurd cc
 filled_begun r f k l zeros e (inl (inr (inl (nid, one)), i, j)) = (i, j ∙ sym (none_filled l zeros (sent_parts NID_PACKET NID_PACKET 255 nid (kept FILL l ++ kept PAD (replicate zeros false)) [] (sym e ∙ one)).2))

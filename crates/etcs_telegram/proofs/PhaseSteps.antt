@@ -24,7 +24,7 @@ some_fill size n =
     let p = pad_goes (pad_bits size) in
     (b.0 ++ p.0, (b.0, p.0, refl, b.1, p.1))
 
--- what is left, as after says
+-- what is left, by the definition of after
 pub none_left : (size : Size) → Same (FillLeft size 0) (PadLeft (pad_bits size))
 none_left size = then_second (BitsLeft FILL 0) (PadLeft (pad_bits size)) (λ r h. (no_bits FILL r).0 h) (some_bits FILL refl 0)
 

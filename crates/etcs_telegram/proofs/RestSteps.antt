@@ -73,7 +73,7 @@ var_header s at e =
 pub packets_viable : (size : Size) (l : PacketsState) (t : List Bool) → Viable (left_of l.carrier l.room l.stage) t → Viable (left_at size Packets l) t
 packets_viable size l t v = filled_viable (FillLeft size) (some_fill size) l t v
 
--- after FILL that is wanted comes PAD
+-- after what is left of FILL comes PAD
 pub beyond_fill : (size : Size) (left n : ℕ) (l : PacketsState) → n ≤ left → Same (FillLeft size (left - n)) (left_at size (after_fill size left n) l)
 beyond_fill size left n l le =
     by_test (ltb n left) (λ x. Same (FillLeft size (left - n)) (left_at size x l)) (Fill (left - n)) (Pad (pad_bits size))
@@ -95,7 +95,7 @@ beyond_any size l =
 pub packets_after : (size : Size) (l l' : PacketsState) (p : Reading) → Moved l.carrier l.room l.stage p l'.carrier l'.room l'.stage → Goes (left_of l'.carrier l'.room l'.stage) → Residual (left_at size Packets l) p (left_at size (after_packets size l') l')
 packets_after size l l' p m g = residual_same (left_at size Packets l) p (PacketsAfter size l') (left_at size (after_packets size l') l') (filled_after (FillLeft size) l l' p m g) (beyond_any size l')
 
--- all of it continues where the packets do
+-- all of it continues if the packets do
 pub packets_all : (size : Size) (l : PacketsState) → Goes (left_of l.carrier l.room l.stage) → Goes (left_at size (after_packets size l) l)
 packets_all size l g = let h = filled_goes (FillLeft size) (some_fill size) l g in (h.0, (beyond_any size l h.0).0 h.1)
 
@@ -109,7 +109,7 @@ fill_residual size left t le =
 pub fill_after : (size : Size) (left : ℕ) (l : PacketsState) (t : List Bool) → length t ≤ left → Residual (FillLeft size left) (kept FILL t) (left_at size (after_fill size left (length t)) l)
 fill_after size left l t le = residual_same (FillLeft size left) (kept FILL t) (FillLeft size (left - length t)) (left_at size (after_fill size left (length t)) l) (fill_residual size left t le) (beyond_fill size left (length t) l le)
 
--- a number continues where it does in FILL alone
+-- a number continues if it does in FILL alone
 fill_starts : (size : Size) (left rest bits : ℕ) → 0 < left → Starts (BitsLeft FILL left) FILL rest bits ↔ Starts (FillLeft size left) FILL rest bits
 fill_starts size left rest bits pos = then_starts (BitsLeft FILL left) (PadLeft (pad_bits size)) FILL (bits_begin FILL refl left pos) (pad_goes (pad_bits size)) rest bits
 

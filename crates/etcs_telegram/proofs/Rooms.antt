@@ -1,4 +1,4 @@
--- A header and packets begin a telegram exactly where room for packet 255 is left.
+-- A header and packets begin a telegram exactly if room for packet 255 is left.
 use Rattle.std.proofs.Common.{◌≡◌, ℕ, ◌+◌, ◌-◌, ◌≤◌, Bool, true, List, [], ◌∷◌, ◌++◌, length, refl, sym, ap, ◌∙◌, arith, append_assoc}
 use Rattle.std.specs.Prelude.{All, replicate}
 use Rattle.std.proofs.lemmas.List.{length-replicate}

@@ -55,7 +55,7 @@ far_by Whole s q g h = let k = s.store.list in filled_far s.header k.packets.ite
 pub far_is : (s : TelegramState TelegramStore) (q : Reading) → Goes (Left s) → HoldsIn store_holds s q → q ≡ so_far s
 far_is s q g h = far_by s.phase s q g h
 
--- ---- How long they are where memory may be asked for.
+-- ---- How long they are when memory may be asked for.
 
 -- ten numbers of the header take 50 bits
 front_long : (header : List ℕ) (rest q : Reading) → length header ≡ 10 → q ≡ labelled header_row header ++ rest → 50 ≤ length (spelled q)

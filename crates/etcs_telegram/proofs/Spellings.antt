@@ -45,7 +45,7 @@ runs_agree size t u a b st su x y =
     let runs = run_regular Telegram (packet_room size) in
     runs.agree (closed t) (closed u) (t.packets, closed_at size t a st x) (u.packets, closed_at size u b su y)
 
--- where the packets are the same, FILL has the same length
+-- if the packets are the same, FILL has the same length
 fills_alike : (t u : TelegramValue) (a b : Reading) → t.size ≡ u.size → closed t ≡ closed u → TelegramReads t a → TelegramReads u b → length t.fill ≡ length u.fill
 fills_alike t u a b s e x y =
     omega (arith, header_length t.header, header_length u.header, x.user_bits_is, y.user_bits_is, ap user_bits s, ap (λ (r : Reading). length (spelled r)) e)

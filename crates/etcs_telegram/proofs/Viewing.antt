@@ -41,14 +41,14 @@ use Rattle.etcs_telegram.proofs.HeaderLemmas.{header_length}
 use Rattle.etcs_telegram.proofs.SameReadings.{owner_along, refuses_along, owner_same}
 use Rattle.etcs_telegram.proofs.Spellings.{regular, one_value, whole_length}
 
--- the fault says which bit
+-- the fault has the bit
 pub refused_same : (L : Reading → Type 0) (b : List Bool) (i j : ℕ) (x y : Var) → ◌≡◌ {A = ViewFault} (Refused i x) (Refused j y) → Refuses L b i x → Refuses L b j y
 refused_same L b i j x y e r =
     let bit : i ≡ j = cc in
     let holder : x ≡ y = cc in
     subst (λ (v : Var). Refuses L b j v) holder (subst (λ (n : ℕ). Refuses L b n x) bit r)
 
--- a bit that is refused of what is left, where no bit is there, is refused of a telegram
+-- a bit that is refused of what is left, if no bit is there, is refused of a telegram
 pub refused_bit : (size : Size) (L : Reading → Type 0) → Same L (TelegramLanguage size) → (front b : List Bool) (i n count : ℕ) (x : Var) → front ≡ [] → count ≡ 0 → i ≡ count + n → Refuses L (front ++ b) (length front + n) x → Refuses (TelegramLanguage size) b i x
 refused_bit size L same front b i n count x none start place r =
     let is : length front + n ≡ i = omega (arith, ap (λ (u : List Bool). length u) none, start, place) in
@@ -62,7 +62,7 @@ packets_long : (vs : List PacketValue) → length vs ≤ length (spelled (packet
 packets_long [] = omega arith
 packets_long (v ∷ vs) = omega (arith, packets_long vs, length-spelled (packet_reading v) (packets_reading vs), packet_bits v, some_bits ToTrain v)
 
--- of all bits of a telegram no more are wanted
+-- after all bits of a telegram no more are expected
 none_wanted : (size : Size) (b : List Bool) (x : Var) → length b ≡ user_bits size + pad_bits size → Owner (TelegramLanguage size) b x → ⊥
 none_wanted size b x long o =
     let (r, c, l, e) = o.viable in
@@ -92,7 +92,7 @@ whole_seen size b header room store q l f e =
       omega (arith, bits),
     )
 
--- where these bits of all are taken, by the variables q
+-- if these bits of all are taken, by the variables q
 pub record Passed (size : Size) (L : Reading → Type 0) (b : List Bool) (t : TelegramState PacketCount) (n : ℕ) (front beyond : List Bool) (q : Reading) : Type 0 where
   pub size_is : t.size ≡ size
   pub within : n ≤ length b

@@ -7,6 +7,7 @@ use Rattle.etcs_sequence.specs.Labels.{labelled}
 use Rattle.etcs_telegram.specs.Telegrams.{IsAdmitted}
 use Rattle.etcs_tables.specs.Headers.{header_row}
 
+-- the first variable of the header, in the order of sending, that doesn't admit its number
 abbrev pub header_fault : ℕ → ℕ → ℕ → ℕ → ℕ → ℕ → ℕ → Option BuildFault
 header_fault m_version n_pig n_total m_dup m_mcount nid_c nid_bg =
     number_fault M_VERSION_HEADER m_version or_else number_fault N_PIG n_pig or_else number_fault N_TOTAL n_total or_else number_fault M_DUP m_dup or_else number_fault M_MCOUNT m_mcount or_else number_fault NID_C nid_c or_else number_fault NID_BG nid_bg

@@ -27,10 +27,11 @@ FillBy size room p r = FillLeft size (room - length (spelled p)) r
 abbrev pub PacketsThen : Size → (Reading → Type 0) → ℕ → Reading → Type 0
 PacketsThen size P room r = Chain P (FillBy size room) r
 
+-- the same of packets of which this is left
 abbrev pub PacketsAfter : Size → PacketsState → Reading → Type 0
 PacketsAfter size l r = PacketsThen size (left_of l.carrier l.room l.stage) (ahead l.carrier l.room l.stage) r
 
--- the readings that are left
+-- the readings that are left if this comes next
 abbrev pub left_at : Size → Phase → PacketsState → Reading → Type 0
 left_at size (Header at) l r = Then (ReadsFields (drop at header_row)) (PacketsAfter size l) r
 left_at size Packets l r = PacketsAfter size l r
@@ -50,7 +51,7 @@ next_at Whole l = None
 abbrev pub is_open : PacketsState → Bool
 is_open l = is_telegram l.carrier && not (is_closed l.stage)
 
--- what holds of what comes next, where this many of the header's numbers are there
+-- what comes next agrees with how many of the header's numbers are there and with what is left of packets
 abbrev pub stands_at : Phase → ℕ → PacketsState → Bool
 stands_at (Header at) n l = nat_lt at 10 && ((n == at) && is_open l)
 stands_at Packets n l = (n == 10) && is_open l
@@ -91,7 +92,7 @@ pub record Filled (header : List ℕ) (holds : Holds) (room left zeros : ℕ) (q
   pub room_is : length fill + left ≡ room
   pub reading_is : q ≡ labelled header_row header ++ beyond_header (closed_reading packets) fill zeros
 
--- q are the variables so far, of which so much is held
+-- q are the variables so far, and what is held is of them
 abbrev pub HoldsBy : Size → Phase → List ℕ → PacketsState → Holds → Reading → Type 0
 HoldsBy size (Header at) header l holds q = (q ≡ labelled header_row header) × HoldsAt l.carrier l.stage holds []
 HoldsBy size Packets header l holds q = (h : Reading) × (q ≡ labelled header_row header ++ h) × HoldsAt l.carrier l.stage holds h
@@ -101,7 +102,7 @@ HoldsBy size Whole header l holds q = Filled header holds l.room 0 (pad_bits siz
 
 -- ---- A telegram of which some was read.
 
--- its size, what comes next, the header's numbers so far, what is left of packets, and where these go
+-- its size, what comes next, the header's numbers so far, what is left of packets, and the store of packets
 pub record TelegramState (S : Type 0) : Type 0 where
   pub size : Size
   pub phase : Phase
@@ -118,19 +119,20 @@ Left s = left_at s.size s.phase s.left
 abbrev pub next_var : {S : Type 0} → TelegramState S → Option Var
 next_var s = next_at s.phase s.left
 
+-- its next variable may ask for memory
 abbrev pub MayAsk : {S : Type 0} → TelegramState S → Type 0
 MayAsk s = IsTrue (may_ask s.phase s.left)
 
--- q are its variables so far, of which so much is held
+-- q are its variables so far, and what is held is of them
 abbrev pub HoldsIn : {S : Type 0} → (S → Holds) → TelegramState S → Reading → Type 0
 HoldsIn holds s q = HoldsBy s.size s.phase s.header s.left (holds s.store) q
 
--- by the variables p the first comes to the second, with what is kept
+-- the variables p lead from the first to the second: what is left, and what is held
 pub record Follows {S : Type 0} (holds : S → Holds) (s : TelegramState S) (p : Reading) (t : TelegramState S) : Type 0 where
   pub same : t.size ≡ s.size
   pub residual : Residual (Left s) p (Left t)
   pub held : (q : Reading) → HoldsIn holds s q → HoldsIn holds t (q ++ p)
 
--- and by n bits of xs from at on, after which something is left
+-- the same by n bits of xs from at on, after which something is left
 abbrev pub Leaps : {S : Type 0} → (S → Holds) → TelegramState S → TelegramState S → List Bool → ℕ → ℕ → Type 0
 Leaps holds s t xs at n = LeapsBy (Left t) (λ p. Follows holds s p t) xs at n

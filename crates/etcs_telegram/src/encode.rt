@@ -30,12 +30,13 @@ impl fmt::Display for NoRoom {
 impl Error for NoRoom {}
 
 impl Telegram {
-    /// Writes the telegram into the first bytes of `out`, 27 for a short telegram and 104 for a long one, and
-    /// returns how many they are. The bytes after stay.
+    /// Writes the telegram's spelling over the first bytes of `out`, 27 of a short telegram and 104 of a long one, and
+    /// returns how many they are. Succeeds exactly if `out` has that many bytes; the bytes after them stay as they
+    /// were. Takes no memory.
     ///
     /// # Errors
     ///
-    /// `NoRoom` where `out` is shorter than that. All its bytes then stay.
+    /// [`NoRoom`] if `out` is shorter. All its bytes then stay as they were.
     pub fn encode_into(&self, out: &mut [u8]) -> Result<usize, NoRoom>
         ensures room { IsOk result ↔ (container_bytes self.now.size ≤ length out.old) }
         ensures ok { IfOk result (λ n. (n ≡ container_bytes self.now.size) × (r : Reading) × TelegramReads (telegram_value self.now) r × (bits out.new ≡ spelled r ++ bits (drop n out.old))) }
@@ -49,11 +50,12 @@ impl Telegram {
         Ok(len)
     }
 
-    /// Appends the telegram's bytes, 27 of a short telegram and 104 of a long one.
+    /// Appends the telegram's spelling, 27 bytes of a short telegram and 104 of a long one. If it succeeds, the bits of
+    /// `out` are those before and, after them, the telegram's.
     ///
     /// # Errors
     ///
-    /// `AllocError` where there is no memory. `out` then stays as it was.
+    /// `AllocError` if out of memory. `out` then stays as it was.
     pub fn encode(&self, out: &mut Vec<u8>) -> Result<(), AllocError>
         ensures ok { OnOk result ((r : Reading) × TelegramReads (telegram_value self.now) r × (bits out.new.items ≡ bits out.old.items ++ spelled r)) }
         ensures err { OnErr result (out.new.items ≡ out.old.items) }

@@ -37,11 +37,13 @@ impl Model for Header {
 impl Header {
     ghost use Rattle.etcs_telegram.specs.Telegrams.{header_reading, IsAdmitted};
 
-    /// A header of these numbers. Q_UPDOWN (1) and Q_MEDIA (0) are fixed.
+    /// A header of these numbers. Succeeds exactly if each variable admits its number. Q_UPDOWN (1) and Q_MEDIA (0) are
+    /// fixed.
     ///
     /// # Errors
     ///
-    /// `NotAdmitted` with the first variable, in the order of the arguments, that doesn't admit its number.
+    /// [`BuildFault::NotAdmitted`] with the first variable, in the order of the arguments, that doesn't admit its
+    /// number.
     pub fn new(
         m_version: u8,
         n_pig: u8,
@@ -139,7 +141,9 @@ impl Header {
     }
 }
 
-/// The header of its ten numbers in the order of sending.
+/// The header that has these ten numbers, in the order of sending.
+///
+/// Requires exactly ten numbers, each admitted by its variable.
 pub fn header_by(numbers: &[u64]) -> Header
     requires { IsHeaderNumbers numbers.now }
     ensures { result ≡ header_of numbers.now }

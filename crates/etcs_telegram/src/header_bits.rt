@@ -17,7 +17,7 @@ use etcs_vars::Var;
 /// How many bits the header's variables take.
 pub(crate) const HEADER_BITS: usize = 50;
 
-/// The number of a variable in a word, with this many bits after it. `None` where the variable doesn't admit it.
+/// The number of a variable in a word, with this many bits after it. `None` if the variable doesn't admit it.
 #[inline(always)]
 fn field(word: u64, beyond: usize, var: Var) -> Option<u64>
     requires { beyond + width var < 64 }
@@ -30,7 +30,7 @@ fn field(word: u64, beyond: usize, var: Var) -> Option<u64>
     Some(number)
 }
 
-/// The numbers of the header's variables in the lowest 50 bits of a word. `None` where one doesn't admit its number.
+/// The numbers of the header's variables in the lowest 50 bits of a word. `None` if one doesn't admit its number.
 #[inline(always)]
 fn header_in(word: u64) -> Option<[u64; 10]>
     ensures { IfSome result (λ ns. FieldsIn header_row word ns) }
@@ -49,7 +49,7 @@ fn header_in(word: u64) -> Option<[u64; 10]>
     ])
 }
 
-/// The numbers of the header's variables from the bit `at` on, and the bit after them. `None` where the piece doesn't
+/// The numbers of the header's variables from the bit `at` on, and the bit after them. `None` if the piece doesn't
 /// have them all, or one doesn't admit its number.
 #[inline]
 pub(crate) fn header_at(piece: &[u8], at: usize) -> Option<(ArrayVec<u64, 10>, usize)>
@@ -64,7 +64,7 @@ pub(crate) fn header_at(piece: &[u8], at: usize) -> Option<(ArrayVec<u64, 10>, u
     Some((ArrayVec::from(numbers), at + HEADER_BITS))
 }
 
-/// The header that a piece begins with. `None` where one of its variables doesn't admit its number.
+/// The header that a piece begins with. `None` if one of its variables doesn't admit its number.
 #[inline(always)]
 pub(crate) fn header_at_front(piece: &[u8]) -> Option<Header>
     requires { 50 ≤ length (bits piece.now) }

@@ -10,7 +10,8 @@ pub use crate::rest::TelegramRest;
 pub use crate::store::TelegramStore;
 use crate::telegram::Telegram;
 
-/// The numbers of the header's variables in the order of sending. Each variable admits its number.
+/// The numbers of the header's ten variables in the order of sending, fixed ones included. Each variable admits its
+/// number.
 pub fn header_numbers(header: &Header) -> [u64; 10]
     ensures numbers { result ≡ map (λ p. p.1) (header_reading header.now) }
     ensures admitted { IsAdmitted (header_reading header.now) }
@@ -30,7 +31,7 @@ pub fn header_numbers(header: &Header) -> [u64; 10]
     ]
 }
 
-/// For proofs: the telegram has a reading. Does nothing.
+/// For proofs: each telegram has a reading, which is `telegram_reading` of its value. Does nothing.
 pub fn reads(telegram: &Telegram)
     ensures { TelegramReads (telegram_value telegram.now) (telegram_reading (telegram_value telegram.now)) }
 {

@@ -14,40 +14,41 @@ use crate::telegram::Telegram;
 use etcs_sequence::inner::first_item;
 use std::alloc::{AllocError, Global};
 
-/// Telegrams of one size with one spelling are equal, and no spelling begins another.
+/// No two telegrams of a size have the same spelling, and no spelling begins another.
 pub fn one_spelling()
     ensures { OneSpelling }
 {}
 
-/// Where a header's numbers are admitted, its bits with those of packets after them begin a telegram of a size
-/// exactly where 8 bits more, for NID_PACKET 255, stay within the user bits.
+/// If a header's numbers and some packets are admitted, the header's bits with those of the packets after them begin a
+/// telegram of a size exactly if at least 8 of the user bits are left, for NID_PACKET 255.
 pub fn room()
     ensures { RoomRule }
 {}
 
-/// Of the same bits just one is the first with which no telegram of a size continues, and one variable holds it: so the
-/// view and the reader refuse the same.
+/// Of the same bits at most one is the first with which no telegram of a size continues, and one variable holds it. So
+/// a view, and a reader of the same bytes that reports `Refused`, name the same bit and the same variable.
 pub fn one_refusal()
     ensures { OneRefusal }
 {}
 
-/// Of the same bits a reader holds one and the same: packets, numbers, kept bits and the unfinished variable.
+/// The bits so far and the size leave one possibility of what [`TelegramReader::held`] returns: any two packets,
+/// numbers, kept bits, `part` and `taken` of which its promise holds for the same bits are equal, all five.
 pub fn one_holding()
     ensures { OneHolding }
 {}
 
-/// `==` of telegrams is equality of their values: size, header, packets and FILL.
+/// `==` of telegrams is equality of their values: true exactly if size, header, packets and FILL are equal.
 pub fn exact_equality(first: &Telegram, second: &Telegram) -> bool
     ensures { IsTrue result ↔ (first.now ≡ second.now) }
 {
     first == second
 }
 
-/// Encodes a telegram and reads its bytes again: what is read is the telegram that was encoded.
+/// Encodes a telegram and reads its bytes again: if it succeeds, what is read is the telegram that was encoded.
 ///
 /// # Errors
 ///
-/// Where the reader was refused memory.
+/// `AllocError` if the reader is out of memory; the body has no other way to fail.
 pub fn round_trip(alloc: Global, telegram: &Telegram) -> Result<Telegram, AllocError>
     ensures { IfOk result (λ again. again ≡ telegram.now) }
 {
@@ -74,12 +75,13 @@ fn write_over(telegram: &Telegram, out: &mut [u8])
     };
 }
 
-/// Reads a telegram of a size from the front of some bytes and writes it over the first bytes of a buffer: these are
-/// then the bytes that were read. Returns how many they are, or `None` where no telegram is at the front.
+/// Reads a telegram of a size from the front of some bytes and writes it over the first bytes of a buffer. If it
+/// returns a number of bytes, that many were there, they spell a telegram of the size, and the buffer's first bytes are
+/// now the same. If it returns `None`, no front of the bits spells one.
 ///
 /// # Errors
 ///
-/// Where the reader was refused memory.
+/// `AllocError` if the reader is out of memory; the body has no other way to fail.
 pub fn read_back(
     alloc: Global,
     size: Size,

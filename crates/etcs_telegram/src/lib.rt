@@ -1,4 +1,6 @@
-//! Balise telegrams.
+//! Balise telegrams: a [`Telegram`] of a [`Header`] and packets, written over the caller's bytes (`encode_into`) or
+//! appended to a list of bytes (`encode`); read from pieces by [`TelegramReader`], or in place, without allocation,
+//! by [`TelegramView`]. Radio messages are in `etcs_messages`.
 #![tactic(auto)]
 
 mod encode;

@@ -36,7 +36,7 @@ impl Phase {
         }
     }
 
-    /// What comes after this many bits of FILL, of which `left` were wanted.
+    /// What comes after this many bits of FILL, of which `left` were left.
     pub(crate) fn after_fill(size: Size, left: usize, count: usize) -> Phase
         ensures { result ≡ after_fill size left count }
     {

@@ -102,7 +102,7 @@ impl ItemRest for TelegramRest<TelegramStore> {
 
 /// Reads a balise telegram from pieces of any length. It keeps none of the bytes: only the header's numbers, the
 /// packets that are whole, the numbers or kept bits of the packet that is being read, the FILL bits so far and one
-/// unfinished variable; or the telegram, where the first piece had all of it.
+/// unfinished variable; or the telegram, if the first piece had all of it. No clause promises this of its fields.
 #[derive(Drop)]
 pub struct TelegramReader {
     pub(crate) reader: ItemReader<TelegramRest<TelegramStore>>,
@@ -120,7 +120,8 @@ impl TelegramReader {
     ghost use Rattle.etcs_sequence.specs.Progress.{Feeds, IsReading, fault_of, seen_of, reading, finished};
     ghost use Rattle.etcs_telegram.specs.Telegrams.{TelegramContent};
 
-    /// A reader of telegrams of this size. Nothing is allocated before the first packet or FILL bit.
+    /// A reader of telegrams of this size that has read no bits. Nothing is allocated before the first packet or FILL
+    /// bit.
     pub fn new(alloc: Global, size: Size) -> Self
         ensures { result ≡ record { size = size; progress = reading [] } }
     {
@@ -129,22 +130,33 @@ impl TelegramReader {
         }
     }
 
-    /// How many leading bits were accepted, over all pieces.
+    /// How many leading bits were accepted, over all pieces: all bits while the telegram isn't whole; after `Done`
+    /// those of the telegram, PAD included: 216 or 832; after `Refused` those before the refused bit. After `Memory` it
+    /// is the number that [`TelegramReader::feed`] describes.
     pub fn bits_seen(&self) -> usize
         ensures { result ≡ seen_of telegram_bits self.now.progress }
     {
         self.reader.bits_seen()
     }
 
-    /// Takes the next piece: `More` where all of it was taken and the telegram isn't whole yet, `Done` with the
-    /// number of its bytes up to the telegram's end.
+    /// Takes the next piece. Of all bits so far, in whatever pieces they came: `Done` with the count of this piece's
+    /// bytes up to the end of a telegram of the size if the bits up to there spell it; `More` if the bits begin a
+    /// telegram and no front of them is one.
     ///
     /// # Errors
     ///
-    /// `Refused` with the first bit, counted from 0 over all pieces, with which no telegram continues, and the variable
-    /// that holds it; `Memory` where memory is refused, for packets or FILL, at a bit with which a telegram continues,
-    /// which is no bit of the header, Q_DIR or PAD; `Ended` where the telegram was whole before. The reader then
-    /// returns the same for each later piece, and `bits_seen` reports how far it came.
+    /// - `Refused` if no front of the bits is a telegram of the size and none begins with them: `bit`, counted from 0
+    ///   over all pieces, is the first with which no telegram continues, and `var` is the variable that holds it in
+    ///   each telegram that begins with the bits before it.
+    /// - `Memory` if out of memory for packets or FILL. [`TelegramReader::bits_seen`] is then at least the number of
+    ///   bits of the pieces before, at least 50, and fewer than all; the bits up to there with the next one begin a
+    ///   telegram, and one variable holds that next bit in each telegram that begins with the bits before it, which is
+    ///   neither Q_DIR nor PAD. No clause promises that memory did run out, nor that no bit of the piece would be
+    ///   refused.
+    /// - `Ended` after `Done`.
+    ///
+    /// After `Refused` or `Memory` each later feed returns the same, after `Done` it returns `Ended`. The reader then
+    /// doesn't change. Its size never does.
     pub fn feed(&mut self, piece: &[u8]) -> Result<Fed, ReadFault>
         ensures answer { (seen : List Bool) → self.old.progress ≡ reading seen → Feeds (ReadsAs self.old.size) telegram_value IsTelegram 50 seen (bits piece.now) result self.new.progress }
         ensures after { (IsReading self.old.progress → ⊥) → (self.new ≡ self.old) × (result ≡ Err (fault_of self.old.progress)) }
@@ -153,8 +165,14 @@ impl TelegramReader {
         self.reader.feed(piece)
     }
 
-    /// What it holds between two pieces: the whole packets, the numbers or kept bits of the packet that is being read
-    /// or FILL, and the unfinished variable. `None` after `Done`, `Refused` or `Memory`.
+    /// What it holds between two pieces: the whole packets, each as its own type admits it, the numbers or kept bits of
+    /// the packet that is being read or the bits of FILL, and the unfinished variable. `None` exactly after `Done`,
+    /// `Refused` or `Memory`.
+    ///
+    /// Packets, numbers and kept bits are those of the whole variables so far. The bits so far are those of these
+    /// variables and then `taken` bits, fewer than the next variable is wide, which are the number `part`. Each
+    /// telegram that begins with these bits begins with these variables and continues with that one variable, which
+    /// holds the next bit.
     pub fn held(&self) -> Option<Held<'_, Packet>>
         ensures some { IfSome result (λ h. IsHeld (TelegramLanguage self.now.size) (Members h.packets.now h.numbers.now h.kept) self.now.progress h.part h.taken) }
         ensures none { IsNone result → IsReading self.now.progress → ⊥ }
@@ -162,11 +180,11 @@ impl TelegramReader {
         self.reader.held()
     }
 
-    /// The telegram, once `feed` has answered `Done`.
+    /// The telegram. Succeeds exactly if there is a whole one: once `feed` has returned `Done`.
     ///
     /// # Errors
     ///
-    /// The reader itself, as it was, where there is no whole telegram.
+    /// The reader itself, as it was, if there is no whole telegram.
     #[inline(always)]
     pub fn take(self) -> Result<Telegram, Self>
         ensures { MatchResult result (λ t. self.progress ≡ finished t) (λ r. (r ≡ self) × ((t : TelegramContent) → self.progress ≢ finished t)) }
@@ -177,8 +195,8 @@ impl TelegramReader {
         }
     }
 
-    /// The telegram, once `feed` has answered `Done`. The reader then reads another of the same size, from its first bit.
-    /// `None` where there is no whole telegram; the reader stays as it was.
+    /// The telegram, once `feed` has returned `Done`; `None` exactly if there is no whole one, and the reader then
+    /// stays as it was. After `Some` the reader has read no bits and reads another telegram of the same size.
     #[inline(always)]
     pub fn take_next(&mut self) -> Option<Telegram>
         ensures some { IfSome result (λ t. (self.old.progress ≡ finished t) × (self.new.progress ≡ reading [])) }
@@ -188,7 +206,8 @@ impl TelegramReader {
         self.reader.take_next()
     }
 
-    /// Takes the room of a telegram that isn't needed any more for the next ones that the reader reads.
+    /// Takes the memory of a telegram that is no longer needed for the next ones that the reader reads. The reader
+    /// stays as it was; no clause promises that it uses that memory.
     #[inline(always)]
     pub fn reuse(&mut self, telegram: Telegram)
         ensures { self.new ≡ self.old }

@@ -67,7 +67,7 @@ fn after_packets(size: Size, left: &PacketsState) -> Phase
     }
 }
 
-/// What comes after a bit of PAD, of which `left` are wanted.
+/// What comes after a bit of PAD, of which `left` are left with it.
 fn beyond_pad(left: usize) -> Phase
     ensures { result ≡ after_pad left }
 {
@@ -105,7 +105,7 @@ impl<S: PacketStore> TelegramRest<S> {
         self.phase = Phase::after_header(at);
     }
 
-    /// Takes the whole header, where the piece has it and each number is admitted, and says how many bits it was.
+    /// Takes the whole header, if the piece has it and each number is admitted, and returns how many bits it was.
     fn leap_header(&mut self, piece: &[u8], at: usize) -> Option<usize>
         requires phase { self.old.phase ≡ Phase.Header 0 }
         requires inside { at < length (bits piece.now) }
@@ -135,7 +135,7 @@ impl<S: PacketStore> TelegramRest<S> {
         Ok(())
     }
 
-    /// Takes variables of the packets together where a piece has such, and says how many bits they are.
+    /// Takes variables of the packets together if a piece has such, and returns how many bits they are.
     fn leap_packets(&mut self, piece: &[u8], at: usize) -> Result<Option<usize>, AllocError>
         requires phase { self.old.phase ≡ Phase.Packets }
         requires inside { at < length (bits piece.now) }
@@ -153,7 +153,7 @@ impl<S: PacketStore> TelegramRest<S> {
         Ok(leapt)
     }
 
-    /// Takes bits of FILL, of which `left` are wanted.
+    /// Takes bits of FILL, of which `left` are left with them.
     #[inline(always)]
     fn fill(&mut self, left: usize, slice: &BitSlice<'_>) -> Result<(), AllocError>
         requires phase { self.old.phase ≡ Phase.Fill left }
@@ -169,7 +169,7 @@ impl<S: PacketStore> TelegramRest<S> {
         Ok(())
     }
 
-    /// After a bit of FILL, of which `left` are wanted.
+    /// After a bit of FILL, of which `left` were left with it.
     fn pass_fill(&mut self, left: usize, number: u64) -> Result<(), AllocError>
         requires phase { self.old.phase ≡ Phase.Fill left }
         requires small { number < 2 }
@@ -180,7 +180,7 @@ impl<S: PacketStore> TelegramRest<S> {
         self.fill(left, &bits_at(&byte, 7, 1))
     }
 
-    /// Takes a run of FILL, of which `left` bits are wanted, and says how many bits it was.
+    /// Takes a run of FILL, of which `left` bits are left with it, and returns how many bits it was.
     fn leap_fill(
         &mut self,
         left: usize,
@@ -200,7 +200,7 @@ impl<S: PacketStore> TelegramRest<S> {
         Ok(Some(run.len()))
     }
 
-    /// After a bit of PAD, of which `left` are wanted.
+    /// After a bit of PAD, of which `left` were left with it.
     fn pass_pad(&mut self, left: usize)
         requires phase { self.old.phase ≡ Phase.Pad left }
         ensures { Follows S.holds self.old ((PAD, 0) ∷ []) self.new }
@@ -208,8 +208,8 @@ impl<S: PacketStore> TelegramRest<S> {
         self.phase = beyond_pad(left);
     }
 
-    /// Takes the bits of PAD, of which `left` are wanted, where the piece has them all and they are zeros, and says how
-    /// many it was.
+    /// Takes the `left` bits of PAD that are left, if the piece has them all and they are zeros, and returns how many
+    /// they were.
     fn leap_pad(&mut self, left: usize, piece: &[u8], at: usize) -> Option<usize>
         requires phase { self.old.phase ≡ Phase.Pad left }
         requires inside { at < length (bits piece.now) }
@@ -243,8 +243,8 @@ impl TelegramRest<TelegramStore> {
         }
     }
 
-    /// Continues after the packets that a store has taken of their room, of which this many bits are left, where none was
-    /// read yet.
+    /// Continues after the packets that a store has taken of their room, of which this many bits are left. None was
+    /// read before.
     pub(crate) fn resume(&mut self, store: TelegramStore, left: usize)
         requires phase { self.old.phase ≡ Phase.Packets }
         requires stage { self.old.left.stage ≡ Stage.Number }

@@ -13,7 +13,7 @@ impl Size {
     ghost use Rattle.std.specs.Prelude.{◌≡◌};
     ghost use Rattle.etcs_telegram.specs.Telegrams.{user_bits, pad_bits, packet_room, container_bytes};
 
-    /// How many bits come before PAD.
+    /// How many bits come before PAD: 210 or 830.
     pub fn user_bits(self) -> usize
         ensures { result ≡ user_bits self }
     {
@@ -23,7 +23,7 @@ impl Size {
         }
     }
 
-    /// How many zeros end a telegram.
+    /// How many zeros end a telegram, up to whole bytes: 6 or 2.
     pub fn pad_bits(self) -> usize
         ensures { result ≡ pad_bits self }
     {
@@ -33,7 +33,7 @@ impl Size {
         }
     }
 
-    /// How many bytes a telegram takes.
+    /// How many bytes a telegram takes: 27 or 104.
     pub fn container_bytes(self) -> usize
         ensures { result ≡ container_bytes self }
     {
@@ -43,7 +43,7 @@ impl Size {
         }
     }
 
-    /// How many bits the header leaves to packets, packet 255 and FILL: 160 or 780.
+    /// How many user bits the header leaves to packets, packet 255 and FILL: 160 or 780.
     pub fn packet_room(self) -> usize
         ensures { result ≡ packet_room self }
     {

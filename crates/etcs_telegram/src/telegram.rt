@@ -41,17 +41,16 @@ impl Telegram {
     ghost use Rattle.etcs_telegram.specs.Telegrams.{TelegramReads, IsTelegram, telegram_value};
     ghost use Rattle.etcs_telegram.specs.Writing.{telegram_reading};
 
-    /// A telegram with these packets, in this order, whose FILL bits are all ones. It takes memory for the FILL bits
-    /// alone.
-    ///
-    /// Packets, NID_PACKET 255 and FILL take 160 bits together in a short telegram, 780 in a long one.
+    /// A telegram with these parts, the packets in this order, whose FILL bits are all ones. It succeeds only if the
+    /// packets and the 8 bits of NID_PACKET 255 take at most 160 bits in a short telegram, 780 in a long one; FILL is
+    /// the rest of these bits. It takes memory for the FILL bits alone.
     ///
     /// # Errors
     ///
     /// With the same packets:
     ///
-    /// - [`BuildFault::TooLong`] where the packets and the 8 bits of NID_PACKET 255 take more than these bits;
-    /// - [`BuildFault::Memory`] where they don't, and the memory of the FILL bits is refused.
+    /// - [`BuildFault::TooLong`] exactly if they don't fit into these bits;
+    /// - [`BuildFault::Memory`] if they do, and it is out of memory for the FILL bits.
     pub fn new(
         alloc: Global,
         size: Size,
@@ -78,15 +77,15 @@ impl Telegram {
         }
     }
 
-    /// A telegram with these packets, in this order, and these FILL bits. Takes no memory.
+    /// A telegram with these parts, the packets in this order. Succeeds exactly if the packets, the 8 bits of
+    /// NID_PACKET 255 and FILL take exactly 160 bits in a short telegram, 780 in a long one. Takes no memory.
     ///
     /// # Errors
     ///
     /// With the same packets and the same bits:
     ///
-    /// - [`BuildFault::TooLong`] where the packets and the 8 bits of NID_PACKET 255 take more than 160 bits in a short
-    ///   telegram, 780 in a long one;
-    /// - [`BuildFault::FillLength`] where they don't, and FILL isn't exactly the rest of these bits.
+    /// - [`BuildFault::TooLong`] if the packets and NID_PACKET 255 take more than these bits;
+    /// - [`BuildFault::FillLength`] if they don't, and FILL isn't exactly the rest of these bits.
     pub fn with_fill(
         size: Size,
         header: Header,
@@ -159,11 +158,11 @@ impl Telegram {
         (size, header, packets.into_vec(), fill)
     }
 
-    /// An equal telegram.
+    /// A copy. If it succeeds, it is an equal telegram.
     ///
     /// # Errors
     ///
-    /// `AllocError` where there is no memory.
+    /// `AllocError` if out of memory.
     pub fn try_clone(&self, alloc: Global) -> Result<Telegram, AllocError>
         ensures { IfOk result (λ t. t ≡ self.now) }
     {
@@ -186,7 +185,7 @@ impl Telegram {
     }
 }
 
-/// How many bits these packets and NID_PACKET 255 leave to FILL, or nothing where they don't fit.
+/// How many bits these packets and NID_PACKET 255 leave to FILL, or `None` if they don't fit.
 fn fill_left(size: Size, packets: &[Packet]) -> Option<usize>
     ensures left { IfSome result (λ left. closed_bits packets.now + left ≡ packet_room size) }
     ensures made { OnSome result (All IsMade packets.now) }

@@ -53,11 +53,12 @@ impl Variables for Header {
 impl Header {
     ghost use Rattle.etcs_telegram.specs.Telegrams.{header_reading};
 
-    /// The ten variables with their numbers, in the order of sending (SUBSET-026, 8): 50 bits from Q_UPDOWN to Q_LINK.
+    /// The header's ten variables with their numbers, in the order of sending (SUBSET-026, 8): 50 bits from Q_UPDOWN to
+    /// Q_LINK.
     ///
     /// # Errors
     ///
-    /// `AllocError` where there is no memory.
+    /// `AllocError` if out of memory.
     pub fn variables(&self, alloc: Global) -> Result<Vec<(Var, u64)>, AllocError>
         ensures { IfOk result (λ pairs. pairs.items ≡ header_reading self.now) }
     {

@@ -24,7 +24,7 @@ use std::marker::Model;
 /// Why bytes aren't a telegram.
 #[derive(Clone, Copy, Debug, PartialEq, Eq)]
 pub enum ViewFault {
-    /// They aren't as many as a telegram of this size takes: 27 or 104.
+    /// They aren't as many as a telegram of the size takes: 27 or 104.
     Length,
     /// No telegram begins with the bits up to this one, counted from 0, which is in this variable.
     Refused { bit: usize, var: Var },
@@ -68,12 +68,14 @@ impl<'a> Model for TelegramView<'a> {
 }
 
 impl<'a> TelegramView<'a> {
-    /// A view of the telegram that these bytes are. Takes no memory.
+    /// A view of the telegram that these bytes are. Succeeds exactly if they are 27 or 104 bytes, depending on the size,
+    /// that spell a telegram of the size. Takes no memory.
     ///
     /// # Errors
     ///
-    /// [`ViewFault::Length`] where they aren't 27 or 104 bytes, as the size asks; else [`ViewFault::Refused`] with the
-    /// first bit with which no telegram continues and the variable that holds it, as `TelegramReader::feed` reports them.
+    /// - [`ViewFault::Length`] exactly if they aren't that many;
+    /// - else [`ViewFault::Refused`] with the first bit, counted from 0, with which no telegram of the size continues,
+    ///   and the variable that holds it, as `TelegramReader::feed` reports them.
     pub fn new(bytes: &'a [u8], size: Size) -> Result<TelegramView<'a>, ViewFault>
         ensures length { (result ≡ Err ViewFault.Length) ↔ (length bytes.now ≢ container_bytes size) }
         ensures bytes { IfOk result (λ v. (v.bytes ≡ bytes.now) × (v.size ≡ size)) }
@@ -100,21 +102,21 @@ impl<'a> TelegramView<'a> {
         }
     }
 
-    /// The telegram's size.
+    /// The size that the view was made with.
     pub fn size(&self) -> Size
         ensures { result ≡ self.now.size }
     {
         self.size
     }
 
-    /// The header.
+    /// The header of the telegram that the bytes spell.
     pub fn header(&self) -> Header
         ensures { (t : TelegramValue) → Sees self.now t → result ≡ t.header }
     {
         self.header
     }
 
-    /// The packets, in order, without packet 255: each is a slice of the bytes.
+    /// The packets of the telegram that the bytes spell, in order, without packet 255: each is a slice of the bytes.
     pub fn packets(&self) -> Packets<'a>
         ensures { (t : TelegramValue) → Sees self.now t → result ≡ spellings t.packets }
     {
@@ -124,7 +126,7 @@ impl<'a> TelegramView<'a> {
         )
     }
 
-    /// The bits of FILL.
+    /// The bits of FILL of the telegram that the bytes spell.
     pub fn fill(&self) -> BitSlice<'a>
         ensures { (t : TelegramValue) → Sees self.now t → result ≡ t.fill }
     {

@@ -21,9 +21,9 @@ use etcs_sequence::inner::{Room, Run, bits_at, number_at, take_run};
 use etcs_sequence::{ItemRest, PacketStore};
 use std::alloc::Global;
 
-/// The telegram of this size that a piece begins with. It may always return `None`, as where the piece begins with none, and
-/// where memory is refused. Then it may put into `part` what is left of the item after the first bits
-/// of the piece, and how many these are.
+/// The telegram of this size that a piece begins with. It may always return `None`, as it does if the piece begins with
+/// none, or if out of memory. Then it may put into `part` what is left of the item after the first bits of the piece,
+/// and how many these are.
 pub(crate) fn telegram_at(
     room: &mut Room<Packet>,
     size: Size,
@@ -67,7 +67,7 @@ pub(crate) fn telegram_at(
 }
 
 /// Puts into `part` what is left after the header that a piece begins with, and after the packets that a store has taken of
-/// the room after it, of which this many bits are left. It may always put nothing.
+/// the room after it, of which this many bits are left. It may always put nothing there.
 #[cold]
 #[inline(never)]
 fn resume(

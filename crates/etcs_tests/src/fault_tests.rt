@@ -22,7 +22,7 @@ fn texts(rt: HostRuntime) {
     for (fault, text) in [
         (ReadFault::Refused { bit, var }, "refused at bit 215, PAD"),
         (ReadFault::Ended, "the value was whole before"),
-        (ReadFault::Memory, "memory was refused"),
+        (ReadFault::Memory, "out of memory"),
     ] {
         check_text(checks, fault.to_string(alloc), text);
     }
@@ -51,5 +51,5 @@ static BUILD_FAULTS: [(BuildFault, &str); 7] = [
         BuildFault::FillLength,
         "the fill isn't the rest of the bits",
     ),
-    (BuildFault::Memory, "memory was refused"),
+    (BuildFault::Memory, "out of memory"),
 ];

@@ -46,7 +46,7 @@ module _ {V W : Type 0} (Reads : W → Reading → Type 0) (value : V → W) (Is
   inner_feeds seen new (Err Memory) at f = tt
   inner_feeds seen new (Err Ended) at f = absurd f
 
-  -- where it returns that memory is refused
+  -- if it returns that it is out of memory
   inner_starves : (seen new : List Bool) (at : inner.Progress V) → inner.Feeds Reads value IsValue least seen new (Err Memory) at → IsStarved (EntryReads kind) least seen new
   inner_starves seen new at (n, at_is, from, below, viable, front, x, owner, asks, beyond) =
       (n, from, below, viable_along (readings_of Reads) (Language kind) same _ viable, front, x, owner_along (readings_of Reads) (Language kind) same _ x owner, asks, beyond)

@@ -1,4 +1,4 @@
--- Parts of the JSON of an item.
+-- Parts of the JSON of an item: what is written between its lists.
 use Rattle.std.specs.Prelude.{ℕ, Bool, List, ◌++◌, map, codes}
 use Rattle.serde_json.specs.Written.{compact_text}
 use Rattle.etcs_vars.specs.Reading.{Reading}
@@ -11,15 +11,15 @@ use Rattle.etcs_packet_text.specs.Show.{bit_digit}
 use Rattle.etcs_text.specs.Show.{kind_word, way_word}
 use Rattle.etcs_packet_text.specs.Trees.{packets_tree, pairs_tree}
 
--- what is in a telegram between its header and its packets
+-- what is in a telegram between its header and its packets: the kind, and the name `packets`
 abbrev pub kind_member : Size → List ℕ
 kind_member size = codes ",\"kind\":\"" ++ (kind_word size ++ codes "\",\"packets\":")
 
--- a telegram
+-- the compact text of a telegram
 abbrev pub telegram_text : TelegramValue → List ℕ
 telegram_text t = codes "{\"fill\":\"" ++ (map bit_digit t.fill ++ (codes "\",\"header\":" ++ (compact_text (pairs_tree (header_reading t.header)) ++ (kind_member t.size ++ (compact_text (packets_tree ToTrain t.packets) ++ codes "}")))))
 
--- what is in a message before its number, after the mark that ends what was before
+-- what is in a message just before its number: the kind, and the name `nid`
 abbrev pub way_member : Way → List ℕ
 way_member way = codes ",\"kind\":\"" ++ (way_word way ++ codes "\",\"nid\":")
 

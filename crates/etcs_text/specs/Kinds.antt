@@ -10,5 +10,6 @@ is_of_telegrams Short = true
 is_of_telegrams Radio = false
 is_of_telegrams Train = false
 
+-- the kind is of telegrams
 abbrev pub IsOfTelegrams : Kind → Type 0
 IsOfTelegrams kind = IsTrue (is_of_telegrams kind)

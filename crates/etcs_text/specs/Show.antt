@@ -7,6 +7,7 @@ use Rattle.etcs_telegram.specs.declared.size.Size.{Size}
 use Rattle.etcs_telegram.specs.declared.size.Size.TheVariants.{Short, Long}
 use Rattle.etcs_telegram.specs.Telegrams.{user_bits}
 
+-- telegrams of 210 user bits are of kind short, those of 830 of kind long
 abbrev pub kind_word : Size → List ℕ
 kind_word Short = codes "short"
 kind_word Long = codes "long"

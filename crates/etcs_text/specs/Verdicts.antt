@@ -1,4 +1,4 @@
--- What bytes are.
+-- What bytes are: an item of a kind and nothing else, or not.
 use Rattle.std.specs.Prelude.{◌≡◌, ℕ, ◌*◌, ◌<◌, List, length}
 use Rattle.etcs_bits.specs.Bits.{bits}
 use Rattle.etcs_vars.specs.Reading.{Reading, spelled, IsOutcome, done, refused, more}
@@ -11,12 +11,12 @@ use Rattle.etcs_text.specs.declared.verdict.Verdict.TheVariants.{Item, Refused, 
 abbrev pub IsItem : Kind → List ℕ → EntryValue → Type 0
 IsItem kind bytes e = (r : Reading) × EntryReads kind e r × (spelled r ≡ bits bytes)
 
--- they begin with an item of the kind, which has fewer bytes
+-- the bytes begin with an item of the kind that has fewer bytes
 abbrev pub IsBegun : Kind → List ℕ → Type 0
 IsBegun kind bytes = (e : EntryValue) × (k : ℕ) × (k < length bytes) × IsOutcome (EntryReads kind) (bits bytes) (done e (8 * k))
 
--- an item exactly where they are one; where they are none, the first refused bit, or that no bit is refused and they end
--- inside an item or after one
+-- the bytes are this item; or they are no item, and this bit is the first that is refused, or an item continues with
+-- all of them, or they begin with an item that has fewer bytes
 abbrev pub IsVerdict : Kind → List ℕ → Verdict → Type 0
 IsVerdict kind bytes (Item e) = IsItem kind bytes (entry_value e)
 IsVerdict kind bytes (Refused i x) = ((e : EntryValue) → IsItem kind bytes e → ⊥) × IsOutcome (EntryReads kind) (bits bytes) (refused i x)

@@ -1,4 +1,4 @@
-//! The encoding of an item, and the line that says that it was accepted.
+//! The encoding of an item, and the line of one that was accepted.
 
 ghost use Rattle.std.specs.Prelude.{◌≡◌, ◌++◌, ◌<◌, ◌∷◌, All, ℕ, List, [], OnErr, OnOk};
 ghost use Rattle.hex.specs.Hex.{encode_upper};
@@ -26,11 +26,11 @@ fn entry_bits(entry: &Entry) -> usize
     }
 }
 
-/// Appends to a page the line that says that an entry was accepted, as [`check_line`].
+/// Appends the line of an accepted entry, numbered `item`, to a page, as [`check_line`] does.
 ///
 /// # Errors
 ///
-/// Where memory is refused. The page is then as before.
+/// `AllocError` if out of memory. The page then stays as it was.
 #[inline]
 pub fn check_on(entry: &Entry, item: u64, page: &mut Page) -> Result<(), AllocError>
     ensures ok { OnOk result (page.new ≡ page.old ++ check_line (entry_value entry.now) item) }
@@ -39,12 +39,12 @@ pub fn check_on(entry: &Entry, item: u64, page: &mut Page) -> Result<(), AllocEr
     page.put_checked(item, entry_bits(entry) as u64)
 }
 
-/// Appends the line that reports an entry, numbered `item`, as accepted: `item <n> ok <bits> bits` and a LF. The bits of a
-/// telegram are its user bits, 210 or 830.
+/// Appends the line of an accepted entry, numbered `item`: `item <n> ok <bits> bits` and a LF. The bits of a telegram
+/// are its user bits, 210 or 830, those of a message 8 times L_MESSAGE.
 ///
 /// # Errors
 ///
-/// Where memory is refused. `out` is then as before.
+/// `AllocError` if out of memory. `out` then stays as it was.
 pub fn check_line(entry: &Entry, item: u64, out: &mut Vec<u8>) -> Result<(), AllocError>
     ensures ok { OnOk result (out.new.items ≡ out.old.items ++ check_line (entry_value entry.now) item) }
     ensures err { OnErr result (out.new.items ≡ out.old.items) }
@@ -88,11 +88,11 @@ fn append_message<H: Head, B: Own<Front = H>>(
     appended
 }
 
-/// Appends the bytes of the entry's encoding.
+/// Appends the entry's encoding: bytes whose bits are its spelling.
 ///
 /// # Errors
 ///
-/// Where memory is refused. `out` is then as before.
+/// `AllocError` if out of memory. `out` then stays as it was.
 pub fn encoded(entry: &Entry, out: &mut Vec<u8>) -> Result<(), AllocError>
     ensures ok { OnOk result ((added : List ℕ) × IsEncoded (entry_value entry.now) added × (out.new.items ≡ out.old.items ++ added)) }
     ensures err { OnErr result (out.new.items ≡ out.old.items) }
@@ -104,11 +104,11 @@ pub fn encoded(entry: &Entry, out: &mut Vec<u8>) -> Result<(), AllocError>
     }
 }
 
-/// Appends the entry's encoding in upper case hexadecimal digits and a LF.
+/// Appends the hexadecimal digits, in upper case, of bytes whose bits are the entry's spelling, and a LF.
 ///
 /// # Errors
 ///
-/// Where memory is refused. `out` is then as before.
+/// `AllocError` if out of memory. `out` then stays as it was.
 pub fn hex_line(entry: &Entry, out: &mut Vec<u8>) -> Result<(), AllocError>
     ensures ok { OnOk result ((bytes : List ℕ) × IsEncoded (entry_value entry.now) bytes × (out.new.items ≡ out.old.items ++ (encode_upper bytes ++ 10 ∷ []))) }
     ensures err { OnErr result (out.new.items ≡ out.old.items) }

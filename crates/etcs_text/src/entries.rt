@@ -37,7 +37,7 @@ impl Model for EntryReader {
 }
 
 impl EntryReader {
-    /// A reader of items of this kind.
+    /// A reader of items of this kind that has read no bits.
     pub fn new(alloc: Global, kind: Kind) -> EntryReader
         ensures { result ≡ record { kind = kind; progress = reading [] } }
     {
@@ -50,7 +50,8 @@ impl EntryReader {
         EntryReader { inner }
     }
 
-    /// How many bits of the current item were taken, while it isn't whole yet.
+    /// How many bits of the item were taken, as long as it isn't whole yet and `feed` has returned no error. No clause
+    /// promises the number otherwise.
     pub fn bits_seen(&self) -> usize
         ensures { (seen : List Bool) → self.now.progress ≡ reading seen → result ≡ length seen }
     {
@@ -61,15 +62,23 @@ impl EntryReader {
         }
     }
 
-    /// Takes the next piece: `More` if all of it was taken and the item isn't whole yet, `Done` with the number of its
-    /// bytes up to the item's end. Take a whole item by [`EntryReader::next`] before feeding further bytes.
+    /// Takes the next piece of an item that isn't whole yet. Of all its bits so far, in whatever pieces they came:
+    /// `Done` with the count of this piece's bytes up to the end of the item that the bits up to there spell; `More` if
+    /// the bits begin an item of the kind and no front of them is one.
+    ///
+    /// This is promised while the reader is reading an item: from [`EntryReader::new`] or a successful
+    /// [`EntryReader::next`] on, as long as `feed` returns `More`. No clause promises what it returns after `Done`,
+    /// `Refused` or `Memory`. After `Done`, take the item by `next` before feeding further bytes; after the others,
+    /// make a new reader. The kind never changes.
     ///
     /// # Errors
     ///
-    /// `Refused` with the first bit, counted from 0 in the item, with which no item continues, and the variable that holds
-    /// it; `Memory` if memory is refused, at a bit with which an item continues, never within the first 6 bytes of a
-    /// telegram or the first 2 of a message. No clause says what the reader returns after these: make a new one. `Ended` if
-    /// the item is whole and wasn't taken; it still can be.
+    /// - `Refused` if no front of the bits is an item of the kind and none begins with them: `bit`, counted from 0 in
+    ///   the item, is the first with which no item continues, and `var` is the variable that holds it.
+    /// - `Memory` if out of memory, at a bit with which an item continues, after at least 50 bits of a telegram or 18
+    ///   of a message; one variable holds that bit, which is neither Q_DIR, PAD nor PADDING, nor one that is in the
+    ///   front of messages alone, nor NID_LRBG in a header.
+    /// - `Ended` never while it is reading an item.
     #[inline(always)]
     pub fn feed(&mut self, piece: &[u8]) -> Result<Fed, ReadFault>
         ensures answer { (seen : List Bool) → self.old.progress ≡ reading seen → Feeds (EntryReads self.old.kind) seen (bits piece.now) result self.new.progress }
@@ -83,7 +92,8 @@ impl EntryReader {
         }
     }
 
-    /// The item, once `feed` has answered `Done`. The reader then reads the next one.
+    /// The item. Succeeds exactly if one is whole: once `feed` has returned `Done`. The reader then has read no bits,
+    /// and reads the next item of the kind.
     ///
     /// # Errors
     ///
@@ -102,7 +112,8 @@ impl EntryReader {
         }
     }
 
-    /// Hands back an item that isn't needed any more; the reader may use its memory for the next ones.
+    /// Takes the memory of an item that is no longer needed for the next ones. The reader stays as it was; no clause
+    /// promises that it uses that memory.
     #[inline(always)]
     pub fn reuse(&mut self, entry: Entry)
         ensures { self.new ≡ self.old }

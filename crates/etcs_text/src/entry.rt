@@ -17,7 +17,7 @@ pub enum Kind {
     Train,
 }
 
-/// One item of the input. Two of them are equal where they are equal telegrams, or equal messages of one way.
+/// One item of the input. Two of them are equal if they are equal telegrams, or equal messages of one way.
 #[derive(Debug, Drop, PartialEq, Eq)]
 pub enum Entry {
     /// A balise telegram.

@@ -11,7 +11,7 @@ use std::alloc::AllocError;
 ///
 /// # Errors
 ///
-/// Where memory is refused. A part of the text may then be in the page, after what was there.
+/// `AllocError` if out of memory. The page then begins with what was there; what else it has isn't promised.
 pub fn write_item_number(item: u64, page: &mut Page) -> Result<(), AllocError>
     ensures ok { OnOk result (page.new ≡ page.old ++ (codes "item " ++ decimal item)) }
     ensures err { OnErr result (Begins page.old page.new) }

@@ -22,7 +22,7 @@ use etcs_tables::Way;
 use etcs_telegram::{Size, Telegram};
 use std::alloc::AllocError;
 
-/// The kind of a telegram, and the name of its packets.
+/// What is between the header and the packets of a telegram of this size in its JSON: the kind, and the name `packets`.
 #[inline]
 pub fn kind_member(size: Size) -> &'static [u8]
     ensures { result.now ≡ kind_member size }
@@ -47,7 +47,7 @@ fn write_telegram(telegram: &Telegram, page: &mut JsonPage) -> Result<(), AllocE
     page.put(b"}")
 }
 
-/// What precedes the number of a message of this way: its kind, and the number's name.
+/// What is just before the number of a message of this way in its JSON: the kind, and the name `nid`.
 #[inline(always)]
 pub fn way_member(way: Way) -> &'static [u8]
     ensures { result.now ≡ way_member way }
@@ -172,11 +172,11 @@ fn write_line(entry: &Entry, page: &mut JsonPage) -> Result<(), AllocError>
     page.put(b"\n")
 }
 
-/// Appends the entry's JSON and a LF to a page, as [`json_line`].
+/// Appends the entry's JSON and a LF to a page, as [`json_line`] does.
 ///
 /// # Errors
 ///
-/// Where memory is refused. The page is then as before.
+/// `AllocError` if out of memory. The page then stays as it was.
 pub fn json_on(entry: &Entry, page: &mut Page) -> Result<(), AllocError>
     ensures ok { OnOk result (page.new ≡ page.old ++ (compact_text (json_tree (entry_value entry.now)) ++ 10 ∷ [])) }
     ensures err { OnErr result (page.new ≡ page.old) }
@@ -191,17 +191,17 @@ pub fn json_on(entry: &Entry, page: &mut Page) -> Result<(), AllocError>
     written
 }
 
-/// Appends the entry's JSON as one line: its compact text and a LF.
+/// Appends the entry's JSON as one line: the compact text of its tree and a LF.
 ///
 /// The members are in the order of their names. A telegram has `fill`, `header`, `kind` and `packets`, a typed message
 /// `fields`, `header`, `kind`, `nid`, `packets` and `padding`, and one that is kept as bits `data`, `kind` and `nid`. A
-/// packet has `dir` (but for packet 0), `fields` and `nid`, or `data`, `dir` and `nid` where it is kept as bits; to the
+/// packet has `dir` (but for packet 0), `fields` and `nid`, or `data`, `dir` and `nid` if it is kept as bits; to the
 /// track no packet has `dir`. Bits are a text of digits 0 and 1. A variable is a pair of its name and its number, that of
 /// NID_RADIO as a text of sixteen hexadecimal digits in lower case.
 ///
 /// # Errors
 ///
-/// Where memory is refused. `out` is then as before.
+/// `AllocError` if out of memory. `out` then stays as it was.
 pub fn json_line(entry: &Entry, out: &mut Vec<u8>) -> Result<(), AllocError>
     ensures ok { OnOk result (out.new.items ≡ out.old.items ++ (compact_text (json_tree (entry_value entry.now)) ++ 10 ∷ [])) }
     ensures err { OnErr result (out.new.items ≡ out.old.items) }

@@ -1,5 +1,6 @@
-//! Items as text: a line for each variable, one line of JSON, one line of hexadecimal digits, or the line that reports an
-//! item as accepted. All of them are appended to a list of bytes; no tree is made.
+//! Items of any kind ([`Entry`], [`Kind`]): read from pieces by [`EntryReader`], or as bytes that are one item and
+//! nothing else by [`SingleReader`]; written as text, JSON, hexadecimal digits or bytes ([`show_lines`],
+//! [`json_line`], [`hex_line`], [`encoded`]), without a tree. `etcs_json` reads JSON.
 //!
 //! ```rust
 //! show_lines(&entry, 1, &mut out)?; // as `etcs show` writes it, numbered 1

@@ -68,11 +68,11 @@ fn write_entry(entry: &Entry, item: u64, page: &mut Page) -> Result<(), AllocErr
     }
 }
 
-/// Appends the text of an entry to a page, as [`show_lines`].
+/// Appends the text of an entry, numbered `item`, to a page, as [`show_lines`] does.
 ///
 /// # Errors
 ///
-/// Where memory is refused. The page is then as before.
+/// `AllocError` if out of memory. The page then stays as it was.
 pub fn show_on(entry: &Entry, item: u64, page: &mut Page) -> Result<(), AllocError>
     ensures ok { OnOk result (page.new ≡ page.old ++ entry_text (entry_value entry.now) item) }
     ensures err { OnErr result (page.new ≡ page.old) }
@@ -94,7 +94,7 @@ pub fn show_on(entry: &Entry, item: u64, page: &mut Page) -> Result<(), AllocErr
 ///
 /// # Errors
 ///
-/// Where memory is refused. `out` is then as before.
+/// `AllocError` if out of memory. `out` then stays as it was.
 pub fn show_lines(entry: &Entry, item: u64, out: &mut Vec<u8>) -> Result<(), AllocError>
     ensures ok { OnOk result (out.new.items ≡ out.old.items ++ entry_text (entry_value entry.now) item) }
     ensures err { OnErr result (out.new.items ≡ out.old.items) }

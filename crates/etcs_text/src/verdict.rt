@@ -10,17 +10,18 @@ use crate::{Entry, Kind};
 use etcs_vars::{Fed, ReadFault, Var};
 use std::alloc::{AllocError, Global};
 use std::marker::Model;
+use std::mem::replace;
 
 /// What bytes are.
 #[derive(Debug, Drop)]
 pub enum Verdict {
     /// This item, and nothing else.
     Item(Entry),
-    /// No item continues with this bit, counted from 0, which the variable holds.
+    /// `bit`, counted from 0, is the first with which no item continues, and `var` is the variable that holds it.
     Refused { bit: usize, var: Var },
-    /// They end inside an item.
+    /// They aren't an item, but one continues with all of them.
     TooShort,
-    /// They begin with an item, and there are further bytes after it.
+    /// They begin with an item that has fewer bytes.
     TooLong,
 }
 
@@ -61,11 +62,11 @@ fn take(reader: &mut EntryReader) -> Entry
 fn renew(reader: &mut EntryReader, alloc: Global, kind: Kind)
     ensures { reader.new ≡ record { kind = kind; progress = reading [] } }
 {
-    *reader = EntryReader::new(alloc, kind);
+    drop(replace(reader, EntryReader::new(alloc, kind)));
 }
 
 impl SingleReader {
-    /// A reader of items of this kind.
+    /// A reader of single items of this kind.
     pub fn new(alloc: Global, kind: Kind) -> SingleReader
         ensures { result ≡ kind }
     {
@@ -76,11 +77,14 @@ impl SingleReader {
         }
     }
 
-    /// What these bytes are, read by themselves, whatever was read before.
+    /// What these bytes are, read by themselves, whatever was read before. If it succeeds: [`Verdict::Item`] exactly if
+    /// they are the spelling of an item of the kind and nothing else; else `Refused` with the first bit with which no
+    /// item continues and the variable that holds it, `TooShort` if an item continues with all of them, or `TooLong` if
+    /// they begin with an item that has fewer bytes.
     ///
     /// # Errors
     ///
-    /// If memory is refused. The reader can still be used.
+    /// `AllocError` if out of memory. The reader keeps its kind in any case, and can still be used.
     pub fn read(&mut self, bytes: &[u8]) -> Result<Verdict, AllocError>
         ensures kind { self.new ≡ self.old }
         ensures verdict { IfOk result (λ v. IsVerdict self.old bytes.now v) }
@@ -102,7 +106,8 @@ impl SingleReader {
         verdict
     }
 
-    /// Hands back an item that isn't needed any more; the reader may use its memory for the next ones.
+    /// Takes the memory of an item that is no longer needed for the next ones. The reader stays as it was; no clause
+    /// promises that it uses that memory.
     #[inline(always)]
     pub fn reuse(&mut self, entry: Entry)
         ensures { self.new ≡ self.old }

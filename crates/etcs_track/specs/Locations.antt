@@ -1,18 +1,20 @@
--- Where a train is, and what it does, of packets 0 and 1 to the track.
+-- Where a train is, and what it does, of packets 0 and 1 to the track (SUBSET-026, 7.4.3).
 use Rattle.std.proofs.Common.{ℕ, Option}
 use Rattle.etcs_vars.specs.declared.var.Var.TheVariants.{D_LRBG, Q_DIRLRBG, Q_DLRBG, L_DOUBTOVER, L_DOUBTUNDER, Q_LENGTH, L_TRAININT, V_TRAIN, Q_DIRTRAIN, M_MODE, M_LEVEL, NID_NTC}
 use Rattle.etcs_vars.specs.declared.fault.BuildFault.{BuildFault}
 use Rattle.etcs_tables.specs.declared.item.Test.TheVariants.{IsOne, IsOneOrTwo}
 use Rattle.etcs_bodies.specs.Formats.{Format, number, ◌⊗◌, guarded, named, Is, fault}
 
--- what is known of the train's integrity, and the length for which it is confirmed
+-- the format of Q_LENGTH, what is known of the train's integrity, and of the length for which it is confirmed, if it is
+-- 1 or 2
 abbrev pub integrity_format : Format (ℕ × Option ℕ)
 integrity_format = guarded Q_LENGTH IsOneOrTwo (number L_TRAININT)
 
--- the level, and the national system where it is that of one
+-- the format of M_LEVEL, and of the national system if it is 1
 abbrev pub level_format : Format (ℕ × Option ℕ)
 level_format = guarded M_LEVEL IsOne (number NID_NTC)
 
+-- where a train is, and what it does: its numbers
 pub record LocatedValue : Type 0 where
   pub d_lrbg : ℕ
   pub q_dirlrbg : ℕ
@@ -27,6 +29,7 @@ pub record LocatedValue : Type 0 where
   pub m_level : ℕ
   pub nid_ntc : Option ℕ
 
+-- where a train is, and what it does, of these numbers in the order of the constructor's
 abbrev pub located_value : ℕ → ℕ → ℕ → ℕ → ℕ → ℕ → Option ℕ → ℕ → ℕ → ℕ → ℕ → Option ℕ → LocatedValue
 located_value d_lrbg q_dirlrbg q_dlrbg l_doubtover l_doubtunder q_length l_trainint v_train q_dirtrain m_mode m_level nid_ntc =
     record {
@@ -44,13 +47,16 @@ located_value d_lrbg q_dirlrbg q_dlrbg l_doubtover l_doubtunder q_length l_train
       nid_ntc = nid_ntc;
     }
 
+-- the numbers one inside the other, as the format has them
 abbrev pub LocatedParts : Type 0
 LocatedParts = ℕ × (ℕ × (ℕ × (ℕ × (ℕ × ((ℕ × Option ℕ) × (ℕ × (ℕ × (ℕ × (ℕ × Option ℕ)))))))))
 
+-- where a train is, of the numbers one inside the other
 abbrev pub located_of : LocatedParts → LocatedValue
 located_of n =
     located_value n.0 n.1.0 n.1.1.0 n.1.1.1.0 n.1.1.1.1.0 n.1.1.1.1.1.0.0 n.1.1.1.1.1.0.1 n.1.1.1.1.1.1.0 n.1.1.1.1.1.1.1.0 n.1.1.1.1.1.1.1.1.0 n.1.1.1.1.1.1.1.1.1.0 n.1.1.1.1.1.1.1.1.1.1
 
+-- the format of where a train is: its variables in the order of sending
 abbrev pub located_format : Format LocatedValue
 located_format =
     named located_of
@@ -58,10 +64,11 @@ located_format =
     number D_LRBG ⊗ number Q_DIRLRBG ⊗ number Q_DLRBG ⊗ number L_DOUBTOVER ⊗ number L_DOUBTUNDER ⊗ integrity_format
     ⊗ number V_TRAIN ⊗ number Q_DIRTRAIN ⊗ number M_MODE ⊗ level_format)
 
--- kept folded, as the next one: twelve numbers are too many hypotheses where a location is compared
+-- nothing is wrong with these numbers; kept folded, as the next one: twelve numbers are too many hypotheses when a
+-- location is compared
 unfoldable pub IsLocated : LocatedValue → Type 0
 IsLocated = Is located_format
 
--- what is wrong with it, by the first variable in the order of sending
+-- the first fault of these numbers, in the order of the variables
 unfoldable pub located_fault : LocatedValue → Option BuildFault
 located_fault = fault located_format

@@ -1,4 +1,4 @@
--- Packets to the track of rows without groups, each its numbers.
+-- Packets to the track of rows without groups, each its numbers (SUBSET-026, 7.4.3).
 use Rattle.std.specs.Prelude.{ℕ, List}
 
 -- the packet of some numbers, which has no direction of its own

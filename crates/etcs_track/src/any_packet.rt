@@ -1,4 +1,4 @@
-//! What readers and messages ask of a packet.
+//! A packet to the track, as readers and messages use it.
 
 ghost use Rattle.std.specs.Prelude.{◌≡◌, ◌∷◌, IfOk};
 ghost use Rattle.etcs_vars.specs.declared.var.Var.TheVariants.{NID_PACKET, L_PACKET, OTHER_DATA};
@@ -30,8 +30,8 @@ fn append_kept(nid: u8, len: usize, body: &BitSlice<'_>, out: &mut WordSink<'_>)
     out.put_slice(body);
 }
 
-/// The typed packet of this number and direction with these numbers or bits after L_PACKET, if there is one. There is
-/// none of a direction but 0, which is that of every packet to the track.
+/// The typed packet of this number and direction with what a source has after L_PACKET. `None` only if there is none;
+/// there is none of a direction but 0, which is that of every packet to the track.
 #[inline(always)]
 fn of_number<S: Source>(alloc: Global, nid: u8, dir: u8, source: &S) -> Made<TrainPacket>
     ensures { IfOk result (λ o. IsMadeOf track_form ToTrack nid dir (S.left source.now) o) }

@@ -1,4 +1,5 @@
-//! Laws, each the contract of a function, or of [`etcs_bodies::laws::exact_equality`].
+//! Laws, each the contract of a function, or of [`etcs_bodies::laws::exact_equality`]: `==` of each type is equality of
+//! its values.
 
 ghost use Rattle.std.specs.Prelude.{◌≡◌};
 ghost use Rattle.etcs_track.specs.TrackPackets.{track_value};
@@ -12,7 +13,7 @@ use crate::train_packet::TrainPacket;
 use etcs_bodies::laws::Exact;
 use etcs_packets::inner::AnyPacket;
 
-/// Packets of one number and the same variables or kept bits are equal.
+/// Two packets that stand for one value are equal: packets of one number and the same variables or kept bits.
 #[tactic(auto, using(crate::specs::laws::OneTrackPacket::one_packet))]
 pub fn one_packet(first: &TrainPacket, second: &TrainPacket)
     ensures { track_value first.now ≡ track_value second.now → first.now ≡ second.now }

@@ -1,4 +1,8 @@
-//! Packets from the train, to the track ([`TrainPacket`]): every number that is typed, and all others as bits.
+//! All packets to the track, each a variant of [`TrainPacket`]: one for each number that is typed, and all others as
+//! bits.
+//!
+//! What a packet stands for (`track_value`) is a value of the same type as for packets to the train, of the direction
+//! 0, which isn't sent.
 #![tactic(auto)]
 
 mod any_packet;

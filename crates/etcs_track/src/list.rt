@@ -1,4 +1,4 @@
-//! The typed packets to the track, said once: number and variant of each.
+//! The typed packets to the track, listed once: number and variant of each.
 
 /// Calls another macro with all typed packets.
 macro_rules! packets {

@@ -1,4 +1,4 @@
-//! Where a train is, and what it does.
+//! A train's location and what it does.
 
 ghost use Rattle.std.specs.Prelude.{◌≡◌, None, Some, IfOk, IfErr, IfSome, IfNone, OnOk, OnErr};
 ghost use Rattle.etcs_bodies.specs.Formats.{fault, Is, reading, from};
@@ -44,7 +44,8 @@ impl Model for Located {
 impl Located {
     ghost use Rattle.etcs_track.specs.Locations.{located_value, located_fault};
 
-    /// Where a train is, and what it does, each argument a variable of SUBSET-026, 7.5:
+    /// Where a train is, and what it does, returned exactly if none of the errors below applies. Each argument is a
+    /// variable of SUBSET-026, 7.5:
     ///
     /// - `d_lrbg`: D_LRBG, the distance from the balise group referred to, to the train's front, in steps of Q_SCALE.
     /// - `q_dirlrbg`: Q_DIRLRBG, the train's orientation to that group: 0 reverse, 1 nominal, 2 unknown.
@@ -55,22 +56,22 @@ impl Located {
     ///   steps of Q_SCALE.
     /// - `q_length`: Q_LENGTH, what is known of the train's integrity: 0 nothing, 1 confirmed by a device, 2 confirmed
     ///   by the driver, 3 it is lost.
-    /// - `l_trainint`: L_TRAININT, the length for which it is confirmed, in metres, where Q_LENGTH is 1 or 2.
+    /// - `l_trainint`: L_TRAININT, the length for which it is confirmed, in metres, if Q_LENGTH is 1 or 2.
     /// - `v_train`: V_TRAIN, the speed, in steps of 5 km/h.
     /// - `q_dirtrain`: Q_DIRTRAIN, the direction of the movement: 0 reverse, 1 nominal, 2 unknown.
     /// - `m_mode`: M_MODE, the mode of the on-board equipment, 0 to 15.
     /// - `m_level`: M_LEVEL, the level that it works in: 0 level 0, 1 a national system, 2 to 4 levels 1 to 3.
-    /// - `nid_ntc`: NID_NTC, the national system, where M_LEVEL is 1.
+    /// - `nid_ntc`: NID_NTC, the national system, if M_LEVEL is 1.
     ///
     /// # Errors
     ///
-    /// The first that holds, in the order of the arguments:
+    /// The first of these that applies, in the order of the arguments; for Q_LENGTH and M_LEVEL first the number, then
+    /// the guard, then the number that it guards:
     ///
     /// - `NotAdmitted` with D_LRBG, L_DOUBTOVER, L_DOUBTUNDER or L_TRAININT, above 32,767; with Q_DIRLRBG, Q_DLRBG,
     ///   Q_LENGTH or Q_DIRTRAIN, above 3; with V_TRAIN, above 127; with M_MODE, above 15; or with M_LEVEL, above 4.
-    /// - `Guard(Q_LENGTH)`, before L_TRAININT, where that is missing and Q_LENGTH is 1 or 2, or is given and Q_LENGTH
-    ///   is another.
-    /// - `Guard(M_LEVEL)`, where NID_NTC is missing and M_LEVEL is 1, or is given and M_LEVEL is another.
+    /// - `Guard(Q_LENGTH)`: L_TRAININT is missing and Q_LENGTH is 1 or 2, or it is given and Q_LENGTH is another.
+    /// - `Guard(M_LEVEL)`: NID_NTC is missing and M_LEVEL is 1, or it is given and M_LEVEL is another.
     #[tactic(auto, unfolding(crate::specs::Locations::located_fault, crate::specs::Locations::IsLocated))]
     pub fn new(
         d_lrbg: u16,
@@ -159,7 +160,7 @@ impl Located {
         self.q_length
     }
 
-    /// L_TRAININT: the length for which it is confirmed, in metres.
+    /// L_TRAININT: the length for which it is confirmed, in metres; `None` unless Q_LENGTH is 1 or 2.
     pub fn l_trainint(&self) -> Option<u16>
         ensures { result ≡ self.now.l_trainint }
     {
@@ -194,7 +195,7 @@ impl Located {
         self.m_level
     }
 
-    /// NID_NTC: the national system, where that is the level.
+    /// NID_NTC: the national system; `None` unless M_LEVEL is 1.
     pub fn nid_ntc(&self) -> Option<u8>
         ensures { result ≡ self.now.nid_ntc }
     {
@@ -234,7 +235,7 @@ fn check_level(m_level: u8, nid_ntc: Option<u8>) -> Result<(), BuildFault>
     Ok(())
 }
 
-/// Q_LENGTH, and where it is 1 or 2 the length, that the numbers begin with.
+/// Q_LENGTH, and the length if it is 1 or 2, that the numbers begin with.
 #[tactic(auto, using(etcs_bodies::specs::laws::Guards::guard_ok), unfolding(etcs_bodies::specs::Guards::guard_fault))]
 fn take_integrity<L: Numbers>(numbers: &mut L) -> Option<(u8, Option<u16>)>
     ensures part { IfSome result (λ p. Is integrity_format (p.0, p.1)) }
@@ -250,7 +251,7 @@ fn take_integrity<L: Numbers>(numbers: &mut L) -> Option<(u8, Option<u16>)>
     Some((q_length, l_trainint))
 }
 
-/// M_LEVEL, and where it is 1 the national system, that the numbers begin with.
+/// M_LEVEL, and the national system if it is 1, that the numbers begin with.
 #[tactic(auto, using(etcs_bodies::specs::laws::Guards::guard_ok), unfolding(etcs_bodies::specs::Guards::guard_fault))]
 fn take_level<L: Numbers>(numbers: &mut L) -> Option<(u8, Option<u8>)>
     ensures part { IfSome result (λ p. Is level_format (p.0, p.1)) }

@@ -39,7 +39,8 @@ impl Model for PositionReport {
 }
 
 impl PositionReport {
-    /// The report.
+    /// The report of these parts, returned exactly if none of the errors below applies. `located` is a value already,
+    /// and isn't checked again.
     ///
     /// - `q_scale`: the unit of its distances (0: 10 cm, 1: 1 m, 2: 10 m);
     /// - `nid_lrbg`: NID_LRBG, the balise group referred to: its country or region (10 bits), and its number there
@@ -48,7 +49,7 @@ impl PositionReport {
     ///
     /// # Errors
     ///
-    /// The first of these: [`BuildFault::NotAdmitted`] with Q_SCALE, above 2, or with NID_LRBG, above 16,777,215.
+    /// `NotAdmitted` with the first of Q_SCALE (0 to 2) and NID_LRBG (24 bits) that doesn't admit its number.
     #[tactic(auto, unfolding(crate::specs::Locations::IsLocated))]
     pub fn new(q_scale: u8, nid_lrbg: u32, located: Located) -> Result<PositionReport, BuildFault>
         ensures ok { IfOk result (λ p. p ≡ position_report_value q_scale nid_lrbg located) }

@@ -41,7 +41,8 @@ impl Model for PositionReportTwo {
 }
 
 impl PositionReportTwo {
-    /// The report.
+    /// The report of these parts, returned exactly if none of the errors below applies. `located` is a value already,
+    /// and isn't checked again.
     ///
     /// - `q_scale`: the unit of its distances (0: 10 cm, 1: 1 m, 2: 10 m);
     /// - `nid_lrbg`: NID_LRBG, the balise group referred to: its country or region (10 bits), and its number there
@@ -51,8 +52,8 @@ impl PositionReportTwo {
     ///
     /// # Errors
     ///
-    /// The first of these: [`BuildFault::NotAdmitted`] with Q_SCALE, above 2, with NID_LRBG, or with NID_PRVLRBG, above
-    /// 16,777,215.
+    /// `NotAdmitted` with the first of Q_SCALE (0 to 2), NID_LRBG (24 bits) and NID_PRVLRBG (24) that doesn't admit its
+    /// number.
     #[tactic(auto, unfolding(crate::specs::Locations::IsLocated))]
     pub fn new(
         q_scale: u8,

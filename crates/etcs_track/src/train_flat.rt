@@ -19,8 +19,9 @@ use etcs_vars::inner::{VarSink, Variables};
 use std::alloc::{AllocError, Global};
 use std::marker::Model;
 
-/// A packet to the track whose row has no groups (SUBSET-026, 7.4.3). Two of them are equal where they have the same
-/// numbers. A `NID` that isn't in the table has no packets.
+/// A packet to the track whose row has no groups (SUBSET-026, 7.4.3). Two of them are equal exactly if they have the
+/// same numbers. A `NID` that isn't in the table has no packets. It is [`Packetlike`](crate::Packetlike), `Framed` and
+/// `Variables` for the numbers 4 and 5 alone.
 ///
 /// | NID | packet | number after L_PACKET |
 /// |---|---|---|
@@ -46,15 +47,17 @@ impl<const NID: u8> Model for TrainFlat<NID> {
 }
 
 impl<const NID: u8> TrainFlat<NID> {
-    /// A packet of the numbers in the table of [`TrainFlat`]. Takes no memory.
+    /// The packet of the numbers in the table of [`TrainFlat`], returned exactly if none of the errors below applies.
+    /// Takes no memory.
     ///
     /// # Errors
     ///
-    /// The first of these that holds:
+    /// The first of these that applies:
     ///
     /// - `NotAdmitted(NID_PACKET)`: `NID` isn't in the table.
     /// - `Count`: there are more or fewer numbers than the table has for it.
-    /// - `NotAdmitted` with the variable that doesn't admit its number, which is too large for its width.
+    /// - `NotAdmitted` with the first variable, in order, that doesn't admit its number: it is spare, or too large for
+    ///   the variable's width.
     pub fn new(numbers: &[u64]) -> Result<Self, BuildFault>
         ensures ok { IfOk result (λ p. p ≡ numbers.now) }
         ensures fits { OnOk result (flat_fault_to ToTrack NID 0 numbers.now ≡ None) }
@@ -73,7 +76,7 @@ impl<const NID: u8> TrainFlat<NID> {
         self.numbers.as_slice()
     }
 
-    /// Takes the packet that the numbers begin with, if they begin with one. Takes no memory.
+    /// Takes the packet that the numbers begin with; `None` exactly if they begin with none. Takes no memory.
     fn taken<L: Numbers>(dir: u8, numbers: &mut L) -> Option<Self>
         requires { IsSome (flat_row_to ToTrack NID) }
         ensures some { IfSome result (λ p. flat_from_to ToTrack alone NID dir (L.left numbers.old) ≡ Some (p, L.left numbers.new)) }
@@ -96,7 +99,7 @@ impl<const NID: u8> TrainFlat<NID> {
     }
 }
 
-/// A number whose packets have a row without groups.
+/// `N` is the number of a typed packet to the track whose row has no groups.
 pub trait TrainFlatNumber<const N: u8> {
     ghost flat: { IsSome (flat_row_to ToTrack N) };
 }

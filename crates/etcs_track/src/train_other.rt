@@ -12,8 +12,8 @@ use etcs_vars::BuildFault;
 use std::alloc::{AllocError, Global};
 use std::marker::Model;
 
-/// A packet to the track that isn't typed, kept as bits (SUBSET-026, 7.4). Two of them are equal where they have the
-/// same number and bits.
+/// A packet to the track that isn't typed, kept as bits (SUBSET-026, 7.4). Two of them are equal exactly if they have
+/// the same number and bits.
 #[derive(Debug, Drop, PartialEq, Eq)]
 pub struct TrainOther {
     nid: u8,
@@ -36,12 +36,15 @@ impl Model for TrainOther {
 }
 
 impl TrainOther {
-    /// A packet of this NID_PACKET, with the bits after L_PACKET. Takes no memory.
+    /// The packet of this NID_PACKET, with the bits after L_PACKET; returned exactly if none of the errors below
+    /// applies. Takes no memory.
     ///
     /// # Errors
     ///
-    /// The first of these that holds, with the same bits: `NotAdmitted(NID_PACKET)` for 0, 1, 4 and 5, the numbers of
-    /// typed packets; `TooLong` for more than 8,170 bits, which L_PACKET can't count.
+    /// The first of these that applies, with the bits that were given:
+    ///
+    /// - `NotAdmitted(NID_PACKET)`: the number is 0, 1, 4 or 5, that of a typed packet.
+    /// - `TooLong`: there are more than 8,170 bits, which L_PACKET can't count.
     pub fn new(nid: u8, body: Bits) -> Result<TrainOther, (BuildFault, Bits)>
         ensures ok { IfOk result (λ p. p ≡ train_other_value nid body) }
         ensures fits { OnOk result (other_fault ToTrack nid 0 (length body) ≡ None) }
@@ -54,7 +57,7 @@ impl TrainOther {
         }
     }
 
-    /// As `new`, where nothing is wrong.
+    /// As `new`, of parts to which no error applies.
     #[inline(always)]
     pub(crate) fn sound(nid: u8, body: Bits) -> TrainOther
         requires { other_fault ToTrack nid 0 (length body) ≡ None }
@@ -78,7 +81,7 @@ impl TrainOther {
         self.body.as_slice()
     }
 
-    /// How many bits follow L_PACKET.
+    /// How many bits are after L_PACKET: at most 8,170.
     #[tactic(auto, using(etcs_flat::specs::laws::OtherLaws::other_short))]
     pub fn bits(&self) -> usize
         ensures bits { result ≡ length self.now.body }
@@ -91,7 +94,7 @@ impl TrainOther {
     ///
     /// # Errors
     ///
-    /// `AllocError` where there is no memory.
+    /// `AllocError`: out of memory.
     pub fn try_clone(&self, alloc: Global) -> Result<TrainOther, AllocError>
         ensures { IfOk result (λ p. p ≡ self.now) }
     {

@@ -15,7 +15,8 @@ use etcs_packets::{copied, of_each};
 use etcs_tables::{Way, frame_bits};
 use std::alloc::{AllocError, Global};
 
-/// A packet to the track (SUBSET-026, 7.4.3): one variant for each number that is typed, and all others as they are.
+/// A packet to the track (SUBSET-026, 7.4.3): one variant for each number that is typed, and all others as bits. Two of
+/// them are equal exactly if they have the same number and variables or kept bits.
 #[derive(Debug, Drop, PartialEq, Eq)]
 pub enum TrainPacket {
     /// Packet 0: the position of the train.
@@ -48,7 +49,7 @@ impl TrainPacket {
         packets!(of_each, self, packet => typed_nid(packet), packet => packet.nid())
     }
 
-    /// How many bits the packet takes, its frame of 21 bits among them: at most 8,191.
+    /// The length of the packet's spelling in bits: 21 and the bits after L_PACKET; at most 8,191.
     pub fn bit_len(&self) -> usize
         ensures bits { result ≡ track_bits_of (track_value self.now) }
         ensures spelling { result ≡ length (spelled (track_reading (track_value self.now))) }
@@ -61,11 +62,11 @@ impl TrainPacket {
     ///
     /// # Errors
     ///
-    /// `AllocError` where there is no memory.
+    /// `AllocError`: out of memory.
     pub fn try_clone(&self, alloc: Global) -> Result<TrainPacket, AllocError>
         ensures { IfOk result (λ p. p ≡ self.now) }
     {
-        Ok(packets!(copied, self, alloc))
+        packets!(copied, self, alloc)
     }
 }
 

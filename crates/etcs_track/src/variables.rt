@@ -17,7 +17,7 @@ impl TrainPacket {
     ///
     /// # Errors
     ///
-    /// `AllocError` where there is no memory.
+    /// `AllocError`: out of memory.
     pub fn variables(&self, alloc: Global) -> Result<Vec<(Var, u64)>, AllocError>
         ensures { IfOk result (λ pairs. pairs.items ≡ variables_of (track_value self.now)) }
     {

@@ -1,4 +1,4 @@
--- Messages to the track (SUBSET-026, 8): those of etcs_messages that go to the track.
+-- Messages to the track (SUBSET-026, chapter 8): those of etcs_messages that go to the track.
 use Rattle.etcs_vars.specs.Reading.{Reading}
 use Rattle.etcs_tables.specs.declared.row.Way.TheVariants.{ToTrack}
 use Rattle.etcs_messages.specs.Messages as messages
@@ -10,16 +10,18 @@ use Rattle.etcs_train.specs.declared.body.TrainBody.{TrainBody}
 use Rattle.etcs_train.specs.declared.body.TrainHead.{TrainHead}
 use Rattle.etcs_train.specs.Bodies.{train_head, train_body}
 
--- what a message holds
+-- what a message to the track holds: head, body, packets and PADDING, or number and kept bits
 abbrev pub Content : Type 0
 Content = either.Content TrainHead TrainBody TrainPacket
 
+-- the readings of all messages to the track
 abbrev pub MessageLanguage : Reading → Type 0
 MessageLanguage r = messages.MessageLanguage ToTrack r
 
--- what a message stands for
+-- what a message to the track stands for
 abbrev pub message_value : Content → MessageValue
 message_value m = messages.message_value ToTrack train_head train_body track_form m
 
+-- what each message to the track keeps: no fault applies, and its numbers fit the types that hold them
 abbrev pub IsMessage : Content → Type 0
 IsMessage m = messages.IsMessage ToTrack train_head train_body track_form m

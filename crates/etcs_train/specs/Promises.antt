@@ -1,4 +1,4 @@
--- Laws of messages to the track.
+-- Laws of messages to the track (SUBSET-026, chapter 8).
 use Rattle.std.specs.Prelude.{◌≡◌, ℕ, ◌*◌, ◌-◌, ◌≤◌, ◌↔◌, ◌⊎◌, List, [], length, All, Some}
 use Rattle.etcs_vars.specs.Reading.{Reading, spelled, Viable}
 use Rattle.etcs_tables.specs.declared.row.Way.TheVariants.{ToTrack}
@@ -15,19 +15,20 @@ use Rattle.etcs_train.specs.declared.body.TrainHead.{TrainHead}
 use Rattle.etcs_train.specs.Bodies.{head_variables, train_head, train_body}
 use Rattle.etcs_train.specs.Messages.{MessageLanguage}
 
--- messages with one spelling are one, and no spelling begins another
+-- two messages of which one's spelling begins the other's are the same, and nothing follows
 abbrev pub OneSpelling : Type 0
 OneSpelling = promises.OneSpelling ToTrack train_head train_body track_form
 
--- the same bits are held in one way
+-- of the same bits, any two packets, numbers, kept bits, part and taken with HeldIn are equal, all five
 abbrev pub OneHolding : Type 0
 OneHolding = readers.OneHolding ToTrack track_form
 
--- a header, the variables of its row and packets
+-- a header, the variables of its row and packets, one after another
 abbrev pub begun : ℕ → ℕ → TrainHead → Reading → List PacketValue → Reading
 begun nid len head body vs = promises.begun ToTrack nid len (head_variables head) body vs
 
--- they begin a message exactly where they stay within its bytes and leave padding or the frame of a packet
+-- an admitted header, a reading of its row and packets begin a message exactly if they are at most its bits and leave
+-- at most 7 of them or at least 21
 abbrev pub RoomRule : Type 0
 RoomRule =
     (nid len : ℕ) (head : TrainHead) (row : Layout) (body : Reading) (vs : List PacketValue)

@@ -66,7 +66,7 @@ impl Head for TrainHead {
 pub enum TrainBody {
     /// Messages 130, 136, 150, 155, 156 and 159, which have no variables of their own.
     Plain { nid: u8 },
-    /// Messages 137, 138 and 146: the T_TRAIN of the message that is answered, in units of 10 ms.
+    /// Messages 137, 138 and 146: the T_TRAIN of the message that they refer to, in units of 10 ms.
     TrainTime { nid: u8, t_train: u32 },
     /// Message 157: what is known of the position at the start of a mission, Q_STATUS: 0 to 3.
     Status { q_status: u8 },

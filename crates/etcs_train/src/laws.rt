@@ -10,53 +10,57 @@ use crate::{TrainBody, TrainHead, TrainMessage};
 use etcs_messages::laws;
 use std::alloc::{AllocError, Global};
 
-/// Messages with one spelling are equal, and no spelling begins another.
+/// No two messages have the same spelling, and no spelling begins another.
 pub fn one_spelling()
     ensures { OneSpelling }
 {
     laws::one_spelling::<TrainHead, TrainBody>();
 }
 
-/// If a header's numbers are admitted, its bits, those of the message's own variables and those of packets after them
-/// begin a message exactly if they fit into 8 times L_MESSAGE bits and leave either at most 7 of these, for PADDING, or at
-/// least 21, for the frame of a packet.
+/// The bits of an admitted header, a reading of the number's row and packets begin a message exactly if they are at
+/// most 8 times L_MESSAGE bits and either at most 7 of these are left, for PADDING, or at least 21, for the frame of a
+/// packet.
 pub fn room()
     ensures { RoomRule }
 {
     laws::room::<TrainHead>();
 }
 
-/// The bits that a reader has read determine what it holds: packets, numbers, kept bits and the unfinished variable.
+/// The bits so far leave one possibility of what the reader's `held` returns: any two packets, numbers, kept bits,
+/// `part` and `taken` of which its promise holds for the same bits are equal, all five.
 pub fn one_holding()
     ensures { OneHolding }
 {
     laws::one_holding::<TrainHead>();
 }
 
-/// `==` of messages is equality of their values: header, body, packets and PADDING, or number and kept bits.
+/// `==` of messages is equality of their values: true exactly if header, body, packets and PADDING, or number and kept
+/// bits, are equal.
 pub fn exact_equality(first: &TrainMessage, second: &TrainMessage) -> bool
     ensures { IsTrue result ↔ (first.now ≡ second.now) }
 {
     laws::exact_equality(first, second)
 }
 
-/// Encodes a message and reads its bytes again: what is read is the message that was encoded.
+/// Encodes a message and reads its bytes again: if it succeeds, what is read is the message that was encoded.
 ///
 /// # Errors
 ///
-/// Where memory was refused, for the bytes or for the reader.
+/// `AllocError` if out of memory for the bytes or in the reader; the body has no other way to fail.
 pub fn round_trip(alloc: Global, message: &TrainMessage) -> Result<TrainMessage, AllocError>
     ensures { IfOk result (λ again. again ≡ message.now) }
 {
     laws::round_trip(alloc, message)
 }
 
-/// Reads a message from the front of some bytes and appends its encoding, which is exactly the bytes that were read.
-/// Returns how many they are; or `None`, without appending anything, if no message is at the front.
+/// Reads a message from the front of some bytes and appends its encoding. If it returns a number of bytes, that many
+/// were there, they spell a message, and exactly these bytes are appended. If it returns `None`, no front of the bits
+/// spells one, and nothing is appended.
 ///
 /// # Errors
 ///
-/// Where memory was refused, for the reader or for the bytes. `out` then stays as it was.
+/// `AllocError` if out of memory, in the reader or for the bytes; the body has no other way to fail. `out` then stays
+/// as it was.
 pub fn read_back(
     alloc: Global,
     bytes: &[u8],

@@ -1,4 +1,6 @@
-//! Radio messages from the train, to the track: built, written, read from pieces.
+//! Radio messages from the train, to the track: [`TrainMessage`] is [`MessageOf`] of `etcs_messages` with
+//! [`TrainHead`] and [`TrainBody`], and [`TrainReader`] reads it from pieces. Its packets are [`TrainPacket`]s.
+//! Messages to the train are in `etcs_radio`.
 //!
 //! ```rust
 //! // message 146: the message with T_TRAIN 1000 is acknowledged

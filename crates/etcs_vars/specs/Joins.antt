@@ -3,7 +3,7 @@ use Rattle.std.specs.Prelude.{◌≡◌, ℕ, ◌≤◌, ◌<◌, ◌^◌, lengt
 use Rattle.etcs_bits.specs.Bits.{num}
 use Rattle.etcs_vars.specs.Reading.{Reading, spelled}
 
--- the first count variables take this many bits, and the number spells them
+-- the first count variables of a reading, at least one, take width bits, at most 64, and the number spells them
 pub record Joins (sent : Reading) (count width number : ℕ) : Type 0 where
   pub some : 0 < count
   pub most : count ≤ length sent

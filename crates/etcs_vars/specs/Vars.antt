@@ -1,4 +1,5 @@
--- The variables, their widths and the numbers that they admit (SUBSET-026, 7.5).
+-- The variables: their names, widths, the numbers that they admit, and the texts of special numbers (SUBSET-026,
+-- chapter 7.5).
 use Prim.Native.String.{String}
 use Rattle.std.specs.Prelude.{ℕ, ◌^◌, ◌-◌, ◌/◌, Bool, ◌&&◌, nat_lt, nat_le, List, [], ◌∷◌, codes, bytes_eq, ◌==◌, if◌then◌else◌, Option, Some, None}
 use Rattle.std.specs.List.{list_any}
@@ -17,7 +18,7 @@ only name width ranges = (codes name, width, ranges)
 abbrev all : String → ℕ → Variable
 all name width = only name width ((0, 2 ^ width - 1) ∷ [])
 
--- the variables
+-- the table of the variables: a line for each, from which name, width and ranges are taken
 abbrev variable : Var → Variable
 -- the header of a telegram
 variable Var.Q_UPDOWN = only "Q_UPDOWN" 1 ((1, 1) ∷ [])
@@ -169,35 +170,35 @@ variable Var.OTHER_DATA = all "OTHER_DATA" 1
 variable Var.PADDING = all "PADDING" 1
 variable Var.PAD = only "PAD" 1 ((0, 0) ∷ [])
 
--- how many bits a variable takes
+-- how many bits the variable takes
 abbrev pub width : Var → ℕ
 width v = (variable v).1
 
--- the numbers that a variable admits, as ranges with both ends
+-- the numbers that the variable admits, as ranges, both ends included; spare numbers are in none
 abbrev pub ranges : Var → List (ℕ × ℕ)
 ranges v = (variable v).2
 
--- n lies in one of the ranges
+-- n lies in one of the ranges, both ends included
 abbrev pub inside : List (ℕ × ℕ) → ℕ → Bool
 inside rs n = list_any (λ r. nat_le r.0 n && nat_le n r.1) rs
 
--- n is one of the numbers that v admits
+-- the variable v admits the number n: it fits the width and lies in one of the ranges
 abbrev pub admits : Var → ℕ → Bool
 admits v n = nat_lt n (2 ^ width v) && inside (ranges v) n
 
--- some number of one of the ranges gives this number once its rest lowest bits are dropped
+-- some number of the ranges gives n once its rest lowest bits are dropped (of ranges whose ends are in order)
 abbrev pub begins : List (ℕ × ℕ) → ℕ → ℕ → Bool
 begins rs rest n = list_any (λ r. nat_le (r.0 / 2 ^ rest) n && nat_le n (r.1 / 2 ^ rest)) rs
 
--- the name as it is printed
+-- the name of the variable as it is printed
 abbrev pub name : Var → List ℕ
 name v = (variable v).0
 
--- v and w are printed alike
+-- v and w have the same printed name, as the two variables M_VERSION have
 abbrev pub same_name : Var → Var → Bool
 same_name v w = bytes_eq (name v) (name w)
 
--- what the number n of a variable stands for, where it is no measure
+-- the meaning of a number n of a variable that isn't a plain quantity, or nothing
 abbrev pub special : Var → ℕ → Option (List ℕ)
 special V_STATIC n = if n == 127 then Some (codes "end of profile") else None
 special G_A n = if n == 255 then Some (codes "end of profile") else None

@@ -13,7 +13,7 @@ pub enum BuildFault {
     /// The variable doesn't admit the number: it is spare, or too large for the variable's width. Also NID_PACKET or
     /// NID_MESSAGE that the type or the message can't have, and PADDING of more bits than are left.
     NotAdmitted(Var),
-    /// A group is there where its guard on the variable doesn't hold, or is missing where it does.
+    /// A group is there although its guard on the variable doesn't hold, or is missing although it holds.
     Guard(Var),
     /// There are more entries than the variable can count.
     TooMany(Var),
@@ -23,10 +23,11 @@ pub enum BuildFault {
     TooLong,
     /// The fill isn't exactly the rest of the telegram, or a message that is kept as bits isn't 3 to 1,023 whole bytes.
     FillLength,
-    /// Memory was refused.
+    /// Out of memory.
     Memory,
 }
 
+/// Prints a fixed text for each fault, with the name of its variable.
 impl fmt::Display for BuildFault {
     ghost output = { λ fault. Some (build_fault_text fault) };
 
@@ -38,18 +39,18 @@ impl fmt::Display for BuildFault {
             BuildFault::Count => f.write_str("not as many numbers as the row has"),
             BuildFault::TooLong => f.write_str("longer than may be sent"),
             BuildFault::FillLength => f.write_str("the fill isn't the rest of the bits"),
-            BuildFault::Memory => f.write_str("memory was refused"),
+            BuildFault::Memory => f.write_str("out of memory"),
         }
     }
 }
 
 impl Error for BuildFault {}
 
-/// Says whether the variable admits the number.
+/// Whether the variable admits the number: succeeds exactly if it does.
 ///
 /// # Errors
 ///
-/// [`BuildFault::NotAdmitted`] with this variable, where it doesn't.
+/// [`BuildFault::NotAdmitted`] with this variable if it doesn't.
 pub fn check(var: Var, number: u64) -> Result<(), BuildFault>
     ensures ok { OnOk result (number_fault var number ≡ None) }
     ensures fault { IfErr result (λ e. number_fault var number ≡ Some e) }

@@ -1,4 +1,4 @@
-//! What readers answer to a piece of bytes.
+//! What readers return for a piece of bytes.
 
 ghost use Rattle.std.specs.Prelude.{Some};
 ghost use Rattle.etcs_vars.specs.Faults.{read_fault_text};
@@ -16,18 +16,19 @@ pub enum Fed {
     Done { taken: usize },
 }
 
-/// Why a reader answers no value.
+/// Why a reader returns no value.
 #[derive(Clone, Copy, Debug, PartialEq, Eq)]
 pub enum ReadFault {
-    /// No value begins with the bits up to this one, `bit`, which is in `var`. Bits count from 0,
-    /// from the value's first.
+    /// No value begins with the bits up to and with the bit `bit`, counted from 0 from the value's first bit, and `var`
+    /// holds this bit.
     Refused { bit: usize, var: Var },
     /// The value was whole before this piece.
     Ended,
-    /// Memory was refused.
+    /// Out of memory.
     Memory,
 }
 
+/// Prints a fixed text for each fault, of a refusal with the bit and the name of the variable.
 impl fmt::Display for ReadFault {
     ghost output = { λ fault. Some (read_fault_text fault) };
 
@@ -35,7 +36,7 @@ impl fmt::Display for ReadFault {
         match self {
             ReadFault::Refused { bit, var } => write!(f, "refused at bit {bit}, {var}"),
             ReadFault::Ended => f.write_str("the value was whole before"),
-            ReadFault::Memory => f.write_str("memory was refused"),
+            ReadFault::Memory => f.write_str("out of memory"),
         }
     }
 }

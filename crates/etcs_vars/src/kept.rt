@@ -26,8 +26,8 @@ fn of_byte(var: Var, byte: u64) -> [(Var, u64); 8]
     ]
 }
 
-/// Sends the first `count` bits of a word, highest first, eight at a time as long as there are as many, and returns how many it
-/// sent.
+/// Sends the first `count` bits of a word, highest first, eight at a time as long as there are as many, and returns how
+/// many it sent.
 ///
 /// # Errors
 ///
@@ -69,11 +69,12 @@ fn send_word<S: VarSink>(var: Var, word: u64, count: usize, out: &mut S) -> Resu
     Ok(())
 }
 
-/// Sends bits that are kept, each as the variable.
+/// Sends bits that are kept, in order, each as the variable with the number 0 or 1: if it succeeds, the sink holds what
+/// its `with` gives for these.
 ///
 /// # Errors
 ///
-/// That of the sink.
+/// That of the sink, whose `failed` then holds.
 pub fn send_bits<S: VarSink>(var: Var, bits: &BitSlice<'_>, out: &mut S) -> Result<(), AllocError>
     ensures ok { OnOk result (out.new ≡ S.with out.old (kept var bits.now)) }
     ensures err { OnErr result (S.failed out.old out.new) }

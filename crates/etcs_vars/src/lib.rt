@@ -1,5 +1,6 @@
-//! The variables of ETCS telegrams and radio messages: names, widths and admitted numbers, and the
-//! faults that name a variable; where variables are sent, kept bits among them, and bits that are put over those of bytes (`WordSink`).
+//! The variables of ETCS telegrams and radio messages: names, widths and admitted numbers (SUBSET-026, 7.5), and the
+//! faults that name a variable; where variables are sent, kept bits among them, and bits that are put over those of
+//! bytes (`WordSink`).
 #![tactic(auto)]
 
 mod fault;

@@ -33,7 +33,7 @@ impl PairList {
         }
     }
 
-    /// The pairs.
+    /// The pairs, in the order in which they were sent.
     pub fn into_vec(self) -> Vec<(Var, u64)>
         ensures { result.items ≡ self }
     {
@@ -42,6 +42,7 @@ impl PairList {
     }
 }
 
+/// What is sent comes after what the list has. If memory runs out no clause says what it has then.
 impl VarSink for PairList {
     ghost use Rattle.std.specs.Prelude.{⊤, ◌++◌};
     ghost use Rattle.etcs_vars.specs.laws.Sinks.{pairs_none, pairs_both};
@@ -61,11 +62,12 @@ impl VarSink for PairList {
     }
 }
 
-/// The variables of a value with their numbers, in the order of sending.
+/// The variables of a value with their numbers, in the order of sending: if it succeeds, exactly those that the value
+/// sends.
 ///
 /// # Errors
 ///
-/// `AllocError` where there is no memory.
+/// `AllocError` if memory runs out.
 pub fn pairs_of<V: Variables>(variables: &V, alloc: Global) -> Result<Vec<(Var, u64)>, AllocError>
     ensures { IfOk result (λ pairs. pairs.items ≡ V.reading_of variables.now) }
 {

@@ -19,8 +19,10 @@ pub(crate) fn inside(ranges: &[(u64, u64)], number: u64) -> bool
     begins(ranges, 0, number)
 }
 
-/// Whether `bits` may begin a number of the ranges, with `rest` bits after them: for ranges whose
-/// ends are in order, whether some number of them is `bits` once its `rest` lowest bits are dropped.
+/// Whether `bits` lies between the ends of one of the ranges, both included and both without their `rest` lowest bits.
+/// For ranges whose ends are in order, as those of a variable are, this is whether some number of them begins with
+/// `bits` and has `rest` bits after these; of a variable's own ranges that is proved as the lemma `begins_admitted`,
+/// but it is no clause of this call. `rest` must be at most 64.
 #[inline]
 pub fn begins(ranges: &[(u64, u64)], rest: usize, bits: u64) -> bool
     requires { rest ≤ 64 }

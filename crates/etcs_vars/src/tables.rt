@@ -8,7 +8,7 @@ use crate::var::Var;
 
 /// An array of what the macro `$of` makes of each variable, in the order of `Var`.
 ///
-/// A line has the variable, the name that it prints as where that is another one, the width, and the
+/// A line has the variable, the name that is printed if that is another one, the width, and the
 /// ranges of the numbers that are admitted, the least first; with no range, all numbers of the width
 /// are. `$of` is called with all of these, and always with the name: `Q_UPDOWN Q_UPDOWN 1 (1, 1)`.
 #[macro_export]
@@ -207,7 +207,7 @@ static FIRST_RANGES: [(u64, u64); COUNT] = variables!(first_range);
 static NAMES: [&str; COUNT] = variables!(name);
 
 impl Var {
-    /// How many bits the variable takes, from 1 to 64.
+    /// How many bits the variable takes, from 1 to 64 (SUBSET-026, 7.5).
     #[inline]
     pub fn width(self) -> usize
         ensures { result ≡ width self }
@@ -215,7 +215,8 @@ impl Var {
         WIDTHS[self as usize] as usize
     }
 
-    /// The numbers that it admits, as ranges with both ends, the least first. They are apart.
+    /// The numbers that the variable admits, as ranges, both ends included, the least first. They are apart, and spare
+    /// numbers are in none.
     #[inline]
     pub fn ranges(self) -> &'static [(u64, u64)]
         ensures { result.now ≡ ranges self }
@@ -231,15 +232,15 @@ impl Var {
         FIRST_RANGES[self as usize]
     }
 
-    /// The name as the standard prints it. `M_VERSION` is the name of two variables.
+    /// The name as it is printed, which is that of the standard. `M_VERSION` is the name of two variables.
     pub fn name(self) -> &'static str
         ensures { result.now ≡ name self }
     {
         NAMES[self as usize]
     }
 
-    /// The special meaning of the number, if it is no measure, such as `unlimited` for 1023 of T_LOA.
-    /// Every other number has no such text.
+    /// The text of a number that isn't a plain quantity, such as `unlimited` for 1023 of T_LOA. `None` for every other
+    /// number.
     #[inline(always)]
     pub fn special(self, number: u64) -> Option<&'static str>
         ensures { option_map (λ text. text.now) result ≡ special self number }

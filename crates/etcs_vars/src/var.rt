@@ -10,8 +10,8 @@ use std::fmt;
 
 /// A variable of telegrams and radio messages, under its name in the standard (SUBSET-026, 7.5).
 ///
-/// Its number is sent in [`width`](Var::width) bits, the most significant first. Distances (`D_`) and lengths (`L_`) are
-/// in steps of Q_SCALE unless noted otherwise.
+/// Its number is sent in [`width`](Var::width) bits, the most significant first. Distances (`D_`) and lengths (`L_`)
+/// are in steps of Q_SCALE unless noted otherwise.
 #[derive(Clone, Copy, Debug, PartialEq, Eq)]
 pub enum Var {
     // The header of a telegram.
@@ -58,7 +58,7 @@ pub enum Var {
     Q_NEWCOUNTRY,
     /// The direction in which the train passes the linked group: 0 reverse, 1 nominal.
     Q_LINKORIENTATION,
-    /// What the train does where linking finds a fault: 0 train trip, 1 service brake, 2 nothing.
+    /// What the train does if linking finds a fault: 0 train trip, 1 service brake, 2 nothing.
     Q_LINKREACTION,
     /// How exactly the place of the linked group is known, in metres.
     Q_LOCACC,
@@ -316,8 +316,8 @@ pub enum Var {
 }
 
 impl Var {
-    /// Whether the variable admits the number. It refuses spare numbers, and those that need more
-    /// bits than its width.
+    /// Whether the variable admits the number: it fits the variable's width and isn't spare, as the table has it
+    /// (SUBSET-026, 7.5).
     #[tactic(auto, using(crate::proofs::Prefixes::admits_by_first))]
     #[inline]
     pub fn admits(self, number: u64) -> bool
@@ -335,8 +335,8 @@ impl Var {
         inside(self.ranges(), number)
     }
 
-    /// Whether some admitted number begins with these bits, `taken` of them, which `bits` holds as
-    /// a number.
+    /// Whether some admitted number, in the variable's width, begins with these `taken` bits, given as the number
+    /// `bits`. `taken` must be at most the width, and `bits` must have at most `taken` bits.
     #[tactic(auto, using(crate::proofs::Prefixes::begins_admitted))]
     #[inline]
     pub fn admits_prefix(self, bits: u64, taken: usize) -> bool
@@ -358,7 +358,7 @@ impl Var {
     }
 }
 
-/// The name as the standard prints it.
+/// Prints the name, padded as the format asks.
 impl fmt::Display for Var {
     ghost output = { λ var. Some (name var) };
 

@@ -33,7 +33,7 @@ impl Word {
         Word { held: 0, count: 0 }
     }
 
-    /// How many bits they are.
+    /// How many bits there are.
     #[inline(always)]
     pub(crate) fn len(&self) -> usize
         ensures { result ≡ length self.now }
@@ -50,8 +50,8 @@ impl Word {
         self.held
     }
 
-    /// Puts the lowest bits of a number after the others. Answers the first 64, where they are that many, and keeps
-    /// those after them.
+    /// Puts the lowest bits of a number after the others. Returns the first 64 if there are that many, and keeps those
+    /// after them.
     #[inline(always)]
     pub(crate) fn put(&mut self, width: usize, number: u64) -> Option<u64>
         requires some { 0 < width }

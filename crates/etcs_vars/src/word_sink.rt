@@ -12,7 +12,7 @@ use crate::word::Word;
 use etcs_bits::BitSlice;
 use std::alloc::AllocError;
 
-/// Bytes over whose first bits others are put, one after another. Where these have no room, no clause says what the bytes
+/// Bytes over whose first bits others are put, one after another. If these have no room, no clause says what the bytes
 /// hold.
 #[derive(Drop)]
 pub struct WordSink<'a> {
@@ -26,7 +26,7 @@ pub struct WordSink<'a> {
 impl<'a> WordSink<'a> {
     ghost use Rattle.etcs_vars.specs.WordSinks.{pushed, and_bits, IsWritten};
 
-    /// These bytes, over whose first bits others are put.
+    /// A sink over the first bits of these bytes, into which nothing is put yet.
     pub fn new(bytes: &'a mut [u8]) -> WordSink<'a>
         ensures lent { result.bytes.ghost_name ≡ bytes.entry.ghost_name }
         ensures bytes { result.bytes.now ≡ bytes.old }
@@ -40,7 +40,8 @@ impl<'a> WordSink<'a> {
         }
     }
 
-    /// Puts the lowest bits of a number after the others.
+    /// Puts the lowest `width` bits of a number after the bits before, most significant bit first. `width` must be 1 to
+    /// 64.
     #[inline(always)]
     pub fn put(&mut self, width: usize, number: u64)
         requires some { 0 < width }
@@ -52,7 +53,7 @@ impl<'a> WordSink<'a> {
         }
     }
 
-    /// Writes a word over the next eight bytes, where it has room.
+    /// Writes a word over the next eight bytes, if it has room.
     #[inline(always)]
     fn push(&mut self, word: u64)
         ensures { self.new ≡ pushed self.old (num 64 word) }
@@ -64,7 +65,7 @@ impl<'a> WordSink<'a> {
         }
     }
 
-    /// Puts the bits of a slice after the others.
+    /// Puts the bits of a slice after the bits before, in order.
     #[inline(always)]
     pub fn put_slice(&mut self, slice: &BitSlice<'_>)
         ensures { self.new ≡ and_bits self.old slice.now }
@@ -79,7 +80,7 @@ impl<'a> WordSink<'a> {
         }
     }
 
-    /// Puts the lowest bits of a number after the others, as many as are left up to whole bytes.
+    /// Puts the lowest bits of a number after the bits before, as many as are left up to whole bytes, at most 7.
     pub fn fill_up(&mut self, number: u64)
         ensures { self.new ≡ and_bits self.old (num ((8 - length self.old.word % 8) % 8) number) }
     {
@@ -89,7 +90,7 @@ impl<'a> WordSink<'a> {
         }
     }
 
-    /// Puts the first of some variables after the others, as one number, and answers how many.
+    /// Puts the first of some variables after the others, as one number, and returns how many.
     #[inline(always)]
     fn put_front(&mut self, sent: &[(Var, u64)]) -> usize
         requires { 0 < length sent.now }
@@ -113,7 +114,7 @@ impl<'a> WordSink<'a> {
         }
     }
 
-    /// Puts variables after the others, each with the lowest bits of its number.
+    /// Puts variables after the bits before, in order, each in its width with the lowest bits of its number.
     #[inline(always)]
     pub fn put_reading(&mut self, sent: &[(Var, u64)])
         ensures { self.new ≡ and_bits self.old (spelled sent.now) }
@@ -126,7 +127,9 @@ impl<'a> WordSink<'a> {
         }
     }
 
-    /// Writes the last bits, fewer than 64, with zeros after them: eight bytes in all, or as many as are left.
+    /// Ends the writing: the first bits of the bytes are then those that were put, in order, if these had room. The
+    /// last bits, fewer than 64, are written with zeros after them, eight bytes in all, or as many as are left; of what
+    /// is after the bits that were put there is no clause.
     pub fn finish(self)
         ensures { IsWritten self.entry self.exit.0.now }
     {
@@ -163,7 +166,7 @@ impl<'a> VarSink for WordSink<'a> {
 
     ghost failed_after = { λ s a t h. h };
 
-    /// It refuses nothing.
+    /// Puts the variables after the bits before, in order, each in its width. It never fails.
     #[inline(always)]
     fn send(&mut self, sent: &[(Var, u64)]) -> Result<(), AllocError> {
         self.put_reading(sent);

@@ -1,13 +1,14 @@
-//! Checks vectors: lines of standard input that say what the crates of this repository answer.
+//! Checks vectors: lines of standard input, each a call and its expected result.
 //!
 //! A line is `KIND WORDS = EXPECTED`, with one blank between words. A line after it that begins with a blank is one more line
 //! of the expected answer. Lines that begin with `#` and empty lines are ignored. Each vector that isn't answered as expected
 //! is written with its answer, and at the end how many there were of each kind.
 #![tactic(auto)]
 
-use etcs_cases::{Ended, Pieces, Program, Room, Sheet};
 use etcs_cli::run_words;
 use etcs_fakes::Narrow;
+use etcs_vector_items::{Ended, Pieces, Program, Room, answer};
+use etcs_vector_lines::{Case, Kinds, Sheet};
 use std::alloc::Global;
 use std::io::{self, Read, Write};
 use std::process::ExitCode;
@@ -37,6 +38,12 @@ impl Program for Etcs {
             is_flushed,
             faults: kept,
         }
+    }
+}
+
+impl Kinds for Etcs {
+    fn answer(case: &mut Case, kind: &str) -> bool {
+        answer::<Etcs>(case, kind)
     }
 }
 

@@ -40,7 +40,7 @@ module _ {V : Type 0} {row : Layout → Layout} {IsV : V → Type 0} {reading : 
       let o = codes.out whole s r h in
       (o.0, o.3, (let e : o.1 ≡ [] = o.5 in o.4 ∙ ap (λ (x : Reading). reading o.0 ++ x) e ∙ append-nil (reading o.0)))
 
--- ---- One group where the number passes a test, another where it doesn't.
+-- ---- One group if the number passes a test, another if it doesn't.
 
 stands : (b : Bool) (P Q : Type 0) → b ≡ true → P → MatchBool b P Q
 stands true P Q e p = p
@@ -120,7 +120,7 @@ module _ {W : Type 0} (v : Var) (test other : Test) (apart : (n : ℕ) → admit
         out_by (passes test n) (passes other n) n rest s r x refl (apart n h) (number_ok v n h) e k2;
   }
 
--- ---- After a flag one group where it is 1, another where it is 0.
+-- ---- After a flag one group if it is 1, another if it is 0.
 
 module _ {A B : Type 0} (v : Var) (is : IsFlag v) {row row' : Layout → Layout} {IsA : A → Type 0} {IsB : B → Type 0} {reading : A → Reading} {reading' : B → Reading} {from : Left → Option (A × Left)} {from' : Left → Option (B × Left)} (one_codes : Codes row IsA reading from) (zero_codes : Codes row' IsB reading' from') where
   abbrev if_one : Guard

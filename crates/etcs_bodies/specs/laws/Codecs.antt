@@ -50,7 +50,7 @@ both {row' = row'} {IsV = IsV} {IsW = IsW} {reading = reading} {reading' = readi
       ((a.0, b.0), b.1, b.2, (a.3, b.3), a.4 ∙ ap (λ (t : Reading). reading a.0 ++ t) b.4 ∙ sym (append_assoc (reading a.0) (reading' b.0) b.1), b.5);
 }
 
--- ---- A group that is there where a test holds of the number of a variable.
+-- ---- A group that is there if a test holds of the number of a variable.
 
 pub holds_here : (v : Var) (test : Test) (n : ℕ) (s : Scope) → holds (record { var = v; test = test }) ((v, n) ∷ s) ≡ passes test n
 holds_here v test n s = let e : same_name v v ≡ true = (bytes_eq-Decides (name v) (name v)).1 refl in rw (e, holds, nearest) refl

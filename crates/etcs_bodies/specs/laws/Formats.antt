@@ -1,4 +1,5 @@
--- Lemmas about specs/Formats.antt: the values of a format are what its row spells, of at most a number of bits, and equal where the test says so.
+-- Lemmas about specs/Formats.antt: the values of a format are what its row spells, of at most a number of bits, and
+-- equal if the test is true.
 use Rattle.std.proofs.Common.{◌≡◌, ℕ, ◌-◌, ◌*◌, ◌^◌, ◌≤◌, Bool, true, false, length, Option, None, Some, nat_le, inl, inr, refl, sym, ap, subst, arith}
 use Rattle.std.specs.Prelude.{if◌then◌else◌, not}
 use Rattle.std.proofs.lemmas.Bool.{leb-true, leb-false}

@@ -39,7 +39,7 @@ length_ok r h = let short : bit_count r ≤ ROW_LIMIT = rw (bit_count_is r) at h
 
 -- ---- What is read as a packet.
 
--- where nothing is left after these variables, they were all
+-- if nothing is left after these variables, they were all
 all_said : (r : Reading) (t : Left) → is_spent t ≡ true → Says (ahead r t) r
 all_said r (listed []) h = sym (append-nil (numbers r))
 all_said r (listed (n ∷ t)) h = absurd cc

@@ -45,7 +45,7 @@ both_or_none takes lacks w takes' lacks' w' first second b k =
       ]
     ]
 
--- where the bits of a run aren't all there, one of its numbers isn't
+-- if the bits of a run aren't all there, one of its numbers isn't
 pub none_past : {V : Type 0} (takes : Left → V → Left → Type 0) (lacks : Left → Type 0) (w : ℕ) (b : List Bool) (k : ℕ) → (lacks (in_bits (drop k b)) ⊎ TakesBits takes w b k) → number_at k w b ≡ None → lacks (in_bits (drop k b))
 none_past takes lacks w b k either h =
     elim either [

@@ -1,4 +1,4 @@
--- What taking from the front answers, and that it takes what is there.
+-- What taking from the front gives, and that it takes what is there.
 use Rattle.std.proofs.Common.{◌≡◌, ℕ, zero, suc, ◌+◌, ◌<◌, ◌^◌, Bool, true, false, nat_lt, nat_le, List, [], ◌∷◌, ◌++◌, length, take, drop, map, Option, Some, None, refl, sym, ap, ◌∙◌, append_assoc, arith}
 use Rattle.std.specs.Prelude.{if◌then◌else◌, bytes_eq}
 use Rattle.std.specs.Bool.{beq}
@@ -50,7 +50,7 @@ pub counted_admitted : (v : Var) (n : ℕ) → count_fault v n ≡ None → admi
 unfolding count_fault
 counted_admitted v n h = by_test (admits v n) (TooMany v) h
 
--- a count that was read, where this many entries were read after it
+-- a count that was read, if this many entries were read after it
 pub counted_is : (v : Var) (n many : ℕ) → number_fault v n ≡ None → many ≡ n → count_fault v many ≡ None
 counted_is v n many h e = rw e (count_ok v n (admitted v n h))
 
@@ -69,7 +69,7 @@ ahead_none (listed f) = refl
 ahead_none (in_bits b) = refl
 ahead_none (named f) = refl
 
--- what both steps of a taking answer
+-- what both steps of a taking give
 pub taken : {A B : Type 0} (o : Option A) (k : A → Option B) (b : B) → (o and_then k) ≡ Some b → (a : A) × (o ≡ Some a) × (k a ≡ Some b)
 taken None k b h = absurd cc
 taken (Some a) k b h = (a, refl, h)

@@ -43,7 +43,7 @@ width_narrow v = width-le v
 
 -- ---- Numbers that are taken.
 
--- one more, and none where the next isn't there or is a group
+-- one more, and none if the next isn't there or is a group
 pub taken_more : (ns : List ℕ) (v : Var) (n : ℕ) (table : List RowItem) (s t : Left) → next_number v s ≡ Some (n, t) → beyond ns (table_from (One v ∷ table) s) ≡ beyond (ns ++ n ∷ []) (table_from table t)
 taken_more ns v n table s t h = rw h (after_more ns n (table_from table t))
 
@@ -64,7 +64,7 @@ items_flat (one v rest) = first_item v (list_all is_one (items rest)) (items res
 items_flat (guarded g group rest) = refl
 items_flat (counted group rest) = refl
 
--- where a row has no groups, its table has none
+-- if a row has no groups, its table has none
 pub flat_table : (o : Option Layout) (table : List RowItem) → Some table ≡ option_map items o → (if list_all is_one table then Some table else None) ≡ option_map (λ vs. map One vs) (option_and_then variables o)
 flat_table None table is = absurd cc
 flat_table (Some row) table is = let same : table ≡ items row = cc in rw same (items_flat row)

@@ -1,10 +1,12 @@
-//! Messages read of the text that `json_line` writes of them.
+//! Messages read from the text that `json_line` writes of them.
 
-ghost use Rattle.std.specs.Prelude.{◌≡◌, ◌++◌, IfOk, codes};
+ghost use Rattle.std.specs.Prelude.{◌≡◌, ◌<◌, ◌^◌, ◌++◌, IfOk, codes, map};
 ghost use Rattle.serde_json.specs.Written.{compact_text};
+ghost use Rattle.etcs_bits.specs.Bits.{num};
 ghost use Rattle.etcs_vars.specs.Reading.{Reading};
 ghost use Rattle.etcs_messages.specs.Kinds.{IsHead, IsOwn};
 ghost use Rattle.etcs_messages.specs.Messages.{MessageReads, message_value};
+ghost use Rattle.etcs_packet_text.specs.Show.{bit_digit};
 ghost use Rattle.etcs_packet_text.specs.Trees.{pairs_tree};
 ghost use Rattle.etcs_text.specs.Trees.{message_tree};
 
@@ -16,7 +18,7 @@ use etcs_tables::{head_row, message_row};
 use etcs_text::inner::way_member;
 use std::alloc::Global;
 
-/// Takes the message that is kept as bits, of which the text up to the bits was taken.
+/// Takes the message that is kept as bits, after its text up to the bits.
 fn kept_message<H: Head, B: Own<Front = H>>(
     alloc: Global,
     text: &mut Text<'_>,
@@ -41,7 +43,7 @@ fn head<H: Head>(text: &mut Text<'_>) -> Result<H, Miss>
     Ok(H::of_numbers(numbers.as_slice()))
 }
 
-/// What is of its own in a message of this number, of the list of the pairs.
+/// The body of a message of this number, whose pairs are listed.
 #[inline(always)]
 fn body<H: Head, B: Own<Front = H>>(nid: u8, list: &[u8]) -> Result<B, Miss>
     ensures own { IfOk result (λ b. IsOwn B.own b × (B.own.nid b ≡ nid)) }
@@ -56,8 +58,20 @@ fn body<H: Head, B: Own<Front = H>>(nid: u8, list: &[u8]) -> Result<B, Miss>
     Ok(B::of_numbers(nid, numbers.as_slice()))
 }
 
-/// Takes the typed message, of which the text up to the list of its own variables was taken. What these are depends on its
-/// number, which comes later: the list is passed over, and read then.
+/// Takes the PADDING after the packets, and the end of the message: how many bits it has, and their number, the first one the
+/// highest.
+fn padding(text: &mut Text<'_>) -> Result<(usize, u8), Miss>
+    ensures small { IfOk result (λ p. p.1 < 2 ^ p.0) }
+    ensures text { IfOk result (λ p. text.old ≡ (codes ",\"padding\":\"" ++ map bit_digit (num p.0 p.1) ++ codes "\"}") ++ text.new) }
+{
+    text.pass(b",\"padding\":\"")?;
+    let found = text.padding()?;
+    text.pass(b"\"}")?;
+    Ok(found)
+}
+
+/// Takes the typed message, after its text up to the list of its own variables. Which these are depends on its number,
+/// which comes later: the list is skipped, and read then.
 fn typed_message<H: Head, B: Own<Front = H>>(
     alloc: Global,
     text: &mut Text<'_>,
@@ -72,9 +86,7 @@ fn typed_message<H: Head, B: Own<Front = H>>(
     let body: B = body(nid, own)?;
     text.pass(b",\"packets\":")?;
     let packets = written_packets(alloc, text)?;
-    text.pass(b",\"padding\":\"")?;
-    let (count, padding) = text.padding()?;
-    text.pass(b"\"}")?;
+    let (count, padding) = padding(text)?;
     typed_by(head, body, packets, count, padding).ok_or(Miss::Shape)
 }
 
@@ -82,8 +94,8 @@ fn typed_message<H: Head, B: Own<Front = H>>(
 ///
 /// # Errors
 ///
-/// - [`Miss::Shape`] where the text continues with something else;
-/// - [`Miss::Memory`] where memory was refused.
+/// - [`Miss::Shape`] if the text continues with something else;
+/// - [`Miss::Memory`] if out of memory.
 pub(crate) fn written_message<H: Head, B: Own<Front = H>>(
     alloc: Global,
     text: &mut Text<'_>,

@@ -1,4 +1,4 @@
-//! Telegrams read of the text that `json_line` writes of them.
+//! Telegrams read from the text that `json_line` writes of them.
 
 ghost use Rattle.std.specs.Prelude.{◌≡◌, ◌++◌, IfOk};
 ghost use Rattle.serde_json.specs.Written.{compact_text};
@@ -29,8 +29,8 @@ fn header(text: &mut Text<'_>) -> Result<Header, Miss>
 ///
 /// # Errors
 ///
-/// - [`Miss::Shape`] where the text continues with something else;
-/// - [`Miss::Memory`] where memory was refused.
+/// - [`Miss::Shape`] if the text continues with something else;
+/// - [`Miss::Memory`] if out of memory.
 pub(crate) fn written_telegram(
     alloc: Global,
     size: Size,

@@ -1,4 +1,4 @@
-//! Digits, and the numbers and bits that they say.
+//! Digits, and the numbers and bits that they stand for.
 
 ghost use Rattle.std.specs.Prelude.{◌≡◌, ◌+◌, ◌*◌, ◌^◌, ◌<◌, ◌≤◌, ◌++◌, IfOk, IfSome, IsTrue, OnOk, length, map, take};
 ghost use Rattle.std.specs.Fmt.{decimal};
@@ -19,8 +19,8 @@ fn digit_of(byte: u8) -> Option<u8>
     if digit < 10 { Some(digit) } else { None }
 }
 
-/// The number below 256 whose decimal digits come first, as far as these go, and what is after them. `None` where there are
-/// none, or a zero before others, or the number is larger.
+/// The number below 256 whose decimal digits come first, as far as these go, and what is after them. `None` if there are
+/// none, a zero is before others, or the number is larger.
 #[inline(always)]
 pub fn byte_number(text: &[u8]) -> Option<(u8, &[u8])>
     ensures { IfSome result (λ p. text.now ≡ decimal p.0 ++ p.1.now) }
@@ -54,7 +54,7 @@ fn bit_of(byte: u8) -> Option<u8>
 }
 
 /// How many digits 0 and 1 come first, the number of their bits, the first one the highest, and what is after them. `None`
-/// where they are more than seven.
+/// if there are more than seven.
 #[inline(always)]
 pub fn few_bits(text: &[u8]) -> Option<(usize, u8, &[u8])>
     ensures count { IfSome result (λ p. p.0 ≤ 7) }
@@ -91,7 +91,7 @@ fn byte_of(eight: &[u8; 8]) -> Option<u8>
     Some((bits >> 56) as u8)
 }
 
-/// Writes the bits of digits over those of bytes, and answers whether they all are 0 or 1.
+/// Writes the bits of digits over those of bytes, and returns whether they all are 0 or 1.
 fn pack(digits: &[u8], bytes: &mut [u8]) -> bool
     requires { length digits.now < 8 * length bytes.old }
     ensures { IsTrue result → digits.now ≡ map bit_digit (take (length digits.now) (bits bytes.new)) }

@@ -1,4 +1,4 @@
-//! What comes before the number of a pair: a comma where the pair isn't the first, and the name.
+//! What comes before the number of a pair: a comma unless the pair is the first, and the name.
 
 ghost use Rattle.std.specs.Prelude.{◌≡◌, ◌↔◌, ◌+◌, ◌<◌, ◌≤◌, ◌++◌, ◌∷◌, ℕ, List, IsTrue, IfSome, IfNone, length, take, drop, codes};
 ghost use Rattle.etcs_vars.specs.Vars.{name};
@@ -15,7 +15,7 @@ macro_rules! padded_pair {
 
 static PADDED_PAIRS: [&str; COUNT] = variables!(padded_pair);
 
-/// The front of a pair after another, and 29 blanks more.
+/// The front of a pair after another, and 29 more blanks.
 #[inline(always)]
 fn listed_pair(var: Var) -> &'static [u8]
     ensures { result.now ≡ 44 ∷ (name_front (name var) ++ codes "                             ") }
@@ -23,7 +23,7 @@ fn listed_pair(var: Var) -> &'static [u8]
     PADDED_PAIRS[var as usize].as_bytes()
 }
 
-/// What is after the front of a pair, where a text begins with it.
+/// What is after the front of a pair, if the text begins with it.
 #[inline(always)]
 pub(crate) fn after_front<'a>(text: &'a [u8], later: bool, var: Var) -> Option<&'a [u8]>
     ensures some { IfSome result (λ r. text.now ≡ comma_if later ++ (name_front (name var) ++ r.now)) }
@@ -37,7 +37,7 @@ pub(crate) fn after_front<'a>(text: &'a [u8], later: bool, var: Var) -> Option<&
     after(text, &listed[1..], len)
 }
 
-/// What is after the first bytes of some, where a text begins with them.
+/// What is after the first `len` bytes of `padded`, if the text begins with them.
 #[inline(always)]
 fn after<'a>(text: &'a [u8], padded: &[u8], len: usize) -> Option<&'a [u8]>
     requires room { 32 ≤ length padded.now }
@@ -51,7 +51,7 @@ fn after<'a>(text: &'a [u8], padded: &[u8], len: usize) -> Option<&'a [u8]>
     }
 }
 
-/// What is after the first bytes of 32, where a text begins with them.
+/// What is after the first `len` bytes of `front`, if the text begins with them.
 #[inline(always)]
 fn after_chunk<'a>(text: &'a [u8], front: &[u8; 32], len: usize) -> Option<&'a [u8]>
     requires { len ≤ 32 }
@@ -69,7 +69,7 @@ fn after_chunk<'a>(text: &'a [u8], front: &[u8; 32], len: usize) -> Option<&'a [
     }
 }
 
-/// What is after some bytes, where a text begins with them.
+/// What is after the bytes of `front`, if the text begins with them.
 #[inline(always)]
 pub(crate) fn after_bytes<'a>(text: &'a [u8], front: &[u8]) -> Option<&'a [u8]>
     ensures some { IfSome result (λ r. text.now ≡ front.now ++ r.now) }
@@ -78,7 +78,7 @@ pub(crate) fn after_bytes<'a>(text: &'a [u8], front: &[u8]) -> Option<&'a [u8]>
     text.strip_prefix(front)
 }
 
-/// Whether this many of the first bytes are the same, compared eight at a time.
+/// Whether the first `len` bytes are the same, compared eight at a time.
 #[inline(always)]
 fn begin_alike(text: &[u8; 32], front: &[u8; 32], len: usize) -> bool
     requires { len ≤ 32 }
@@ -90,7 +90,7 @@ fn begin_alike(text: &[u8; 32], front: &[u8; 32], len: usize) -> bool
     begin_by_eight(text, front, len)
 }
 
-/// Whether this many of the first bytes are the same, at least eight of them: the last eight may be compared twice.
+/// Whether the first `len` bytes, at least eight, are the same: the last eight may be compared twice.
 #[inline(always)]
 fn begin_by_eight(text: &[u8; 32], front: &[u8; 32], len: usize) -> bool
     requires least { 8 ≤ len }
@@ -109,7 +109,7 @@ fn begin_by_eight(text: &[u8; 32], front: &[u8; 32], len: usize) -> bool
     same_eight(text, front, len - 8)
 }
 
-/// Whether eight bytes are the same from a place on, where they aren't the last ones.
+/// Whether the eight bytes from a place on are the same, unless they are the last ones.
 #[inline(always)]
 fn same_within(text: &[u8; 32], front: &[u8; 32], at: usize, len: usize) -> bool
     requires { at + 8 ≤ 32 }
@@ -121,7 +121,7 @@ fn same_within(text: &[u8; 32], front: &[u8; 32], at: usize, len: usize) -> bool
     same_eight(text, front, at)
 }
 
-/// Whether eight bytes are the same from a place on.
+/// Whether the eight bytes from a place on are the same.
 #[inline(always)]
 fn same_eight(text: &[u8; 32], front: &[u8; 32], at: usize) -> bool
     requires { at + 8 ≤ 32 }

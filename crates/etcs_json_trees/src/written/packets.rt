@@ -1,4 +1,4 @@
-//! Packets read of the text that `json_line` writes of them.
+//! Packets read from the text that `json_line` writes of them.
 
 ghost use Rattle.std.specs.Prelude.{◌≡◌, ◌++◌, ◌∷◌, [], All, None, Some, IfOk, IfSome, IsTrue, map};
 ghost use Rattle.serde_json.specs.Written.{compact_text};
@@ -16,7 +16,7 @@ use etcs_packets::inner::AnyPacket;
 use etcs_tables::Way;
 use std::alloc::Global;
 
-/// Whether the packet of these pairs isn't kept as bits: where there are pairs, it isn't.
+/// Whether the packet of these pairs isn't kept as bits: if there are pairs, it isn't.
 #[inline(always)]
 fn is_typed<P: AnyPacket>(packet: &P, pairs: &[u8]) -> bool
     requires { map named_as (variables_of (P.form packet.now).value) ≡ named_in pairs.now }
@@ -25,7 +25,7 @@ fn is_typed<P: AnyPacket>(packet: &P, pairs: &[u8]) -> bool
     !pairs.is_empty() || packet.kept_bits().is_none()
 }
 
-/// What is in the brackets of a list.
+/// What is between the brackets of a list.
 #[inline(always)]
 fn in_brackets<'a>(text: &'a [u8]) -> Option<&'a [u8]>
     ensures { IfSome result (λ t. text.now ≡ 91 ∷ (t.now ++ 93 ∷ [])) }
@@ -71,7 +71,7 @@ fn typed_packet<P: AnyPacket>(alloc: Global, dir: u8, text: &mut Text<'_>) -> Re
     }
 }
 
-/// Takes the direction that comes next, where it is sent, and the comma after it; to the track it isn't, and is 0.
+/// Takes the direction that comes next, and the comma after it; to the track it isn't written, and is 0.
 #[inline(always)]
 fn direction(way: Way, text: &mut Text<'_>) -> Result<u8, Miss>
     ensures { IfOk result (λ dir. text.old ≡ dir_then way dir text.new) }
@@ -167,12 +167,15 @@ fn packet<P: AnyPacket>(alloc: Global, text: &mut Text<'_>) -> Result<P, Miss>
 /// More packets than an item can have: 8,191 bits hold 585 of 14 bits.
 const MOST_PACKETS: usize = 600;
 
-/// Takes the list of packets that comes next.
+/// Takes a list of packets, and returns them. If it succeeds, what was taken is exactly the list of these packets as
+/// `json_line` writes it, and they are packets of this way. When it succeeds isn't promised.
 ///
 /// # Errors
 ///
-/// - [`Miss::Shape`] where the text continues with something else;
-/// - [`Miss::Memory`] where memory was refused.
+/// - [`Miss::Shape`] if the text continues with something else;
+/// - [`Miss::Memory`] if out of memory.
+///
+/// What is left of the text after an error isn't promised.
 pub fn written_packets<P: AnyPacket>(alloc: Global, text: &mut Text<'_>) -> Result<Vec<P>, Miss>
     ensures made { IfOk result (λ ps. All (λ p. (P.form p).made) ps.items × All (IsPacketTo P.WAY) (map (λ p. (P.form p).value) ps.items)) }
     ensures text { IfOk result (λ ps. text.old ≡ compact_text (packets_tree P.WAY (map (λ p. (P.form p).value) ps.items)) ++ text.new) }

@@ -7,7 +7,7 @@ ghost use Rattle.etcs_json_trees.specs.PairTexts.{NoDigit, hex_text, number_text
 
 use crate::written::fronts::after_bytes;
 
-/// The number in decimal of at most nineteen digits that a text begins with, and what is after it and a bracket.
+/// The decimal number of at most nineteen digits that a text begins with, and what is after it and a bracket.
 #[inline(always)]
 pub(crate) fn decimal_number<'a>(text: &'a [u8]) -> Option<(u64, &'a [u8])>
     ensures some { IfSome result (λ r. (r.0 < 10 ^ 19) × (text.now ≡ decimal r.0 ++ 93 ∷ r.1.now)) }
@@ -57,7 +57,7 @@ fn more_digits<'a>(first: u8, text: &'a [u8]) -> (u64, usize, &'a [u8])
     (number, count, left)
 }
 
-/// Whether digits are written so: at most nineteen, and no zero before others.
+/// Whether `json_line` writes such digits: at most nineteen, and no zero before others.
 #[inline(always)]
 fn is_written(first: u8, count: usize) -> bool
     ensures { IsTrue result ↔ ((count ≡ 0) ⊎ ((0 < first) × (count ≤ 18))) }

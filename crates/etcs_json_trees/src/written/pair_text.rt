@@ -1,4 +1,4 @@
-//! Pairs of a text, taken one after another.
+//! Pairs taken from a text, one after another.
 
 ghost use Rattle.std.specs.Prelude.{◌≡◌, ◌<◌, ◌++◌, false, true, IfSome, IfNone};
 ghost use Rattle.etcs_bodies.specs.Taking.{named, named_as, in_hexadecimal};
@@ -15,7 +15,7 @@ use std::alloc::Global;
 /// The pairs of a list in a text of JSON, one after another, as they are written: `["NAME",12],["NAME",3]`.
 ///
 /// A number is in decimal, of at most nineteen digits; that of NID_RADIO is sixteen hexadecimal digits in lower case, in
-/// quotes. Where the text doesn't continue as such a pair, no number is next, and something is left.
+/// quotes. If the text doesn't continue as such a pair, no number is next, and something is left.
 #[derive(Drop)]
 pub struct PairText<'a> {
     left: &'a [u8],
@@ -24,7 +24,7 @@ pub struct PairText<'a> {
 }
 
 impl<'a> PairText<'a> {
-    /// The pairs of a list, whose first one the text begins with.
+    /// The pairs of a list, the first of which the text begins with.
     #[inline(always)]
     pub fn new(text: &'a [u8]) -> PairText<'a>
         ensures first { result.later ≡ false }
@@ -44,7 +44,8 @@ impl<'a> PairText<'a> {
         self.left
     }
 
-    /// The number of the variable's pair, whether the variable admits it or not. `None` where the pair isn't next.
+    /// Takes the variable's pair and returns its number, whether the variable admits it or not; `None` exactly if no
+    /// pair of the variable is next.
     #[inline(always)]
     pub fn number(&mut self, var: Var) -> Option<u64>
         ensures some { IfSome result (λ n. (n < limit (in_hexadecimal var)) × (self.new.later ≡ true) × (self.old.left.now ≡ comma_if self.old.later ++ (pair_text (named_as (var, n)) ++ self.new.left.now))) }
@@ -111,7 +112,7 @@ impl<'a> Source for Pairs<'a> {
     }
 }
 
-/// The number of the variable's pair, where a text begins with it, and what is after the pair.
+/// The number of the variable's pair, if the text begins with it, and what is after the pair.
 #[inline(always)]
 fn pair_number<'a>(text: &'a [u8], later: bool, var: Var) -> Option<(u64, &'a [u8])>
     ensures some { IfSome result (λ r. (r.0 < limit (in_hexadecimal var)) × (text.now ≡ comma_if later ++ (pair_text (named_as (var, r.0)) ++ r.1.now))) }

@@ -1,4 +1,4 @@
-//! The numbers of rows without groups, read of the text of their pairs.
+//! The numbers of rows without groups, read from the text of their pairs.
 
 ghost use Rattle.std.specs.Prelude.{◌≡◌, ℕ, ◌++◌, ◌∷◌, [], true, IfOk, IsTrue};
 ghost use Rattle.serde_json.specs.Written.{compact_text};
@@ -15,7 +15,7 @@ use etcs_tables::{Row, RowItem};
 /// The most variables of such a row: those of a telegram's header.
 const MOST: usize = 10;
 
-/// Takes the number of the variable that comes next, and answers whether there is one.
+/// Takes the number of the variable that comes next, and returns whether there is one.
 #[inline(always)]
 fn take_number(item: RowItem, pairs: &mut PairText<'_>, numbers: &mut ArrayVec<u64, MOST>) -> bool
     ensures later { IsTrue result → pairs.new.later ≡ true }
@@ -34,11 +34,13 @@ fn take_number(item: RowItem, pairs: &mut PairText<'_>, numbers: &mut ArrayVec<u
     true
 }
 
-/// Takes the list of the pairs of a row's variables, and answers their numbers.
+/// Takes the list of the pairs of a row's variables, and returns their numbers. If it succeeds, what was taken is exactly
+/// this list as `json_line` writes it, and the row admits the numbers. When it succeeds isn't promised.
 ///
 /// # Errors
 ///
-/// [`Miss::Shape`] where the text continues with something else, or the row has groups or more than ten variables.
+/// [`Miss::Shape`] if the text continues with something else, or the row has groups or more than ten variables. What is
+/// left of the text then isn't promised.
 #[inline(always)]
 pub fn row_numbers(row: Row, text: &mut Text<'_>) -> Result<ArrayVec<u64, MOST>, Miss>
     ensures { IfOk result (λ ns. (r : Reading) × Reads (layout row.items.now) [] r × (numbers r ≡ ns.items) × (text.old ≡ compact_text (pairs_tree r) ++ text.new)) }

@@ -17,7 +17,7 @@ use std::marker::Model;
 pub enum Miss {
     /// The text continues with something else.
     Shape,
-    /// Memory was refused.
+    /// Out of memory.
     Memory,
 }
 
@@ -28,7 +28,8 @@ impl From<AllocError> for Miss {
     }
 }
 
-/// What is left of a text.
+/// What is left of a text. What a call takes did come next, as the call describes it. When a call succeeds isn't promised,
+/// nor what is left after an error.
 #[derive(Drop)]
 pub struct Text<'a> {
     left: &'a [u8],
@@ -59,7 +60,7 @@ impl<'a> Text<'a> {
         self.left
     }
 
-    /// Takes these bytes where they come next, and answers whether they do.
+    /// Takes these bytes if they come next, and returns whether it did. If `false`, the text is as before.
     #[inline(always)]
     pub fn skip<const N: usize>(&mut self, front: &[u8; N]) -> bool
         ensures taken { IsTrue result → self.old ≡ front.now ++ self.new }
@@ -78,7 +79,7 @@ impl<'a> Text<'a> {
     ///
     /// # Errors
     ///
-    /// [`Miss::Shape`] where they don't.
+    /// [`Miss::Shape`] if they don't.
     #[inline(always)]
     pub fn pass<const N: usize>(&mut self, front: &[u8; N]) -> Result<(), Miss>
         ensures { OnOk result (self.old ≡ front.now ++ self.new) }
@@ -94,7 +95,7 @@ impl<'a> Text<'a> {
     ///
     /// # Errors
     ///
-    /// [`Miss::Shape`] where they don't.
+    /// [`Miss::Shape`] if they don't.
     pub fn pass_slice(&mut self, front: &[u8]) -> Result<(), Miss>
         ensures { OnOk result (self.old ≡ front.now ++ self.new) }
     {
@@ -118,11 +119,11 @@ impl<'a> Text<'a> {
         }
     }
 
-    /// Takes a number below 256 in decimal, as far as digits go.
+    /// Takes a decimal number below 256, as far as digits go, and returns it.
     ///
     /// # Errors
     ///
-    /// [`Miss::Shape`] where there is no digit, or a zero before others, or the number is larger.
+    /// [`Miss::Shape`] if there is no digit, a zero is before others, or the number is larger.
     #[inline(always)]
     pub fn byte(&mut self) -> Result<u8, Miss>
         ensures { IfOk result (λ n. self.old ≡ decimal n ++ self.new) }
@@ -132,12 +133,12 @@ impl<'a> Text<'a> {
         Ok(number)
     }
 
-    /// Takes the bits of the digits up to the quotation mark that comes next, and the mark.
+    /// Takes digits 0 and 1 up to the quotation mark that comes next, and the mark, and returns the bits.
     ///
     /// # Errors
     ///
-    /// - [`Miss::Shape`] where no mark comes, or something else than digits 0 and 1 before it;
-    /// - [`Miss::Memory`] where memory was refused.
+    /// - [`Miss::Shape`] if no mark comes, or anything but digits 0 and 1 is before it;
+    /// - [`Miss::Memory`] if out of memory.
     #[inline(always)]
     pub fn bits(&mut self, alloc: Global) -> Result<Bits, Miss>
         ensures { IfOk result (λ b. self.old ≡ map bit_digit b ++ 34 ∷ self.new) }
@@ -146,12 +147,12 @@ impl<'a> Text<'a> {
         bits_of(alloc, digits)
     }
 
-    /// Takes digits 0 and 1, as far as they go, and answers how many they are, and the number of their bits, the first one
-    /// the highest.
+    /// Takes digits 0 and 1, as far as they go, and returns how many there are, at most seven, and the number of their
+    /// bits, the first one the highest.
     ///
     /// # Errors
     ///
-    /// [`Miss::Shape`] where they are more than seven.
+    /// [`Miss::Shape`] if there are more than seven.
     #[inline(always)]
     pub fn padding(&mut self) -> Result<(usize, u8), Miss>
         ensures count { IfOk result (λ p. p.0 ≤ 7) }
@@ -163,12 +164,12 @@ impl<'a> Text<'a> {
         Ok((count, number))
     }
 
-    /// Takes what is before the member of this name, a comma and a quotation mark, and the name, whose first letter isn't
-    /// before it: names of variables have no small letter, and hexadecimal digits none after f.
+    /// Takes some text, a comma, a quotation mark and the name of this member, and returns that text. The name's first
+    /// letter must not be in it: names of variables have no small letter, and hexadecimal digits none after f.
     ///
     /// # Errors
     ///
-    /// [`Miss::Shape`] where the text continues with something else.
+    /// [`Miss::Shape`] if the text continues with something else.
     #[inline(always)]
     pub fn before<const N: usize>(&mut self, member: &[u8; N]) -> Result<&'a [u8], Miss>
         ensures { IfOk result (λ t. self.old ≡ t.now ++ 44 ∷ 34 ∷ (member.now ++ self.new)) }

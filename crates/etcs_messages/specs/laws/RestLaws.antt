@@ -120,7 +120,7 @@ module _ {S : Type 0} (s : MessageState S) where
   pub rest_begins : (x : Var) → next_var s ≡ Some x → BeginsWith (Left s) x
   rest_begins x e = begins_at s.way s.nid s.left s.phase (length s.front) s.stands x e
 
-  -- where nothing comes next, the message is whole
+  -- if nothing comes next, the message is whole
   pub ended_whole : next_var s ≡ None → s.phase ≡ phase.Whole
   ended_whole e = whole_at s.way s.nid s.phase (length s.front) s.left s.stands e
 

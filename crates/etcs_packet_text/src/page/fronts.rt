@@ -61,7 +61,7 @@ fn listed_pair(var: Var) -> &'static [u8]
     PADDED_PAIRS[var as usize].as_bytes()
 }
 
-/// The front of a pair, after a comma where it isn't the first of its list, and 29 blanks more.
+/// The front of a pair, after a comma unless it is the first of its list, and 29 blanks more.
 #[inline(always)]
 fn padded_pair(later: bool, var: Var) -> &'static [u8]
     ensures { result.now ≡ comma_if later ++ (pair_front var ++ codes "                             ") }
@@ -84,7 +84,7 @@ fn first_front(bytes: &[u8], len: usize) -> Front
     }
 }
 
-/// The front of a pair, after a comma where it isn't the first of its list.
+/// The front of a pair, after a comma unless it is the first of its list.
 #[inline(always)]
 pub(crate) fn pair_front(later: bool, var: Var) -> Front
     ensures front { take result.len result.bytes ≡ comma_if later ++ pair_front var }

@@ -15,7 +15,7 @@ use etcs_vars::Var;
 /// The room for a line.
 pub(crate) const LINE_ROOM: usize = 80;
 
-/// Writes lines of variables at a place, and returns where they end. There is no loop where they are at most eight.
+/// Writes lines of variables at a place, and returns where they end. There is no loop if they are at most eight.
 #[inline(always)]
 pub(super) fn put_lines(place: &mut [u8], at: usize, sent: &[(Var, u64)]) -> usize
     requires { at + 80 * length sent.now ≤ length place.old }
@@ -69,7 +69,7 @@ pub(crate) fn put_bits_line(place: &mut [u8], at: usize, var: Var, bits: &BitSli
     put_bytes(place, end, b"\n")
 }
 
-/// Writes the number of a variable, what it stands for where it has a meaning of its own, and a LF.
+/// Writes the number of a variable, its meaning if it has one of its own, and a LF.
 #[inline(always)]
 fn put_rest(place: &mut [u8], at: usize, var: Var, number: u64) -> usize
     requires { at + 50 ≤ length place.old }
@@ -89,7 +89,7 @@ fn put_rest(place: &mut [u8], at: usize, var: Var, number: u64) -> usize
     }
 }
 
-/// Writes a number, what it stands for, and a LF.
+/// Writes a number, its meaning, and a LF.
 #[inline(never)]
 fn put_special(place: &mut [u8], at: usize, number: u64, text: &[u8]) -> usize
     requires { at + 24 + length text.now ≤ length place.old }

@@ -14,8 +14,8 @@ use etcs_vars::Var;
 /// The room for a pair.
 pub(crate) const PAIR_ROOM: usize = 64;
 
-/// Writes pairs at a place, the first of them after a comma where it isn't the first of its list, and returns where they
-/// end. There is no loop where they are at most nine.
+/// Writes pairs at a place, the first of them after a comma unless it is the first of its list, and returns where they
+/// end. There is no loop if they are at most nine.
 #[inline(always)]
 pub(super) fn put_pairs(place: &mut [u8], at: usize, later: bool, sent: &[(Var, u64)]) -> usize
     requires { at + 64 * length sent.now ≤ length place.old }
@@ -46,7 +46,8 @@ impl Put for LaterPair {
     }
 }
 
-/// Writes the pair of a variable at a place, after a comma where it isn't the first of its list, and returns where it ends.
+/// Writes the pair of a variable at a place, after a comma unless it is the first of its list, and returns where it
+/// ends.
 #[tactic(auto, using(std::proofs::Common::append_assoc))]
 #[inline(always)]
 pub(crate) fn put_pair(place: &mut [u8], at: usize, later: bool, var: Var, number: u64) -> usize

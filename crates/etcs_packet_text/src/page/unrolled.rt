@@ -1,4 +1,4 @@
-//! What is put for each of several variables, with no loop where they are few.
+//! What is put for each of several variables, with no loop if they are few.
 
 ghost use Rattle.std.specs.Prelude.{◌≡◌, ◌+◌, ◌*◌, ◌≤◌, ◌++◌, ℕ, List, flat_map, length, take};
 ghost use Rattle.etcs_vars.specs.Reading.{Sent};

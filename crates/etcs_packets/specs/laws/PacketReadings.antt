@@ -14,7 +14,7 @@ use Rattle.etcs_packets.specs.Sending.{front_to, rest_after}
 
 -- ---- Frames.
 
--- a frame is what is in front of L_PACKET, and L_PACKET
+-- a frame is what comes before L_PACKET, and L_PACKET
 pub frame_is : (way : Way) → frame_bits way ≡ head_bits way + 13
 frame_is ToTrain = refl
 frame_is ToTrack = refl
@@ -44,7 +44,7 @@ pub length-kept : (b : List Bool) → length (spelled (sent.kept OTHER_DATA b)) 
 length-kept [] = refl
 length-kept (c ∷ b) = let l = length-sent OTHER_DATA (if c then 1 else 0) (sent.kept OTHER_DATA b) in omega (arith, l, length-kept b)
 
--- as many as its length says
+-- as many bits as its length
 pub bits_are : (way : Way) (v : PacketValue) → length (spelled (reading_to way v)) ≡ bits_to way v
 bits_are way (marker n) =
     let l1 = length-sent NID_PACKET 0 ((NID_VBCMK, n) ∷ []) in

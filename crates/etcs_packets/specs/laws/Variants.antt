@@ -36,13 +36,13 @@ Every form (Fs ∷ Fss) make =
     (ℕ × ((x y : Values Fs) → (form (make (inl x))).made → (form (make (inl y))).made → (form (make (inl x))).value ≡ (form (make (inl y))).value → x ≡ y))
     × Every form Fss (λ c. make (inr c))
 
--- where a value is among them
+-- the place of a value among them
 unfoldable pub place : (Fss : List (List Field)) → Choice Fss → ℕ
 place [] c = absurd c
 place (Fs ∷ Fss) (inl x) = zero
 place (Fs ∷ Fss) (inr c) = suc (place Fss c)
 
--- where a number is among theirs
+-- the place of a number among theirs
 unfoldable pub found : {P : Type 0} (form : P → Form) (Fss : List (List Field)) (make : Choice Fss → P) → Every form Fss make → ℕ → ℕ
 found form [] make each nid = zero
 found form (Fs ∷ Fss) make each nid = if each.0.0 == nid then zero else suc (found form Fss (λ c. make (inr c)) each.1 nid)
@@ -61,7 +61,7 @@ same_variant form (Fs ∷ Fss) make each (inl x) (inr d) at hc hd e = absurd (om
 same_variant form (Fs ∷ Fss) make each (inr c) (inl y) at hc hd e = absurd (omega (arith, at))
 same_variant form (Fs ∷ Fss) make each (inr c) (inr d) at hc hd e = ap inr (same_variant form Fss (λ k. make (inr k)) each.1 c d (omega (arith, at)) hc hd e)
 
--- where each value is where its number is
+-- each value has the place of its number
 pub one_value : (N : Record) (form : N.D → Form) (every : Every form N.parts N.make) → ((p : N.D) → place N.parts (N.as_values p) ≡ value_place N form every (form p).value) → (p q : N.D) → (form p).made → (form q).made → (form p).value ≡ (form q).value → p ≡ q
 one_value N form every placed p q hp hq e =
     let at : place N.parts (N.as_values p) ≡ place N.parts (N.as_values q) = placed p ∙ ap (value_place N form every) e ∙ sym (placed q) in

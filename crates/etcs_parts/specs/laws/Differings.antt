@@ -15,7 +15,7 @@ use Rattle.etcs_parts.specs.Differings.{DifferingValue, category_var, differing_
 use Rattle.etcs_bodies.specs.laws.Equality.{number_exact, fields_exact, both_exact, numbers_exact}
 use Rattle.etcs_parts.specs.contracts.differing.DifferingPartialEq.TheImpl as differing_eq
 
--- where Q_DIFF isn't 0, it is 1 or 2
+-- if Q_DIFF isn't 0, it is 1 or 2
 small_apart : (n : ℕ) → n < 4 → admits Q_DIFF n ≡ true → passes IsOneOrTwo n ≡ not (passes IsZero n)
 small_apart zero lt h = refl
 small_apart (suc zero) lt h = refl

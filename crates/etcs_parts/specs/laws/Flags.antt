@@ -1,4 +1,4 @@
--- How many bits there are where something is there.
+-- How many bits there are if something is there.
 use Rattle.std.proofs.Common.{◌≤◌, Bool, true, false, arith}
 use Rattle.std.specs.Int.{from_bool}
 

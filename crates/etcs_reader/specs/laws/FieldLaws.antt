@@ -1,4 +1,4 @@
--- What the reader asks of variables one after another.
+-- What the reader needs of variables one after another.
 use Rattle.std.proofs.Common.{◌≡◌, List, [], ◌∷◌, ◌++◌, Some, None, refl, append_assoc}
 use Rattle.etcs_vars.specs.declared.var.Var.{Var}
 use Rattle.etcs_vars.specs.Walking.{Residual}

@@ -1,4 +1,4 @@
--- What the reader asks of a row of a known number of bits.
+-- What the reader needs of a row of a known number of bits.
 use Rattle.std.proofs.Common.{◌≡◌, ℕ, ◌-◌, [], ◌∷◌, ◌++◌, Some, None, refl, sym, ap, subst}
 use Rattle.std.specs.Prelude.{IsTrue}
 use Rattle.etcs_vars.specs.declared.var.Var.{Var}

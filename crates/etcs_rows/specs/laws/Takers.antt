@@ -22,7 +22,7 @@ sought_laws = record {
   more = λ s t A B all h. (h.0, (λ x. all s.bits (h.1.0 x), λ y. refl));
 }
 
--- ---- All sums up to 8191.
+-- ---- All sums up to 8,191.
 
 kept_both : (s t u : Kept) (b : Bool) (A B : ℕ → Type 0) → (false ≡ false) × ((m : ℕ) → m ≤ 8191 → InSums t.sums.items m ↔ (InSums s.sums.items m ⊎ A m)) → (b ≡ false) × ((m : ℕ) → m ≤ 8191 → InSums u.sums.items m ↔ (InSums t.sums.items m ⊎ B m))
     → (b ≡ false) × ((m : ℕ) → m ≤ 8191 → InSums u.sums.items m ↔ (InSums s.sums.items m ⊎ (A m ⊎ B m)))

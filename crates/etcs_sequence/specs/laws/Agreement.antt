@@ -43,12 +43,12 @@ kept_fit (false ∷ a) = (omega arith, kept_fit a)
 same_number : (v : Var) (n m : ℕ) → ◌≡◌ {A = Sent} (v, n) (v, m) → n ≡ m
 same_number v n m e = ap (λ (p : Sent). p.1) e
 
--- so do directions, where what follows them does
+-- so do directions, if what follows them does
 directions_agree : (way : Way) (dir dir' : ℕ) (a b : Reading) → Agree a b → Agree (directed way dir a) (directed way dir' b)
 directions_agree ToTrain dir dir' a b h = (refl, λ e. h)
 directions_agree ToTrack dir dir' a b h = h
 
--- frames agree, and where they are one so do their bodies
+-- frames agree, and if they are one so do their bodies
 frames_agree : (way : Way) (nid nid' dir dir' bits bits' : ℕ) (a b : Reading) → (nid ≡ nid' → bits ≡ bits' → Agree a b) → Agree (in_frame way nid dir bits a) (in_frame way nid' dir' bits' b)
 frames_agree way nid nid' dir dir' bits bits' a b h =
     let n = frame_bits way in

@@ -96,7 +96,7 @@ module _ (v : Var) (one : width v ≡ 1) where
     from = λ q (g, l, e). (t ++ g, omega (arith, length-append t g, l, le), ap (λ (x : Reading). kept v t ++ x) e ∙ sym (bits_append v t g));
   }
 
-  -- bits that are wanted are a front of them
+  -- bits that are left are a front of them
   pub bits_viable : (n : ℕ) (t : List Bool) → length t ≤ n → Viable (BitsLeft v n) t
   bits_viable n t le =
       let c = replicate (n - length t) false in

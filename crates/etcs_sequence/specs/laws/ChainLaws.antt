@@ -26,7 +26,7 @@ module _ (P : Reading → Type 0) (Q : Reading → Reading → Type 0) where
     pub chain_goes : Goes P → Goes (Chain P Q)
     chain_goes (a, h) = let q = some a h in (a ++ q.0, (a, q.0, refl, h, q.1))
 
-    -- a number continues in both exactly where it does in the first
+    -- a number continues in both exactly if it does in the first
     pub chain_starts : (x : Var) (rest bits : ℕ) → BeginsWith P x → Starts P x rest bits ↔ Starts (Chain P Q) x rest bits
     chain_starts x rest bits begins = (
       λ (n, r, h, e). (let q = some ((x, n) ∷ r) h in (n, r ++ q.0, ((x, n) ∷ r, q.0, refl, h, q.1), e)),

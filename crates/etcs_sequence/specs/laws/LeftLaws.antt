@@ -70,7 +70,7 @@ pub open_by : (c : Carrier) (room : ℕ) → IsTrue (is_open c room) → IsOpen 
 open_by Telegram room h = tt
 open_by (Message way) room h = ltb-true 7 room h
 
--- bits are wanted
+-- bits are left
 pub some_left : (c : Carrier) (room nid dir left : ℕ) → IsTrue (is_stage c room (Kept nid dir left)) → 0 < left
 some_left c room nid dir left stands = ltb-true 0 left (and_both (is_direction (way_of c) dir) (nat_lt 0 left) (and_both (is_kept (way_of c) nid) (is_direction (way_of c) dir && nat_lt 0 left) stands).1).1
 

@@ -44,7 +44,7 @@ module _ (L : Reading → Type 0) (x : Var) (After : ℕ → Reading → Type 0)
   pub opens_goes : Goes L → (n : ℕ) × (r : Reading) × After n r
   opens_goes (r, l) = let (n, q, e, small, a) = o.opens r l in (n, q, a)
 
-  -- a test of what is after says which numbers continue
+  -- a test of what is after tells which numbers continue
   pub opens_tested : (v : Var) (rest bits : ℕ) (result : Bool) → Some x ≡ Some v → IsTrue result ↔ GoesOn After rest bits → IsTrue result ↔ Starts L v rest bits
   opens_tested v rest bits result e iff =
       let same : x ≡ v = cc in

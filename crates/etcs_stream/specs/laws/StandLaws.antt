@@ -71,7 +71,7 @@ hex_short job reader after lines part output h long =
     let bad : ◌≡◌ {A = Option ℕ} None (Some 4096) = sym (good_last lines part h.lines_good) ∙ long_bad_stripped part most in
     absurd cc
 
--- nor has it an item
+-- nor has such a line an item
 last_short : (kind : Kind) (lines : List (List ℕ)) (part : List ℕ) (es : List EntryValue) → AreItemLines kind (map strip_cr (lines ++ part ∷ [])) es → length (strip_cr part) ≤ 1048576
 last_short kind [] part es (inl h) = omega (arith, ap length h.0)
 last_short kind [] part es (inr (e, beyond, is, item, h)) = item.1

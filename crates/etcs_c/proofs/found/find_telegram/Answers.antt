@@ -1,52 +1,13 @@
-use Rattle.std.proofs.Common.{[], ap, refl, subst}
+use Rattle.std.proofs.Common.{ap, subst}
 use Rattle.etcs_bits.specs.Bits.{bits}
 use Rattle.etcs_telegram.specs.Readers.{ReaderValue}
 use Rattle.etcs_telegram.specs.declared.size.Size.{Size}
-use Rattle.etcs_text.specs.Entries.{EntryReads, kind_of}
-use Rattle.etcs_text.specs.Readers.{Feeds, progress_of, telegram_item}
-use Rattle.etcs_text.proofs.ItemFeeds.{telegram_feeds}
-use Rattle.etcs_c.proofs.Firsts.{first_ended, first_more, first_refused, first_taken, first_whole}
+use Rattle.etcs_text.specs.Entries.{kind_of}
+use Rattle.etcs_c.specs.Answers.{Finds}
 use Rattle.etcs_c.proofs.found.find_telegram.Goals as goal
 
-pub returns-in-Ok-More : goal.returns-in-Ok-More
-returns-in-Ok-More c =
-    let new = c.new-reader.ensures in
-    let b = bits c.args.bytes.now in
-    let at = c.feed.new.self.progress in
-    let own = telegram_feeds c.new-reader.result.size [] b c.feed.result at (c.feed.ensures.answer [] (ap (λ (r : ReaderValue). r.progress) new)) in
-    let f = subst (λ (s : Size). Feeds (EntryReads (kind_of s)) [] b c.feed.result (progress_of telegram_item at)) (ap (λ (r : ReaderValue). r.size) new) own in
-    first_more telegram_item (kind_of c.args.size) b at (rw (c.in-Ok-More.is, c.in-Ok-More.field-0-is) at f)
+pub first_telegram-found-requires : goal.first_telegram-found-requires
+first_telegram-found-requires c = ap (λ (r : ReaderValue). r.progress) c.new-reader.ensures
 
-pub returns-in-Some : goal.returns-in-Some
-returns-in-Some c =
-    let new = c.new-reader.ensures in
-    let b = bits c.args.bytes.now in
-    let at = c.feed.new.self.progress in
-    let own = telegram_feeds c.new-reader.result.size [] b c.feed.result at (c.feed.ensures.answer [] (ap (λ (r : ReaderValue). r.progress) new)) in
-    let f = subst (λ (s : Size). Feeds (EntryReads (kind_of s)) [] b c.feed.result (progress_of telegram_item at)) (ap (λ (r : ReaderValue). r.size) new) own in
-    first_whole telegram_item (kind_of c.args.size) b at c.in-Ok-Done.taken c.in-Some.telegram c.in-Some.ensures.some.0 (rw (c.in-Ok-Done.is, c.in-Ok-Done.field-0-is) at f)
-
-pub unreachable-requires : goal.unreachable-requires
-unreachable-requires c =
-    let new = c.new-reader.ensures in
-    let b = bits c.args.bytes.now in
-    let at = c.feed.new.self.progress in
-    let own = telegram_feeds c.new-reader.result.size [] b c.feed.result at (c.feed.ensures.answer [] (ap (λ (r : ReaderValue). r.progress) new)) in
-    first_taken telegram_item (kind_of c.new-reader.result.size) b at c.in-Ok-Done.taken (c.in-None.ensures.none refl).1 (rw (c.in-Ok-Done.is, c.in-Ok-Done.field-0-is) at own)
-
-pub returns-in-Err-Refused : goal.returns-in-Err-Refused
-returns-in-Err-Refused c =
-    let new = c.new-reader.ensures in
-    let b = bits c.args.bytes.now in
-    let at = c.feed.new.self.progress in
-    let own = telegram_feeds c.new-reader.result.size [] b c.feed.result at (c.feed.ensures.answer [] (ap (λ (r : ReaderValue). r.progress) new)) in
-    let f = subst (λ (s : Size). Feeds (EntryReads (kind_of s)) [] b c.feed.result (progress_of telegram_item at)) (ap (λ (r : ReaderValue). r.size) new) own in
-    rw c.in-Err-Refused.field-0-is (first_refused telegram_item (kind_of c.args.size) b at c.in-Err-Refused.bit c.in-Err-Refused.var (rw (c.in-Err-Refused.is, c.in-Err-Refused.field-0-is) at f))
-
-pub unreachable-requires-in-Err-Ended : goal.unreachable-requires-in-Err-Ended
-unreachable-requires-in-Err-Ended c =
-    let new = c.new-reader.ensures in
-    let b = bits c.args.bytes.now in
-    let at = c.feed.new.self.progress in
-    let own = telegram_feeds c.new-reader.result.size [] b c.feed.result at (c.feed.ensures.answer [] (ap (λ (r : ReaderValue). r.progress) new)) in
-    first_ended telegram_item (kind_of c.new-reader.result.size) b at (rw (c.in-Err-Ended.is, c.in-Err-Ended.field-0-is) at own)
+pub returns : goal.returns
+returns c = subst (λ (s : Size). Finds (kind_of s) (bits c.args.bytes.now) c.first_telegram-found.result) (ap (λ (r : ReaderValue). r.size) c.new-reader.ensures) c.first_telegram-found.ensures

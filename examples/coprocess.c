@@ -1,7 +1,7 @@
-/* Asks one running `etcs` about one telegram after another: `coprocess PROGRAM < telegrams.hex`.
+/* Sends one telegram after another to one running `etcs`: `coprocess PROGRAM < telegrams.hex`.
  *
- * Each line is a short telegram in hexadecimal digits. Of each it writes the JSON, or the line that says why it is refused.
- * A refusal ends `etcs`, so another one is started for the next telegram. */
+ * Each line is a short telegram in hexadecimal digits. For each it writes the JSON, or the line with the refused bit. A refusal
+ * ends `etcs`, which is then started again for the next telegram. */
 #define _GNU_SOURCE
 #include <fcntl.h>
 #include <signal.h>
@@ -16,10 +16,10 @@ struct codec {
     FILE *in, *out, *faults;
 };
 
-/* Starts the program, and answers whether that could be done. */
+/* Starts the program; returns whether it could be started. */
 static int start(struct codec *codec, const char *program) {
     int in[2], out[2], faults[2];
-    /* the ends that aren't given to the program are closed where it begins */
+    /* the ends that the program doesn't get are closed when it starts */
     if (pipe2(in, O_CLOEXEC) || pipe2(out, O_CLOEXEC) || pipe2(faults, O_CLOEXEC))
         return 0;
     codec->process = fork();
@@ -47,7 +47,7 @@ static void stop(struct codec *codec) {
     codec->process = 0;
 }
 
-/* Asks about a line, and puts the answer there: whether it is a telegram. */
+/* Sends a line and reads the result into answer; returns whether the line is a telegram. */
 static int ask(struct codec *codec, const char *line, char *answer, int size) {
     fputs(line, codec->in);
     fflush(codec->in);
@@ -64,7 +64,7 @@ int main(int count, char **words) {
     char line[128], answer[4096];
     signal(SIGPIPE, SIG_IGN);
     while (count == 2 && fgets(line, sizeof line, stdin)) {
-        if (strlen(line) != 55) { /* a telegram that is too short would be waited for */
+        if (strlen(line) != 55) { /* etcs would wait for the rest of a shorter telegram */
             printf("refused: %d characters\n", (int)strcspn(line, "\r\n"));
             continue;
         }

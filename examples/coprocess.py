@@ -1,4 +1,4 @@
-"""Asks one running `etcs` about one telegram after another: `python3 coprocess.py PROGRAM < telegrams.hex`."""
+"""Sends one telegram after another to one running `etcs`: `python3 coprocess.py PROGRAM < telegrams.hex`."""
 
 import subprocess
 import sys
@@ -12,7 +12,7 @@ class Codec:
         self.process = None
 
     def ask(self, item):
-        """Returns the JSON of an item's bytes, and none; or none, and the line that says why it is refused."""
+        """Returns the JSON of an item's bytes and None, or None and the line with the refused bit."""
         if self.process is None:
             pipe = subprocess.PIPE
             self.process = subprocess.Popen(self.words, stdin=pipe, stdout=pipe, stderr=pipe, text=True)
@@ -29,5 +29,5 @@ class Codec:
 codec = Codec(sys.argv[1], "short")
 for line in sys.stdin:
     item = bytes.fromhex(line)
-    # a telegram that is too short would be waited for
+    # etcs would wait for the rest of a shorter telegram
     print(codec.ask(item) if len(item) == 27 else (None, f"{len(item)} bytes"))

@@ -1,9 +1,9 @@
 """Reads a log on a cluster of Dask: `python3 log_cluster.py SCHEDULER LOG OUT [BLOCK]`.
 
-Of each part of the log the items go to OUT/items-*.json, and what is said of all other lines to OUT/bad-*.txt, both with the
-numbers of lines in the log; counts and groups go to standard output. Each worker has the module `etcs`, and sees LOG and OUT.
-It holds a part of BLOCK bytes (16MiB) with its JSON at a time, and of all parts the bytes of their telegrams. A worker may end
-at any time.
+The items of each part of the log go to OUT/items-*.json, reports of all other lines to OUT/bad-*.txt, both with the line
+numbers of the whole log; counts and groups go to standard output. Each worker needs the module `etcs`, and access to LOG and
+OUT. It holds one part of BLOCK bytes (16MiB) with its JSON at a time, and the bytes of the telegrams of all parts. A worker
+may end at any time.
 """
 
 import json
@@ -22,12 +22,12 @@ BUCKETS = 8
 
 
 def count(lines):
-    """How many lines a part has."""
+    """Returns how many lines a part has."""
     return sum(1 for _ in lines)
 
 
 def read(lines, part, before, out):
-    """Writes what a part has after these lines; returns its counts, and of each bucket the telegrams of its groups."""
+    """Writes the files of a part that begins after `before` lines; returns its counts, and the telegrams of each bucket's groups."""
     counts, items, bad = Counter(), [], []
     buckets = [[] for _ in range(BUCKETS)]
     for line in etcs.read_log(lines, KINDS):
@@ -40,7 +40,7 @@ def read(lines, part, before, out):
         items.append(json.dumps({"line": number, "front": line.front, "item": item.to_dict()}) + "\n")
         if isinstance(item, etcs.Telegram):
             group = item["NID_C"], item["NID_BG"]
-            # numbers have one hash in all processes
+            # the hash of a pair of numbers is the same in all processes
             buckets[hash(group) % BUCKETS].append((number, line.kind, etcs.encode(item)))
     write(f"{out}/items-{part:05}.json", items)
     write(f"{out}/bad-{part:05}.txt", bad)
@@ -48,14 +48,14 @@ def read(lines, part, before, out):
 
 
 def write(path, lines):
-    """Writes a file, so that nobody reads half of it, also where a worker writes it once more."""
+    """Writes a file at once, so that half of it is never read, even if another worker writes it again."""
     with open(f"{path}.{os.getpid()}", "w", encoding="utf-8") as file:
         file.writelines(lines)
     os.replace(file.name, path)
 
 
 def group(parts):
-    """The groups of a bucket, each with the line where it began."""
+    """Returns the groups of a bucket, each with the line where it begins."""
     begun, telegrams = {}, []
     for number, kind, data in (it for part in parts for it in part):
         telegram = etcs.decode(data, kind)

@@ -1,4 +1,4 @@
-"""A log as a table of pandas: `python3 log_frame.py KINDS < LOG` prints the links of its telegrams."""
+"""Reads a log into a pandas table: `python3 log_frame.py KINDS < LOG` prints the links of its telegrams."""
 
 import sys
 
@@ -19,6 +19,6 @@ def rows(lines, kinds):
 COLUMNS = ["line", "time", "kind", "packet", "nid", "name", "number", "meaning"]
 frame = pandas.DataFrame(rows(sys.stdin.buffer, sys.argv[1]), columns=COLUMNS)
 frame = frame.astype({"packet": "Int64", "nid": "Int64", "number": "uint64"})
-frame["time"] = pandas.to_timedelta(frame["time"])  # what is before the digits, here a time of the day
+frame["time"] = pandas.to_timedelta(frame["time"])  # the text before the digits, here a time of day
 links = frame[frame.name == "D_LINK"]
 print(links[["line", "time", "number", "meaning"]].to_string(index=False))

@@ -1,40 +1,91 @@
 //! A reader of each kind.
 
-ghost use Rattle.std.specs.Prelude.{IfOk};
+ghost use Rattle.std.specs.Prelude.{◌≡◌, IfOk, IfSome};
 ghost use Rattle.etcs_text.specs.Verdicts.{IsVerdict};
+ghost use Rattle.etcs_text.specs.declared.entry.Kind.{Kind};
 
 use etcs_text::{Entry, Kind, SingleReader, Verdict};
 use std::alloc::{AllocError, Global};
 use std::marker::Model;
 
-/// Readers of all kinds. One takes no memory before it reads.
+/// Readers of all kinds. Each is made when it first reads, and on the heap: it takes too much stack for the place where lines
+/// are read.
 #[derive(Drop)]
 pub(crate) struct Readers {
-    long: SingleReader,
-    short: SingleReader,
-    radio: SingleReader,
-    train: SingleReader,
+    alloc: Global,
+    long: Option<Box<SingleReader>>,
+    short: Option<Box<SingleReader>>,
+    radio: Option<Box<SingleReader>>,
+    train: Option<Box<SingleReader>>,
 }
 
 impl Model for Readers {
-    ghost use Rattle.std.specs.Prelude.{◌≡◌, ⊤};
+    ghost use Rattle.std.specs.Prelude.{◌≡◌, ⊤, IfSome};
     ghost use Rattle.etcs_text.specs.declared.entry.Kind.TheVariants.{Long, Short, Radio, Train};
 
     ghost Value = { ⊤ };
 
     ghost view = { λ r. tt };
 
-    ghost invariant = { λ r. (r.long ≡ Long) × (r.short ≡ Short) × (r.radio ≡ Radio) × (r.train ≡ Train) };
+    ghost invariant = { λ r. IfSome r.long (λ b. b.value ≡ Long) × IfSome r.short (λ b. b.value ≡ Short) × IfSome r.radio (λ b. b.value ≡ Radio) × IfSome r.train (λ b. b.value ≡ Train) };
+}
+
+/// A reader that has read nothing. Not inlined, so that it is on the stack only while it is made.
+///
+/// # Errors
+///
+/// If memory runs out.
+#[inline(never)]
+fn boxed(alloc: Global, kind: Kind) -> Result<Box<SingleReader>, AllocError>
+    ensures { IfOk result (λ b. b.value ≡ kind) }
+{
+    Ok(Box::new(alloc, SingleReader::new(alloc, kind))?)
+}
+
+/// What these bytes are as an item of the kind, by the reader of the slot, which is made if there is none.
+///
+/// # Errors
+///
+/// If memory runs out.
+fn read_in(
+    slot: &mut Option<Box<SingleReader>>,
+    alloc: Global,
+    kind: Kind,
+    bytes: &[u8],
+) -> Result<Verdict, AllocError>
+    requires { IfSome slot.old (λ b. b.value ≡ kind) }
+    ensures slot { IfSome slot.new (λ b. b.value ≡ kind) }
+    ensures verdict { IfOk result (λ v. IsVerdict kind bytes.now v) }
+{
+    if let Some(reader) = slot {
+        return reader.as_mut().read(bytes);
+    }
+    let mut reader = boxed(alloc, kind)?;
+    let verdict = reader.as_mut().read(bytes);
+    *slot = Some(reader);
+    verdict
+}
+
+/// Takes the room of an item that isn't needed any more for the next ones that the reader of the slot reads.
+#[inline(always)]
+fn reuse_in(slot: &mut Option<Box<SingleReader>>, entry: Entry)
+    ensures { (kind : Kind) → IfSome slot.old (λ b. b.value ≡ kind) → IfSome slot.new (λ b. b.value ≡ kind) }
+{
+    match slot {
+        Some(reader) => reader.as_mut().reuse(entry),
+        None => drop(entry),
+    }
 }
 
 impl Readers {
     /// Nothing was read.
     pub(crate) fn new(alloc: Global) -> Readers {
         Readers {
-            long: SingleReader::new(alloc, Kind::Long),
-            short: SingleReader::new(alloc, Kind::Short),
-            radio: SingleReader::new(alloc, Kind::Radio),
-            train: SingleReader::new(alloc, Kind::Train),
+            alloc,
+            long: None,
+            short: None,
+            radio: None,
+            train: None,
         }
     }
 
@@ -47,10 +98,10 @@ impl Readers {
         ensures { IfOk result (λ v. IsVerdict kind bytes.now v) }
     {
         match kind {
-            Kind::Long => self.long.read(bytes),
-            Kind::Short => self.short.read(bytes),
-            Kind::Radio => self.radio.read(bytes),
-            Kind::Train => self.train.read(bytes),
+            Kind::Long => read_in(&mut self.long, self.alloc, Kind::Long, bytes),
+            Kind::Short => read_in(&mut self.short, self.alloc, Kind::Short, bytes),
+            Kind::Radio => read_in(&mut self.radio, self.alloc, Kind::Radio, bytes),
+            Kind::Train => read_in(&mut self.train, self.alloc, Kind::Train, bytes),
         }
     }
 
@@ -58,10 +109,10 @@ impl Readers {
     #[inline(always)]
     pub(crate) fn reuse(&mut self, kind: Kind, entry: Entry) {
         match kind {
-            Kind::Long => self.long.reuse(entry),
-            Kind::Short => self.short.reuse(entry),
-            Kind::Radio => self.radio.reuse(entry),
-            Kind::Train => self.train.reuse(entry),
+            Kind::Long => reuse_in(&mut self.long, entry),
+            Kind::Short => reuse_in(&mut self.short, entry),
+            Kind::Radio => reuse_in(&mut self.radio, entry),
+            Kind::Train => reuse_in(&mut self.train, entry),
         }
     }
 }

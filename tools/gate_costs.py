@@ -17,9 +17,9 @@ import sys
 import time
 from collections import defaultdict
 
-# Minutes by the clock from nothing, on a fast machine that does nothing else, as in docs/DEVELOPING.md: cores, free memory in
-# GB, minutes. A slower processor takes up to twice as long.
-TIMES = [(4, 20, 47), (4, 14, 68), (2, 20, 63), (2, 14, 73)]
+# Minutes of `rt ci` by the clock from nothing, on an Intel Xeon of 2.5 GHz that does nothing else, as in docs/DEVELOPING.md:
+# cores, free memory in GB, minutes. The first was measured, the others are modelled from it.
+TIMES = [(4, 20, 82), (4, 14, 119), (2, 20, 115), (2, 14, 128)]
 MOST = 5_000_000_000  # bytes
 TICKS = os.sysconf("SC_CLK_TCK")
 
@@ -35,7 +35,7 @@ def outlook():
     cores, memory = len(os.sched_getaffinity(0)), free_memory()
     found = [it for it in TIMES if it[0] <= cores and it[1] <= memory]
     about = f"about {min(it[2] for it in found)}" if found else f"more than {max(it[2] for it in TIMES)}"
-    return f"gate: {cores} cores, {memory:.0f} GB of memory free: {about} minutes from nothing if nothing else runs, up to twice that if the processor is slow; some minutes if all was proved here before"
+    return f"gate: {cores} cores, {memory:.0f} GB of memory free: {about} minutes from nothing at 2.5 GHz if nothing else runs; some minutes if all was proved here before"
 
 
 def checks():

@@ -8,6 +8,7 @@ pub mod Guards
 pub mod PacketCodes
 pub mod PacketFormats
 pub mod Packets
+pub mod Passing
 pub mod Repeats
 pub mod Runs
 pub mod Sources

@@ -7,6 +7,7 @@ pub mod Guards
 pub mod PacketCodes
 pub mod PacketFormats
 pub mod Packets
+pub mod Passing
 pub mod Repeats
 pub mod Runs
 pub mod Sources

@@ -1,6 +1,6 @@
 //! What a typed packet has to implement: its body, the whole of its row after a direction.
 
-ghost use Rattle.std.specs.Prelude.{◌≡◌, ℕ, Option, Some, None, IfOk, IfSome, IfNone, IsTrue};
+ghost use Rattle.std.specs.Prelude.{◌≡◌, ℕ, Option, Some, None, IfOk, IfSome, IfNone, IsTrue, false, OnErr};
 ghost use Rattle.etcs_tables.specs.Frames.{is_direction};
 ghost use Rattle.etcs_bodies.specs.Taking.{Left};
 ghost use Rattle.etcs_bodies.specs.Packets.{packet_to};
@@ -11,13 +11,14 @@ use crate::numbers::{Listed, Numbers, Spelled};
 use crate::packetlike::Packetlike;
 use etcs_bits::BitSlice;
 use etcs_tables::{Way, is_direction};
-use etcs_vars::inner::{Variables, append_numbers};
+use etcs_vars::inner::{VarSink, Variables, append_numbers};
 use std::alloc::{AllocError, Global};
 
 /// The body of a typed packet: whatever implements it is a `Packetlike` and a `Framed`, by its one law `codes`. Each
 /// packet proves the clauses.
 pub trait Body: Variables + Drop {
     ghost use Rattle.etcs_tables.specs.declared.row.Way.{Way};
+    ghost use Rattle.etcs_bodies.specs.Passing.{PassedRow, Begun};
 
     /// Its NID_PACKET.
     const NID: u8;
@@ -54,6 +55,18 @@ pub trait Body: Variables + Drop {
         requires { IsTrue (is_direction WAY dir) }
         ensures some { IfOk result (λ o. IfSome o (λ p. read_from dir (L.left numbers.old) ≡ Some (p, L.left numbers.new))) }
         ensures none { IfOk result (λ o. IfNone o (read_from dir (L.left numbers.old) ≡ None)) };
+
+    /// Sends the variables of a packet with which what is left begins, without making it: if it returns `true`, they are those
+    /// of its row, the sink has them, and what follows them is left. After `false` the sink has some more variables, and no
+    /// clause says what is left.
+    ///
+    /// # Errors
+    ///
+    /// That of the sink, whose `failed` then holds.
+    fn pass<L: Numbers, S: VarSink>(numbers: &mut L, out: &mut S) -> Result<bool, AllocError>
+        ensures passed { IfOk result (λ b. IsTrue b → PassedRow WAY NID S.with (L.left numbers.old) (L.left numbers.new) out.old out.new) }
+        ensures begun { IfOk result (λ b. b ≡ false → Begun S.with out.old out.new) }
+        ensures err { OnErr result (S.failed out.old out.new) };
 
     /// A copy: if it succeeds, it is equal.
     ///
@@ -141,6 +154,11 @@ impl<P: Body> Framed for P {
         numbers: L,
     ) -> Result<Option<P>, AllocError> {
         read(alloc, dir, numbers)
+    }
+
+    #[inline(always)]
+    fn pass_row<L: Numbers, S: VarSink>(numbers: &mut L, out: &mut S) -> Result<bool, AllocError> {
+        P::pass(numbers, out)
     }
 
     fn try_clone(&self, alloc: Global) -> Result<P, AllocError> {

@@ -9,7 +9,7 @@ ghost use Rattle.etcs_bodies.specs.Repeats.{bit_count};
 use crate::faults::check_count;
 use crate::list_of::ListOf;
 use crate::numbers::Numbers;
-use crate::part::{Part, clone_all, hold_all, send_list, take_list};
+use crate::part::{Part, Passing, clone_all, hold_all, pass_list, send_list, take_list};
 use crate::taken;
 use etcs_vars::inner::{VarSink, Variables, bits_of_all};
 use etcs_vars::{BuildFault, Var};
@@ -144,5 +144,12 @@ impl<E: Entry> Part for Entries<E> {
             first: self.first.try_clone(alloc)?,
             further: ListOf::from_vec(clone_all(alloc, self.further.as_slice())?),
         })
+    }
+}
+
+impl<E: Entry + Passing> Passing for Entries<E> {
+    #[inline(always)]
+    fn pass<L: Numbers, S: VarSink>(numbers: &mut L, out: &mut S) -> Result<bool, AllocError> {
+        Ok(E::pass(numbers, out)? && pass_list::<E, L, S>(Var::N_ITER, numbers, out)?)
     }
 }

@@ -40,6 +40,15 @@ macro_rules! take_fields {
     }};
 }
 
+/// The same of a part without lists, as the body of `read`.
+#[macro_export]
+macro_rules! read_fields {
+    ({ $numbers:ident } $($($field:ident: $($kind:ident)+),+);+) => {{
+        $($crate::read_run!($numbers $($field: $($kind)+),+);)+
+        Some(Self { $($($field),+),+ })
+    }};
+}
+
 /// Sends all fields, as the body of `send`.
 #[macro_export]
 macro_rules! send_fields {
@@ -85,17 +94,17 @@ macro_rules! check_field {
     };
 }
 
-/// Takes one field.
+/// The next number, or flag.
 #[macro_export]
-macro_rules! take_field {
-    ($alloc:ident $numbers:ident $var:ident bool) => {
-        $crate::taken!($numbers.flag(Var::$var))
+macro_rules! next_field {
+    ($numbers:ident $var:ident bool) => {
+        $numbers.flag(Var::$var)
     };
-    ($alloc:ident $numbers:ident $var:ident $type:ident) => {
-        $crate::taken!($numbers.next(Var::$var)) as $type
+    ($numbers:ident $var:ident $type:ident) => {
+        $numbers.next(Var::$var)
     };
-    ($alloc:ident $numbers:ident $part:ident) => {
-        $crate::taken!($part::take($alloc, $numbers)?)
+    ($numbers:ident $($var:ident $type:ident),+) => {
+        $numbers.run($crate::run_of!($($var $type),+))
     };
 }
 
@@ -105,11 +114,20 @@ macro_rules! take_run {
     ($alloc:ident $numbers:ident $field:ident: $part:ident) => {
         let $field = $crate::taken!($part::take($alloc, $numbers)?);
     };
-    ($alloc:ident $numbers:ident $field:ident: $var:ident $type:ident) => {
-        let $field = $crate::take_field!($alloc $numbers $var $type);
-    };
     ($alloc:ident $numbers:ident $($field:ident: $var:ident $type:ident),+) => {
-        let run = $crate::taken!($numbers.run($crate::run_of!($($var $type),+)));
+        let run = $crate::taken!($crate::next_field!($numbers $($var $type),+));
+        $crate::name_run!(run $($field: $type),+);
+    };
+}
+
+/// Takes a part without lists, or numbers that follow one another.
+#[macro_export]
+macro_rules! read_run {
+    ($numbers:ident $field:ident: $part:ident) => {
+        let $field = $part::read($numbers)?;
+    };
+    ($numbers:ident $($field:ident: $var:ident $type:ident),+) => {
+        let run = $crate::next_field!($numbers $($var $type),+)?;
         $crate::name_run!(run $($field: $type),+);
     };
 }

@@ -1,15 +1,16 @@
 //! What the crates above need of a typed packet.
 
-ghost use Rattle.std.specs.Prelude.{◌≡◌, IfOk, IfSome, IsNone};
+ghost use Rattle.std.specs.Prelude.{◌≡◌, false, IfOk, IfSome, IsNone, IsTrue, OnErr};
 ghost use Rattle.etcs_vars.specs.Reading.{Reading, numbers, spelled};
 ghost use Rattle.etcs_tables.specs.Typed.{IsFramed};
 ghost use Rattle.etcs_bodies.specs.Taking.{Says};
 ghost use Rattle.etcs_bodies.specs.Packets.{IsPacketLeft};
+ghost use Rattle.etcs_bodies.specs.Passing.{PassedRow, Begun};
 
 use crate::numbers::Numbers;
 use crate::packetlike::Packetlike;
 use etcs_bits::BitSlice;
-use etcs_vars::inner::Variables;
+use etcs_vars::inner::{VarSink, Variables};
 use std::alloc::{AllocError, Global};
 
 /// A typed packet with its variables after L_PACKET, from which it is also made: by bits, by numbers, or by names with
@@ -40,6 +41,16 @@ pub trait Framed: Packetlike + Variables {
     ) -> Result<Option<Self>, AllocError>
         ensures some { IfOk result (λ o. IfSome o (λ p. Self.is_value p × (Self.direction p ≡ dir) × Says (L.left numbers) (Self.reading_of p))) }
         ensures none { IfOk result (λ o. IsNone o → IsPacketLeft Self.WAY Self.NID dir (L.left numbers) → ⊥) };
+
+    /// Sends the variables of a packet with which what is left begins, without making it, as [`Body::pass`] promises it.
+    ///
+    /// # Errors
+    ///
+    /// That of the sink, whose `failed` then holds.
+    fn pass_row<L: Numbers, S: VarSink>(numbers: &mut L, out: &mut S) -> Result<bool, AllocError>
+        ensures passed { IfOk result (λ b. IsTrue b → PassedRow Self.WAY Self.NID S.with (L.left numbers.old) (L.left numbers.new) out.old out.new) }
+        ensures begun { IfOk result (λ b. b ≡ false → Begun S.with out.old out.new) }
+        ensures err { OnErr result (S.failed out.old out.new) };
 
     /// A copy: if it succeeds, it is equal.
     ///

@@ -14,6 +14,7 @@ mod numbers;
 mod packetlike;
 mod part;
 mod runs;
+mod walk;
 
 pub use body::Body;
 pub use counted::Counted;
@@ -23,7 +24,8 @@ pub use faults::check_count;
 pub use framed::Framed;
 pub use guards::check_guard;
 pub use list_of::ListOf;
-pub use numbers::{Listed, NextNumber, Numbers, Spelled};
+pub use numbers::{Ahead, InBits, Listed, NextNumber, Numbers, Spelled};
 pub use packetlike::Packetlike;
-pub use part::{Part, clone_all, hold_all, send_list, take_list};
+pub use part::{Part, Passing, Plain, clone_all, hold_all, pass_list, send_list, take_list};
 pub use runs::{Flag, Run};
+pub use walk::{PieceWalker, Walk};

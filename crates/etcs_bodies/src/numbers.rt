@@ -1,11 +1,13 @@
 //! Numbers of a row, taken one by one.
 
-ghost use Rattle.std.specs.Prelude.{◌≡◌, ◌<◌, nat_lt, Some, None, IfSome, IfNone, IsTrue};
+ghost use Rattle.std.specs.Prelude.{◌≡◌, ◌<◌, ◌^◌, nat_lt, length, drop, Some, None, IfSome, IfNone, IsTrue};
+ghost use Rattle.etcs_bits.specs.Bits.{bits};
 ghost use Rattle.etcs_vars.specs.Vars.{admits};
 ghost use Rattle.etcs_bodies.specs.Taking.{listed, in_bits, next_number, next_flag};
 ghost use Rattle.etcs_bodies.specs.Sources.{bits_left};
 
 use crate::runs::Run;
+use crate::walk::{PieceWalker, Walk};
 use etcs_bits::{BitSlice, SliceWalker};
 use etcs_vars::Var;
 use std::marker::Model;
@@ -109,56 +111,81 @@ impl<'a> Numbers for Listed<'a> {
 
 /// The numbers that bits spell, each in the width of the variable that it is taken for.
 #[derive(Drop)]
-pub struct Spelled<'a> {
-    walker: SliceWalker<'a>,
+pub struct InBits<W: Walk> {
+    walk: W,
 }
 
-impl<'a> Model for Spelled<'a> {
-    ghost use Rattle.etcs_bodies.specs.Taking.{Left};
-    ghost use Rattle.etcs_bodies.specs.Sources.{bits_left};
+/// The numbers that a slice's bits spell.
+pub type Spelled<'a> = InBits<SliceWalker<'a>>;
 
-    ghost Value = { Left };
+/// The numbers that the bits of a piece spell from one of them on.
+pub type Ahead<'a> = InBits<PieceWalker<'a>>;
 
-    ghost view = { λ s. bits_left s.walker };
+impl<W: Walk> Model for InBits<W> {
+    ghost Value = { W };
+
+    ghost view = { λ s. s.walk };
 }
 
-impl<'a> Spelled<'a> {
+impl<'a> InBits<SliceWalker<'a>> {
     /// All numbers that these bits spell are left to be taken, in order.
     #[inline(always)]
     pub fn new(bits: BitSlice<'a>) -> Spelled<'a>
-        ensures { result ≡ in_bits bits.entry }
+        ensures { bits_left result ≡ in_bits bits.entry }
     {
-        Spelled {
-            walker: SliceWalker::new(bits),
+        InBits {
+            walk: SliceWalker::new(bits),
         }
     }
 }
 
-impl<'a> NextNumber for Spelled<'a> {
-    ghost left = { λ s. s };
+impl<'a> InBits<PieceWalker<'a>> {
+    /// All numbers that the bits of a piece spell from this one on are left to be taken, in order. A word must count the
+    /// bits of the piece.
+    #[inline(always)]
+    pub fn from(piece: &'a [u8], place: usize) -> Ahead<'a>
+        requires { length (bits piece.now) < 2 ^ 64 }
+        ensures { result ≡ record { bits = bits piece.now; place = place } }
+    {
+        InBits {
+            walk: PieceWalker::new(piece, place),
+        }
+    }
+
+    /// How many bits of the piece are left.
+    #[inline(always)]
+    pub fn left(&self) -> usize
+        ensures { result ≡ length (drop self.now.place self.now.bits) }
+    {
+        self.walk.left()
+    }
+}
+
+impl<W: Walk> NextNumber for InBits<W> {
+    ghost left = { λ s. bits_left (W.walk s) };
 
     #[tactic(auto, using(crate::specs::laws::Sources::none_in_bits))]
     #[inline(always)]
     fn is_empty(&self) -> bool {
-        self.walker.is_at_end()
+        self.walk.is_done()
     }
 
     #[tactic(auto, using(crate::specs::laws::Takes::number_ok))]
     #[inline(always)]
     fn next(&mut self, var: Var) -> Option<u64> {
-        next_in_bits(&mut self.walker, var)
+        next_in_bits(&mut self.walk, var)
     }
 
     #[inline(always)]
     fn flag(&mut self, var: Var) -> Option<bool> {
-        flag_in_bits(&mut self.walker, var)
+        flag_in_bits(&mut self.walk, var)
     }
 }
 
-impl<'a> Numbers for Spelled<'a> {
+impl<W: Walk> Numbers for InBits<W> {
     #[inline(always)]
     fn run<R: Run>(&mut self, run: R) -> Option<R::Taken> {
-        run_in_bits(&mut self.walker, run)
+        run_in_bits(&mut self.walk, run)
     }
 }
 
@@ -185,12 +212,12 @@ fn next_listed<'a>(list: &mut &'a [u64], var: Var) -> Option<u64>
 /// Takes the number of the next bits, in the variable's width, if it admits it.
 #[tactic(auto, using(crate::specs::laws::Sources::next_is_in_bits, crate::specs::laws::Sources::not_in_bits, crate::specs::laws::Sources::no_more_bits))]
 #[inline(always)]
-fn next_in_bits(walker: &mut SliceWalker<'_>, var: Var) -> Option<u64>
-    ensures some { IfSome result (λ n. next_number var (bits_left walker.old) ≡ Some (n, bits_left walker.new)) }
+fn next_in_bits<W: Walk>(walk: &mut W, var: Var) -> Option<u64>
+    ensures some { IfSome result (λ n. next_number var (bits_left (W.walk walk.old)) ≡ Some (n, bits_left (W.walk walk.new))) }
     ensures bounded { IfSome result (λ n. IsTrue (admits var n)) }
-    ensures none { IfNone result (next_number var (bits_left walker.old) ≡ None) }
+    ensures none { IfNone result (next_number var (bits_left (W.walk walk.old)) ≡ None) }
 {
-    let number = walker.next(var.width())?;
+    let number = walk.take(var.width())?;
     if !var.admits(number) {
         return None;
     }
@@ -199,12 +226,12 @@ fn next_in_bits(walker: &mut SliceWalker<'_>, var: Var) -> Option<u64>
 
 /// Takes the numbers of the next bits, all from one word.
 #[inline(always)]
-fn run_in_bits<R: Run>(walker: &mut SliceWalker<'_>, run: R) -> Option<R::Taken>
+fn run_in_bits<W: Walk, R: Run>(walk: &mut W, run: R) -> Option<R::Taken>
     requires { R.bits run < 64 }
-    ensures some { IfSome result (λ ns. R.Takes run (bits_left walker.old) ns (bits_left walker.new)) }
-    ensures none { IfNone result (R.Lacks run (bits_left walker.old)) }
+    ensures some { IfSome result (λ ns. R.Takes run (bits_left (W.walk walk.old)) ns (bits_left (W.walk walk.new))) }
+    ensures none { IfNone result (R.Lacks run (bits_left (W.walk walk.old))) }
 {
-    let word = walker.next(run.width())?;
+    let word = walk.take(run.width())?;
     run.split(word, 0)
 }
 
@@ -231,10 +258,10 @@ fn flag_listed<'a>(list: &mut &'a [u64], var: Var) -> Option<bool>
 /// Takes the next bit as a flag.
 #[tactic(auto, using(crate::specs::laws::Sources::flag_is_in_bits, crate::specs::laws::Sources::no_flag_in_bits))]
 #[inline(always)]
-fn flag_in_bits(walker: &mut SliceWalker<'_>, var: Var) -> Option<bool>
-    ensures some { IfSome result (λ b. next_flag var (bits_left walker.old) ≡ Some (b, bits_left walker.new)) }
-    ensures none { IfNone result (next_flag var (bits_left walker.old) ≡ None) }
+fn flag_in_bits<W: Walk>(walk: &mut W, var: Var) -> Option<bool>
+    ensures some { IfSome result (λ b. next_flag var (bits_left (W.walk walk.old)) ≡ Some (b, bits_left (W.walk walk.new))) }
+    ensures none { IfNone result (next_flag var (bits_left (W.walk walk.old)) ≡ None) }
 {
     let _ = var;
-    Some(walker.next(1)? == 1)
+    Some(walk.take(1)? == 1)
 }

@@ -1,11 +1,13 @@
 //! What every part of a packet is, and lists of parts.
 
-ghost use Rattle.std.specs.Prelude.{◌≡◌, ◌++◌, ◌<◌, ℕ, List, Option, Some, None, OnOk, OnErr, IfOk, IfSome, IfNone, length, All};
+ghost use Rattle.std.specs.Prelude.{◌≡◌, ◌++◌, ◌<◌, ℕ, List, Option, Some, None, OnOk, OnErr, IfOk, IfSome, IfNone, IsTrue, false, flat_map, length, All};
 ghost use Rattle.etcs_vars.specs.Reading.{spelled};
 ghost use Rattle.etcs_bodies.specs.Taking.{Left, times_from};
 ghost use Rattle.etcs_bodies.specs.Codecs.{Codes, IsEntries, list_reading, list_from, both_from};
 ghost use Rattle.etcs_vars.specs.declared.var.Var.TheVariants.{N_ITER};
 ghost use Rattle.etcs_bodies.specs.Faults.{count_fault};
+ghost use Rattle.etcs_bodies.specs.Passing.{Passed, Begun};
+ghost use Rattle.etcs_bodies.specs.Repeats.{Stand};
 
 use crate::numbers::Numbers;
 use crate::taken;
@@ -54,6 +56,32 @@ pub trait Part: Variables + Sized {
     /// What was sent of a part is read as that part, what is read was sent so, and the variables of parts are exactly
     /// what the row spells.
     ghost codes: { Codes row is_part Self.reading_of read_from };
+}
+
+/// A part whose variables go from numbers to a sink without a value of it. Each proves the clauses.
+pub trait Passing: Part {
+    ghost use Rattle.etcs_bodies.specs.Passing.{Passed, Begun};
+
+    /// Sends the variables of the part with which what is left begins, without making it: if it returns `true`, there is
+    /// such a part, the sink has its variables, and what follows it is left. After `false` the sink has some more
+    /// variables, and no clause says what is left.
+    ///
+    /// # Errors
+    ///
+    /// That of the sink, whose `failed` then holds.
+    fn pass<L: Numbers, S: VarSink>(numbers: &mut L, out: &mut S) -> Result<bool, AllocError>
+        ensures passed { IfOk result (λ b. IsTrue b → Passed Self.is_part Self.reading_of S.with (L.left numbers.old) (L.left numbers.new) out.old out.new) }
+        ensures begun { IfOk result (λ b. b ≡ false → Begun S.with out.old out.new) }
+        ensures err { OnErr result (S.failed out.old out.new) };
+}
+
+/// A part without lists, which is taken without memory. Each proves the clauses.
+pub trait Plain: Part + Copy {
+    /// As [`Part::take`].
+    fn read<L: Numbers>(numbers: &mut L) -> Option<Self>
+        ensures part { IfSome result (λ p. Self.is_part p) }
+        ensures from { IfSome result (λ p. Self.read_from (L.left numbers.old) ≡ Some (p, L.left numbers.new)) }
+        ensures none { IfNone result (Self.read_from (L.left numbers.old) ≡ None) };
 }
 
 /// Nothing is wrong with any of these parts: each is a value of its type. It does nothing else.
@@ -138,4 +166,61 @@ pub fn send_list<P: Part, S: VarSink>(
 {
     out.send(&[(count, parts.len() as u64)])?;
     send_all(parts, out)
+}
+
+impl<P: Plain> Passing for P {
+    #[inline(always)]
+    fn pass<L: Numbers, S: VarSink>(numbers: &mut L, out: &mut S) -> Result<bool, AllocError> {
+        let Some(part) = P::read(numbers) else {
+            return Ok(false);
+        };
+        part.send(out)?;
+        Ok(true)
+    }
+}
+
+/// Passes on this many parts, one after another.
+///
+/// # Errors
+///
+/// That of the sink, whose `failed` then holds.
+fn pass_all<P: Passing, L: Numbers, S: VarSink>(
+    count: u64,
+    numbers: &mut L,
+    out: &mut S,
+) -> Result<bool, AllocError>
+    ensures passed { IfOk result (λ b. IsTrue b → (ps : List P) × Stand P.is_part P.reading_of count (L.left numbers.old) ps (L.left numbers.new) × (out.new ≡ S.with out.old (flat_map P.reading_of ps))) }
+    ensures begun { IfOk result (λ b. b ≡ false → Begun S.with out.old out.new) }
+    ensures err { OnErr result (S.failed out.old out.new) }
+{
+    for _ in 0..count {
+        if !P::pass(numbers, out)? {
+            return Ok(false);
+        }
+    }
+    Ok(true)
+}
+
+/// Passes on a list of parts after its count: if it returns `true`, what was left began with one, a count that its
+/// variable admits and as many parts, the sink has its variables, and what follows it is left. After `false` the sink has
+/// some more variables, and no clause says what is left.
+///
+/// # Errors
+///
+/// That of the sink, whose `failed` then holds.
+#[inline(always)]
+pub fn pass_list<P: Passing, L: Numbers, S: VarSink>(
+    count: Var,
+    numbers: &mut L,
+    out: &mut S,
+) -> Result<bool, AllocError>
+    ensures passed { IfOk result (λ b. IsTrue b → Passed (IsEntries count P.is_part) (list_reading count P.reading_of) S.with (L.left numbers.old) (L.left numbers.new) out.old out.new) }
+    ensures begun { IfOk result (λ b. b ≡ false → Begun S.with out.old out.new) }
+    ensures err { OnErr result (S.failed out.old out.new) }
+{
+    let Some(many) = numbers.next(count) else {
+        return Ok(false);
+    };
+    out.send(&[(count, many)])?;
+    pass_all::<P, L, S>(many, numbers, out)
 }

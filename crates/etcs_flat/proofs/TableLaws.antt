@@ -5,13 +5,10 @@ use Rattle.std.proofs.lemmas.List.{append-nil}
 use Rattle.etcs_vars.specs.Reading.{Reading}
 use Rattle.etcs_tables.specs.declared.item.RowItem.{RowItem}
 use Rattle.etcs_flat.specs.Tables.{table_pairs}
+use Rattle.etcs_flat.specs.laws.TableLaws.{pairs_of_none}
 use Rattle.etcs_tables.specs.Layouts.{items}
 
 -- ---- Pairs and widths.
-
-pairs_of_none : (items : List RowItem) → table_pairs items [] ≡ []
-pairs_of_none [] = refl
-pairs_of_none (item ∷ items) = refl
 
 -- the pairs end with the items or the numbers
 pub pairs_end : {items : List RowItem} {ns : List ℕ} {all : Reading} (sent : Reading) → (items ≡ []) ⊎ (ns ≡ []) → sent ++ table_pairs items ns ≡ all → sent ≡ all

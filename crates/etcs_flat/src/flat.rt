@@ -14,7 +14,7 @@ ghost use Rattle.etcs_flat.specs.laws.FlatCodes.{flat_codes};
 
 use crate::body::FlatNumber;
 use crate::other::check_direction;
-use crate::table::{few, send_table, table_bits, table_of, take_table};
+use crate::table::{few, pass_table, send_table, table_bits, table_of, take_table};
 use arrayvec::ArrayVec;
 use etcs_bodies::{Body, Numbers};
 use etcs_tables::{RowItem, Way, row_of};
@@ -152,6 +152,11 @@ where
         numbers: &mut L,
     ) -> Result<Option<Self>, AllocError> {
         Ok(Flat::taken(dir, numbers))
+    }
+
+    #[inline(always)]
+    fn pass<L: Numbers, S: VarSink>(numbers: &mut L, out: &mut S) -> Result<bool, AllocError> {
+        pass_table(table_of(Way::ToTrain, N), numbers, out)
     }
 
     fn copy(&self, _alloc: Global) -> Result<Self, AllocError> {

@@ -11,7 +11,7 @@ pub use crate::flat::check_flat;
 use crate::marker::Marker;
 use crate::other::Other;
 pub use crate::other::check_other;
-pub use crate::table::{few, send_table, table_bits, table_of, take_table};
+pub use crate::table::{few, pass_table, send_table, table_bits, table_of, take_table};
 use etcs_bits::Bits;
 use etcs_vars::BuildFault;
 

@@ -1,6 +1,7 @@
 //! Tables of packets without groups: what is in them, with its numbers.
 
-ghost use Rattle.std.specs.Prelude.{◌≡◌, ◌*◌, ◌≤◌, Some, None, length, map, sum_by, OnOk, OnErr, IfSome, IfNone, IsSome};
+ghost use Rattle.etcs_bodies.specs.Passing.{Begun};
+ghost use Rattle.std.specs.Prelude.{◌≡◌, ◌*◌, ◌≤◌, Some, None, length, map, sum_by, OnOk, OnErr, IfSome, IfNone, IsSome, ℕ, List, false, IsTrue, IfOk};
 ghost use Rattle.std.specs.Option.{option_map};
 ghost use Rattle.etcs_tables.specs.declared.item.RowItem.TheVariants.{One};
 ghost use Rattle.etcs_flat.specs.Flats.{flat_row_to};
@@ -84,6 +85,34 @@ pub fn take_table<L: Numbers>(table: &[RowItem], numbers: &mut L) -> Option<Arra
         taken.push(numbers.next(*var)?);
     }
     Some(taken)
+}
+
+/// Sends the variables of a table, each with the number that comes next, and returns whether each variable admits it.
+///
+/// # Errors
+///
+/// That of the sink, whose `failed` then holds.
+#[tactic(auto, using(crate::specs::laws::TableLaws::taken_more, crate::specs::laws::TableLaws::pairs_more))]
+#[inline(always)]
+pub fn pass_table<L: Numbers, S: VarSink>(
+    table: &[RowItem],
+    numbers: &mut L,
+    out: &mut S,
+) -> Result<bool, AllocError>
+    ensures passed { IfOk result (λ b. IsTrue b → (ns : List ℕ) × (table_from table.now (L.left numbers.old) ≡ Some (ns, L.left numbers.new)) × (out.new ≡ S.with out.old (table_pairs table.now ns))) }
+    ensures begun { IfOk result (λ b. b ≡ false → Begun S.with out.old out.new) }
+    ensures err { OnErr result (S.failed out.old out.new) }
+{
+    for item in table {
+        let RowItem::One(var) = item else {
+            return Ok(false);
+        };
+        let Some(number) = numbers.next(*var) else {
+            return Ok(false);
+        };
+        out.send(&[(*var, number)])?;
+    }
+    Ok(true)
 }
 
 /// The same numbers as an array. Requires that there are at most six.

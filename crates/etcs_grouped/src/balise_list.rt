@@ -11,7 +11,7 @@ ghost use Rattle.etcs_bodies.specs.PacketFormats.{packet_left};
 ghost use Rattle.etcs_grouped.specs.BaliseLists.{balise_list_value, nid_fault, balise_list_fault, balise_list_packet};
 
 use etcs_bodies::laws::Exact;
-use etcs_bodies::{Body, Counted, Numbers, Part, check, taken};
+use etcs_bodies::{Body, Counted, Numbers, Part, Passing, check, taken};
 use etcs_parts::BaliseAt;
 use etcs_tables::Way;
 use etcs_vars::inner::{VarSink, Variables};
@@ -170,6 +170,11 @@ where
         numbers: &mut L,
     ) -> Result<Option<Self>, AllocError> {
         BaliseList::taken(alloc, dir, numbers)
+    }
+
+    #[inline(always)]
+    fn pass<L: Numbers, S: VarSink>(numbers: &mut L, out: &mut S) -> Result<bool, AllocError> {
+        Counted::<BaliseAt>::pass(numbers, out)
     }
 
     fn copy(&self, alloc: Global) -> Result<Self, AllocError> {

@@ -7,18 +7,15 @@ ghost use Rattle.etcs_tables.specs.Rows.{row_to};
 ghost use Rattle.etcs_grouped.specs.Chains.{chain_value, chain_fault, chain_row, too_long};
 
 use etcs_bodies::laws::Exact;
-use etcs_bodies::{Body, Entries, Entry, Numbers, Part, check_field, taken};
-use etcs_tables::Way;
+use etcs_bodies::{Body, Entries, Entry, Numbers, Part, Passing, check_field, taken};
+use etcs_tables::{ROW_LIMIT, Way};
 use etcs_vars::inner::{VarSink, Variables};
 use etcs_vars::{BuildFault, Var};
 use std::alloc::{AllocError, Global};
 use std::marker::Model;
 
-/// How many bits of its row the length of a packet can count.
-const ROW_LIMIT: usize = 8168;
-
 /// An entry of packets that have a scale, a first entry and further ones, with their number.
-pub trait Chained: Entry {
+pub trait Chained: Entry + Passing {
     ghost use Rattle.std.specs.Prelude.{ℕ};
 
     /// NID_PACKET of the packet.
@@ -169,6 +166,15 @@ impl<E: Chained> Body for Chain<E> {
             q_scale,
             entries,
         }))
+    }
+
+    #[inline(always)]
+    fn pass<L: Numbers, S: VarSink>(numbers: &mut L, out: &mut S) -> Result<bool, AllocError> {
+        let Some(q_scale) = numbers.next(Var::Q_SCALE) else {
+            return Ok(false);
+        };
+        out.send(&[(Var::Q_SCALE, q_scale)])?;
+        Entries::<E>::pass(numbers, out)
     }
 
     fn copy(&self, alloc: Global) -> Result<Chain<E>, AllocError> {

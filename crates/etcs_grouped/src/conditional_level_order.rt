@@ -4,7 +4,7 @@ ghost use Rattle.std.specs.Prelude.{◌≡◌, None, Some, IfOk, IfErr};
 ghost use Rattle.etcs_grouped.specs.ConditionalLevelOrders.{conditional_level_order_value, conditional_level_order_fault};
 
 use etcs_bodies::laws::Exact;
-use etcs_bodies::{Body, Entries, Numbers, Part, check_field, taken};
+use etcs_bodies::{Body, Entries, Numbers, Part, Passing, check_field, taken};
 use etcs_parts::Level;
 use etcs_tables::Way;
 use etcs_vars::inner::{VarSink, Variables};
@@ -124,6 +124,11 @@ impl Body for ConditionalLevelOrder {
     ) -> Result<Option<Self>, AllocError> {
         let levels = taken!(Entries::take(alloc, numbers)?);
         Ok(Some(ConditionalLevelOrder { dir, levels }))
+    }
+
+    #[inline(always)]
+    fn pass<L: Numbers, S: VarSink>(numbers: &mut L, out: &mut S) -> Result<bool, AllocError> {
+        Entries::<Level>::pass(numbers, out)
     }
 
     fn copy(&self, alloc: Global) -> Result<ConditionalLevelOrder, AllocError> {

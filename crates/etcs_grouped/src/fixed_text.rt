@@ -4,7 +4,7 @@ ghost use Rattle.std.specs.Prelude.{◌≡◌, None, Some, IfOk, IfErr};
 ghost use Rattle.etcs_grouped.specs.FixedTexts.{fixed_text_value, fixed_text_fault, IsFixedText};
 
 use etcs_bodies::laws::Exact;
-use etcs_bodies::{Body, Numbers, Part, build_packet, send_fields, take_fields};
+use etcs_bodies::{Body, Numbers, Part, Passing, build_packet, send_fields, take_fields};
 use etcs_parts::TextFrame;
 use etcs_tables::Way;
 use etcs_vars::inner::{VarSink, Variables};
@@ -120,6 +120,18 @@ impl Body for FixedText {
         numbers: &mut L,
     ) -> Result<Option<Self>, AllocError> {
         fields!(take_fields: alloc, numbers, dir)
+    }
+
+    #[inline(always)]
+    fn pass<L: Numbers, S: VarSink>(numbers: &mut L, out: &mut S) -> Result<bool, AllocError> {
+        if !TextFrame::pass(numbers, out)? {
+            return Ok(false);
+        }
+        let Some(q_text) = numbers.next(Var::Q_TEXT) else {
+            return Ok(false);
+        };
+        out.send(&[(Var::Q_TEXT, q_text)])?;
+        Ok(true)
     }
 
     fn copy(&self, _alloc: Global) -> Result<FixedText, AllocError> {

@@ -4,7 +4,7 @@ ghost use Rattle.std.specs.Prelude.{◌≡◌, None, Some, IfOk, IfErr};
 ghost use Rattle.etcs_grouped.specs.InfillLocations.{infill_location_value, infill_location_fault};
 
 use etcs_bodies::laws::Exact;
-use etcs_bodies::{Body, Numbers, Part, check, taken};
+use etcs_bodies::{Body, Numbers, Part, Passing, check, taken};
 use etcs_parts::BaliseAt;
 use etcs_tables::Way;
 use etcs_vars::inner::{VarSink, Variables};
@@ -116,6 +116,11 @@ impl Body for InfillLocation {
     ) -> Result<Option<Self>, AllocError> {
         let balise = taken!(BaliseAt::take(alloc, numbers)?);
         Ok(Some(InfillLocation { dir, balise }))
+    }
+
+    #[inline(always)]
+    fn pass<L: Numbers, S: VarSink>(numbers: &mut L, out: &mut S) -> Result<bool, AllocError> {
+        BaliseAt::pass(numbers, out)
     }
 
     fn copy(&self, _alloc: Global) -> Result<InfillLocation, AllocError> {

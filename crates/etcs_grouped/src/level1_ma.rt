@@ -4,7 +4,9 @@ ghost use Rattle.std.specs.Prelude.{◌≡◌, None, Some, IfOk, IfErr};
 ghost use Rattle.etcs_grouped.specs.Level1Mas.{level1_ma_value, level1_ma_fault};
 
 use etcs_bodies::laws::Exact;
-use etcs_bodies::{Body, Numbers, Part, build_packet, copy_fields, send_fields, take_fields};
+use etcs_bodies::{
+    Body, Numbers, Part, Passing, build_packet, copy_fields, send_fields, take_fields,
+};
 use etcs_parts::Authority;
 use etcs_tables::Way;
 use etcs_vars::inner::{VarSink, Variables};
@@ -157,6 +159,21 @@ impl Body for Level1Ma {
         numbers: &mut L,
     ) -> Result<Option<Self>, AllocError> {
         fields!(take_fields: alloc, numbers, dir)
+    }
+
+    #[inline(always)]
+    fn pass<L: Numbers, S: VarSink>(numbers: &mut L, out: &mut S) -> Result<bool, AllocError> {
+        let run = (Var::Q_SCALE, (Var::V_MAIN, (Var::V_LOA, Var::T_LOA)));
+        let Some((q_scale, (v_main, (v_loa, t_loa)))) = numbers.run(run) else {
+            return Ok(false);
+        };
+        out.send(&[
+            (Var::Q_SCALE, q_scale),
+            (Var::V_MAIN, v_main),
+            (Var::V_LOA, v_loa),
+            (Var::T_LOA, t_loa),
+        ])?;
+        Authority::pass(numbers, out)
     }
 
     fn copy(&self, alloc: Global) -> Result<Level1Ma, AllocError> {

@@ -5,7 +5,7 @@ ghost use Rattle.etcs_grouped.specs.LevelOrders.{level_order_value, level_order_
 
 use etcs_bodies::laws::Exact;
 use etcs_bodies::{
-    Body, Entries, Numbers, Part, build_packet, copy_fields, send_fields, take_fields,
+    Body, Entries, Numbers, Part, Passing, build_packet, copy_fields, send_fields, take_fields,
 };
 use etcs_parts::LevelAck;
 use etcs_tables::Way;
@@ -152,6 +152,16 @@ impl Body for LevelOrder {
         numbers: &mut L,
     ) -> Result<Option<Self>, AllocError> {
         fields!(take_fields: alloc, numbers, dir)
+    }
+
+    #[inline(always)]
+    fn pass<L: Numbers, S: VarSink>(numbers: &mut L, out: &mut S) -> Result<bool, AllocError> {
+        let run = (Var::Q_SCALE, Var::D_LEVELTR);
+        let Some((q_scale, d_leveltr)) = numbers.run(run) else {
+            return Ok(false);
+        };
+        out.send(&[(Var::Q_SCALE, q_scale), (Var::D_LEVELTR, d_leveltr)])?;
+        Entries::<LevelAck>::pass(numbers, out)
     }
 
     fn copy(&self, alloc: Global) -> Result<LevelOrder, AllocError> {

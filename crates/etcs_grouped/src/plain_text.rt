@@ -1,6 +1,8 @@
 //! The plain text message.
 
-ghost use Rattle.std.specs.Prelude.{◌≡◌, None, Some, OnOk, OnErr, IfOk, IfErr, IfSome, IfNone, length, All};
+ghost use Rattle.etcs_bodies.specs.Repeats.{Stand};
+ghost use Rattle.etcs_bodies.specs.Passing.{Passed, Begun};
+ghost use Rattle.std.specs.Prelude.{◌≡◌, None, Some, OnOk, OnErr, IfOk, IfErr, IfSome, IfNone, length, All, List, false, IsTrue, ℕ};
 ghost use Rattle.std.specs.Prelude.{flat_map};
 ghost use Rattle.etcs_bodies.specs.Taking.{next_number, times_from};
 ghost use Rattle.etcs_bodies.specs.Formats.{number, Is, reading};
@@ -10,7 +12,7 @@ ghost use Rattle.etcs_vars.specs.declared.var.Var.TheVariants.{L_TEXT, X_TEXT};
 ghost use Rattle.etcs_grouped.specs.PlainTexts.{plain_text_value, plain_text_fault, IsPlainText, text_format};
 
 use etcs_bodies::laws::Exact;
-use etcs_bodies::{Body, ListOf, Numbers, Part, check, check_count, taken};
+use etcs_bodies::{Body, ListOf, Numbers, Part, Passing, check, check_count, taken};
 use etcs_parts::TextFrame;
 use etcs_tables::Way;
 use etcs_vars::inner::{VarSink, Variables};
@@ -127,6 +129,39 @@ fn take_text<L: Numbers>(alloc: Global, numbers: &mut L) -> Result<Option<Vec<u8
     take_bytes(alloc, numbers, count as usize)
 }
 
+/// Sends this many bytes that the numbers begin with, and returns whether they begin with as many.
+fn pass_bytes<L: Numbers, S: VarSink>(
+    count: u64,
+    numbers: &mut L,
+    out: &mut S,
+) -> Result<bool, AllocError>
+    ensures passed { IfOk result (λ b. IsTrue b → (bytes : List ℕ) × Stand (Is (number X_TEXT)) (reading (number X_TEXT)) count (L.left numbers.old) bytes (L.left numbers.new) × (out.new ≡ S.with out.old (flat_map (reading (number X_TEXT)) bytes))) }
+    ensures begun { IfOk result (λ b. b ≡ false → Begun S.with out.old out.new) }
+    ensures err { OnErr result (S.failed out.old out.new) }
+{
+    for _ in 0..count {
+        let Some(byte) = numbers.next(Var::X_TEXT) else {
+            return Ok(false);
+        };
+        out.send(&[(Var::X_TEXT, byte)])?;
+    }
+    Ok(true)
+}
+
+/// Sends the text after its count that the numbers begin with, and returns whether they begin with one.
+#[inline(always)]
+fn pass_text<L: Numbers, S: VarSink>(numbers: &mut L, out: &mut S) -> Result<bool, AllocError>
+    ensures passed { IfOk result (λ b. IsTrue b → Passed (Is text_format) (reading text_format) S.with (L.left numbers.old) (L.left numbers.new) out.old out.new) }
+    ensures begun { IfOk result (λ b. b ≡ false → Begun S.with out.old out.new) }
+    ensures err { OnErr result (S.failed out.old out.new) }
+{
+    let Some(count) = numbers.next(Var::L_TEXT) else {
+        return Ok(false);
+    };
+    out.send(&[(Var::L_TEXT, count)])?;
+    pass_bytes(count, numbers, out)
+}
+
 /// Sends the bytes, in order.
 fn send_bytes<S: VarSink>(bytes: &[u8], out: &mut S) -> Result<(), AllocError>
     ensures ok { OnOk result (out.new ≡ S.with out.old (flat_map (reading (number X_TEXT)) bytes.now)) }
@@ -202,6 +237,11 @@ impl Body for PlainText {
             text: ListOf::from_vec(text),
             frame,
         }))
+    }
+
+    #[inline(always)]
+    fn pass<L: Numbers, S: VarSink>(numbers: &mut L, out: &mut S) -> Result<bool, AllocError> {
+        Ok(TextFrame::pass(numbers, out)? && pass_text(numbers, out)?)
     }
 
     fn copy(&self, alloc: Global) -> Result<PlainText, AllocError> {

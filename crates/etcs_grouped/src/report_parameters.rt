@@ -5,7 +5,7 @@ ghost use Rattle.etcs_grouped.specs.ReportParameters.{report_parameters_value, r
 
 use etcs_bodies::laws::Exact;
 use etcs_bodies::{
-    Body, Counted, Numbers, Part, build_packet, copy_fields, send_fields, take_fields,
+    Body, Counted, Numbers, Part, Passing, build_packet, copy_fields, send_fields, take_fields,
 };
 use etcs_parts::ReportAt;
 use etcs_tables::Way;
@@ -162,6 +162,21 @@ impl Body for ReportParameters {
         numbers: &mut L,
     ) -> Result<Option<Self>, AllocError> {
         fields!(take_fields: alloc, numbers, dir)
+    }
+
+    #[inline(always)]
+    fn pass<L: Numbers, S: VarSink>(numbers: &mut L, out: &mut S) -> Result<bool, AllocError> {
+        let run = (Var::Q_SCALE, (Var::T_CYCLOC, (Var::D_CYCLOC, Var::M_LOC)));
+        let Some((q_scale, (t_cycloc, (d_cycloc, m_loc)))) = numbers.run(run) else {
+            return Ok(false);
+        };
+        out.send(&[
+            (Var::Q_SCALE, q_scale),
+            (Var::T_CYCLOC, t_cycloc),
+            (Var::D_CYCLOC, d_cycloc),
+            (Var::M_LOC, m_loc),
+        ])?;
+        Counted::<ReportAt>::pass(numbers, out)
     }
 
     fn copy(&self, alloc: Global) -> Result<ReportParameters, AllocError> {

@@ -7,7 +7,7 @@ ghost use Rattle.etcs_bodies.specs.PacketFormats.{packet_equal};
 ghost use Rattle.etcs_grouped.specs.laws.TrackConditions.{track_condition_exact};
 
 use crate::track_state::{
-    TrackState, check_state, copy_state, same_state, send_state, state_bits, take_state,
+    TrackState, check_state, copy_state, pass_state, same_state, send_state, state_bits, take_state,
 };
 use etcs_bodies::laws::Exact;
 use etcs_bodies::{Body, Numbers, check_field, taken};
@@ -159,6 +159,15 @@ impl Body for TrackCondition {
             q_scale,
             state,
         }))
+    }
+
+    #[inline(always)]
+    fn pass<L: Numbers, S: VarSink>(numbers: &mut L, out: &mut S) -> Result<bool, AllocError> {
+        let Some(q_scale) = numbers.next(Var::Q_SCALE) else {
+            return Ok(false);
+        };
+        out.send(&[(Var::Q_SCALE, q_scale)])?;
+        pass_state(numbers, out)
     }
 
     fn copy(&self, alloc: Global) -> Result<TrackCondition, AllocError> {

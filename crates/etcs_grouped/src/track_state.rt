@@ -1,12 +1,14 @@
 //! The state of the track that packet 68 gives.
 
-ghost use Rattle.std.specs.Prelude.{◌≡◌, ◌≤◌, None, Some, length, OnOk, OnErr, IfOk, IfErr, IfSome, IfNone};
+ghost use Rattle.std.specs.Prelude.{◌≡◌, ◌≤◌, None, Some, false, length, OnOk, OnErr, IfOk, IfErr, IfSome, IfNone, IsTrue};
 ghost use Rattle.etcs_vars.specs.Reading.{spelled};
+ghost use Rattle.etcs_bodies.specs.Passing.{Passed, Begun};
 ghost use Rattle.etcs_bodies.specs.Formats.{fault, Is, reading, from, equal};
 ghost use Rattle.etcs_grouped.specs.TrackConditions.{state_of, state_format};
 
 use etcs_bodies::{
-    Numbers, Part, check, check_count, clone_all, hold_all, send_list, take_list, taken,
+    Entries, Numbers, Part, Passing, check, check_count, clone_all, hold_all, send_list, take_list,
+    taken,
 };
 use etcs_parts::Condition;
 use etcs_vars::inner::{VarSink, Variables};
@@ -88,6 +90,30 @@ pub(crate) fn take_state<L: Numbers>(
     let first = taken!(Condition::take(alloc, numbers)?);
     let further = taken!(take_list(alloc, Var::N_ITER, numbers)?);
     Ok(Some(TrackState::Conditions(first, further)))
+}
+
+/// Sends the variables of the state that the numbers begin with, and returns whether they begin with one.
+#[inline(always)]
+pub(crate) fn pass_state<L: Numbers, S: VarSink>(
+    numbers: &mut L,
+    out: &mut S,
+) -> Result<bool, AllocError>
+    ensures passed { IfOk result (λ b. IsTrue b → Passed (Is state_format) (reading state_format) S.with (L.left numbers.old) (L.left numbers.new) out.old out.new) }
+    ensures begun { IfOk result (λ b. b ≡ false → Begun S.with out.old out.new) }
+    ensures err { OnErr result (S.failed out.old out.new) }
+{
+    let Some(initial) = numbers.flag(Var::Q_TRACKINIT) else {
+        return Ok(false);
+    };
+    if initial {
+        let Some(distance) = numbers.next(Var::D_TRACKINIT) else {
+            return Ok(false);
+        };
+        out.send(&[(Var::Q_TRACKINIT, 1), (Var::D_TRACKINIT, distance)])?;
+        return Ok(true);
+    }
+    out.send(&[(Var::Q_TRACKINIT, 0)])?;
+    Entries::<Condition>::pass(numbers, out)
 }
 
 /// An equal state.

@@ -13,6 +13,7 @@ ghost use Rattle.etcs_vars.specs.WordSinks.{and_bits};
 
 use crate::typed::Source;
 use etcs_bits::{BitSlice, Bits};
+use etcs_bodies::Numbers;
 use etcs_tables::Way;
 use etcs_vars::WordSink;
 use etcs_vars::inner::VarSink;
@@ -23,6 +24,7 @@ use std::alloc::{AllocError, Global};
 pub trait AnyPacket: Sized + Drop {
     ghost use Rattle.etcs_tables.specs.declared.row.Way.{Way};
     ghost use Rattle.etcs_packets.specs.PacketValues.{Form};
+    ghost use Rattle.etcs_bodies.specs.Passing.{IsPassedOn};
 
     /// Which way it goes.
     const WAY: Way;
@@ -116,6 +118,21 @@ pub trait AnyPacket: Sized + Drop {
         ensures made { IfOk result (λ o. IfSome o (λ p. (form p).made)) }
         ensures some { IfOk result (λ o. IfSome o (λ p. IsTypedOf nid dir (form p).value × Says (S.left source.now) (variables_of (form p).value))) }
         ensures none { IfOk result (λ o. IsNone o → IsPacketLeft WAY nid dir (S.left source.now) → ⊥) };
+
+    /// Sends the variables of the row of a typed packet of this number with which what is left begins, without making the
+    /// packet: if it returns `true`, the sink has them, and what follows them is left. After `false` the sink has some more
+    /// variables, and no clause says what is left. `None` only if the number isn't typed this way; the sink stays as it was.
+    ///
+    /// # Errors
+    ///
+    /// `AllocError`: the sink failed; its `failed` then holds.
+    fn pass<L: Numbers, S: VarSink>(
+        nid: u8,
+        numbers: &mut L,
+        out: &mut S,
+    ) -> Result<Option<bool>, AllocError>
+        ensures passed { IfOk result (λ o. IsPassedOn WAY nid S.with (L.left numbers.old) (L.left numbers.new) out.old out.new o) }
+        ensures err { OnErr result (S.failed out.old out.new) };
 
     /// The packet of this number and direction whose bits after L_PACKET are kept. Requires that nothing is
     /// wrong with such a packet: its number is kept, its direction is admitted, and it isn't too long.

@@ -79,4 +79,15 @@ macro_rules! by_number {
     };
 }
 
+/// The row of a number: for each that is typed a call whose last argument makes its variant, and else none.
+#[macro_export]
+macro_rules! pass_by_number {
+    ({ $number:expr, $numbers:expr, $out:expr } $sum:ident: $($nid:literal $variant:ident,)*) => {
+        match $number {
+            $($nid => $crate::inner::pass_of($numbers, $out, $sum::$variant),)*
+            _ => Ok(None),
+        }
+    };
+}
+
 pub(crate) use packets;

@@ -9,8 +9,9 @@ use crate::any_packet::AnyPacket;
 use crate::list::packets;
 use crate::packet::Packet;
 use crate::typed::{Made, Source, hold};
-use crate::{by_number, of_each, write};
+use crate::{by_number, of_each, pass_by_number, write};
 use etcs_bits::{BitSlice, Bits};
+use etcs_bodies::Numbers;
 use etcs_tables::Way;
 use etcs_vars::inner::{VarSink, Variables};
 use etcs_vars::{Var, WordSink};
@@ -93,6 +94,15 @@ impl AnyPacket for Packet {
 
     fn of_source<S: Source>(alloc: Global, nid: u8, dir: u8, source: &S) -> Made<Packet> {
         of_number(alloc, nid, dir, source)
+    }
+
+    #[inline(always)]
+    fn pass<L: Numbers, S: VarSink>(
+        nid: u8,
+        numbers: &mut L,
+        out: &mut S,
+    ) -> Result<Option<bool>, AllocError> {
+        packets!(pass_by_number, nid, numbers, out)
     }
 
     fn of_kept(nid: u8, dir: u8, body: Bits) -> Packet {

@@ -1,15 +1,17 @@
 //! What all typed packets have in common.
 
-ghost use Rattle.std.specs.Prelude.{◌≡◌, ◌≤◌, ◌+◌, ℕ, None, length, IfOk, IfSome, IsNone};
+ghost use Rattle.std.specs.Prelude.{◌≡◌, ◌≤◌, ◌+◌, ℕ, None, length, IfOk, IfSome, IsNone, OnErr};
 ghost use Rattle.etcs_tables.specs.Rows.{row_to};
 ghost use Rattle.etcs_vars.specs.Reading.{spelled};
 ghost use Rattle.etcs_tables.specs.Frames.{frame_bits};
 ghost use Rattle.etcs_tables.specs.Typed.{IsFramed};
+ghost use Rattle.etcs_bodies.specs.Passing.{IsPassedOn};
 ghost use Rattle.etcs_packets.specs.Outcomes.{Makes, IsMadeOf};
 
 use etcs_bits::BitSlice;
-use etcs_bodies::{Framed, Listed, Packetlike, Spelled};
+use etcs_bodies::{Framed, Listed, Numbers, Packetlike, Spelled};
 use etcs_tables::{Way, frame_bits};
+use etcs_vars::inner::VarSink;
 use std::alloc::{AllocError, Global};
 
 /// The packet that is made of numbers, bits or another source; `None` if there is none, and an error if out of memory.
@@ -132,6 +134,24 @@ pub fn copy_of<Q, P: Framed, F: FnOnce(P) -> Q>(
         Ok(copy) => Ok(packet(copy)),
         Err(error) => Err(error),
     }
+}
+
+/// Sends the variables of the row of one type, which is that of what `packet` is made of, as [`Framed::pass_row`] promises
+/// it.
+///
+/// # Errors
+///
+/// That of the sink, whose `failed` then holds.
+#[inline(never)]
+pub fn pass_of<Q: Formed, P: Framed, L: Numbers, S: VarSink, F: FnOnce(P) -> Q + Drop>(
+    numbers: &mut L,
+    out: &mut S,
+    _packet: F,
+) -> Result<Option<bool>, AllocError>
+    ensures passed { (nid : ℕ) → nid ≡ P.NID → IfOk result (λ o. IsPassedOn P.WAY nid S.with (L.left numbers.old) (L.left numbers.new) out.old out.new o) }
+    ensures err { OnErr result (S.failed out.old out.new) }
+{
+    Ok(Some(P::pass_row(numbers, out)?))
 }
 
 /// No packet: it requires that packets of this way and number have no row, so that there is none.

@@ -12,7 +12,8 @@ use crate::authority_groups::{
 use crate::section::Section;
 use etcs_bodies::laws::Exact;
 use etcs_bodies::{
-    ListOf, Numbers, Part, check_count, clone_all, hold_all, send_list, take_list, taken,
+    ListOf, Numbers, Part, Passing, check_count, clone_all, hold_all, pass_list, send_list,
+    take_list, taken,
 };
 use etcs_vars::inner::{VarSink, Variables, bits_of_all};
 use etcs_vars::{BuildFault, Var};
@@ -223,6 +224,32 @@ impl Part for Authority {
             end: self.end,
             sections: ListOf::from_vec(clone_all(alloc, self.sections.as_slice())?),
         })
+    }
+}
+
+impl Passing for Authority {
+    #[inline(always)]
+    fn pass<L: Numbers, S: VarSink>(numbers: &mut L, out: &mut S) -> Result<bool, AllocError> {
+        if !pass_list::<Section, L, S>(Var::N_ITER, numbers, out)? {
+            return Ok(false);
+        }
+        let Some(end) = Section::end_from_numbers(numbers) else {
+            return Ok(false);
+        };
+        end.send_end(out)?;
+        let Some(end_timer) = take_end_timer(numbers) else {
+            return Ok(false);
+        };
+        send_end_timer(end_timer, out)?;
+        let Some(danger_point) = take_danger_point(numbers) else {
+            return Ok(false);
+        };
+        send_danger_point(danger_point, out)?;
+        let Some(overlap) = take_overlap(numbers) else {
+            return Ok(false);
+        };
+        send_overlap(overlap, out)?;
+        Ok(true)
     }
 }
 

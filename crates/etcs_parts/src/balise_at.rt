@@ -3,7 +3,7 @@
 ghost use Rattle.std.specs.Prelude.{◌≡◌, None, Some, IfOk, IfErr, OnOk};
 
 use etcs_bodies::laws::Exact;
-use etcs_bodies::{Entry, Numbers, Part, check, taken};
+use etcs_bodies::{Entry, Numbers, Part, Plain, check};
 use etcs_vars::inner::{VarSink, Variables};
 use etcs_vars::{BuildFault, Var};
 use std::alloc::{AllocError, Global};
@@ -121,17 +121,24 @@ impl Part for BaliseAt {
 
     #[inline(always)]
     fn take<L: Numbers>(_alloc: Global, numbers: &mut L) -> Result<Option<BaliseAt>, AllocError> {
-        let (nid_c, nid_bg) = if taken!(numbers.flag(Var::Q_NEWCOUNTRY)) {
-            let (country, group) = taken!(numbers.run((Var::NID_C, Var::NID_BG)));
-            (Some(country as u16), group as u16)
-        } else {
-            (None, taken!(numbers.next(Var::NID_BG)) as u16)
-        };
-        Ok(Some(BaliseAt { nid_c, nid_bg }))
+        Ok(BaliseAt::read(numbers))
     }
 
     fn try_clone(&self, _alloc: Global) -> Result<BaliseAt, AllocError> {
         Ok(*self)
+    }
+}
+
+impl Plain for BaliseAt {
+    #[inline(always)]
+    fn read<L: Numbers>(numbers: &mut L) -> Option<BaliseAt> {
+        let (nid_c, nid_bg) = if numbers.flag(Var::Q_NEWCOUNTRY)? {
+            let (country, group) = numbers.run((Var::NID_C, Var::NID_BG))?;
+            (Some(country as u16), group as u16)
+        } else {
+            (None, numbers.next(Var::NID_BG)? as u16)
+        };
+        Some(BaliseAt { nid_c, nid_bg })
     }
 }
 

@@ -3,7 +3,7 @@
 ghost use Rattle.std.specs.Prelude.{◌≡◌, None, Some, IfOk, IfErr, OnOk};
 
 use etcs_bodies::laws::Exact;
-use etcs_bodies::{Entry, Numbers, Part, build_part, send_fields, take_fields};
+use etcs_bodies::{Entry, Numbers, Part, Plain, build_part, read_fields, send_fields};
 use etcs_vars::inner::{VarSink, Variables};
 use etcs_vars::{BuildFault, Var};
 use std::alloc::{AllocError, Global};
@@ -114,12 +114,20 @@ impl Part for Condition {
         let _ = &self.d_trackcond;
     }
 
+    #[inline(always)]
     fn take<L: Numbers>(_alloc: Global, numbers: &mut L) -> Result<Option<Condition>, AllocError> {
-        fields!(take_fields: _alloc, numbers)
+        Ok(Condition::read(numbers))
     }
 
     fn try_clone(&self, _alloc: Global) -> Result<Condition, AllocError> {
         Ok(*self)
+    }
+}
+
+impl Plain for Condition {
+    #[inline(always)]
+    fn read<L: Numbers>(numbers: &mut L) -> Option<Condition> {
+        fields!(read_fields: numbers)
     }
 }
 

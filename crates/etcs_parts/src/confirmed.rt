@@ -4,10 +4,10 @@ ghost use Rattle.std.specs.Prelude.{◌≡◌, None, Some, IfOk, IfErr, IfSome, 
 ghost use Rattle.etcs_bodies.specs.Formats.{fault, Is, reading, from};
 ghost use Rattle.etcs_parts.specs.TextFrames.{report_format, confirm_format, confirmed_format, confirmed_count};
 
-use etcs_bodies::{Flag, Numbers, check, check_guard, taken};
+use etcs_bodies::{Flag, Numbers, check, check_guard};
 use etcs_vars::inner::VarSink;
 use etcs_vars::{BuildFault, Var};
-use std::alloc::{AllocError, Global};
+use std::alloc::AllocError;
 
 /// Q_TEXTCONFIRM, and the confirmation if it isn't 0.
 #[derive(Clone, Copy, Debug, PartialEq, Eq)]
@@ -44,26 +44,24 @@ impl Confirmed {
     /// A field of the frame: nothing is left to be checked.
     pub(crate) fn holds(&self) {}
 
-    /// Takes what the numbers begin with.
+    /// The confirmation that the numbers begin with.
     #[tactic(auto, using(etcs_bodies::specs::laws::Guards::guard_ok), unfolding(etcs_bodies::specs::Guards::guard_fault))]
-    pub(crate) fn take<L: Numbers>(
-        _alloc: Global,
-        numbers: &mut L,
-    ) -> Result<Option<Confirmed>, AllocError>
-        ensures part { IfOk result (λ o. IfSome o (λ c. Is confirmed_format (c.q_textconfirm, c.confirm))) }
-        ensures from { IfOk result (λ o. IfSome o (λ c. from confirmed_format (L.left numbers.old) ≡ Some ((c.q_textconfirm, c.confirm), L.left numbers.new))) }
-        ensures none { IfOk result (λ o. IfNone o (from confirmed_format (L.left numbers.old) ≡ None)) }
+    #[inline(always)]
+    pub(crate) fn read<L: Numbers>(numbers: &mut L) -> Option<Confirmed>
+        ensures part { IfSome result (λ c. Is confirmed_format (c.q_textconfirm, c.confirm)) }
+        ensures from { IfSome result (λ c. from confirmed_format (L.left numbers.old) ≡ Some ((c.q_textconfirm, c.confirm), L.left numbers.new)) }
+        ensures none { IfNone result (from confirmed_format (L.left numbers.old) ≡ None) }
     {
-        let q_textconfirm = taken!(numbers.next(Var::Q_TEXTCONFIRM)) as u8;
+        let q_textconfirm = numbers.next(Var::Q_TEXTCONFIRM)? as u8;
         let confirm = if q_textconfirm > 0 {
-            Some(taken!(next_confirm(numbers)))
+            Some(next_confirm(numbers)?)
         } else {
             None
         };
-        Ok(Some(Confirmed {
+        Some(Confirmed {
             q_textconfirm,
             confirm,
-        }))
+        })
     }
 
     /// Sends its variables.

@@ -4,7 +4,7 @@ ghost use Rattle.std.specs.Prelude.{◌≡◌, None, Some, IfOk, IfErr, OnOk};
 ghost use Rattle.etcs_parts.specs.Differings.{category_of};
 
 use etcs_bodies::laws::Exact;
-use etcs_bodies::{Entry, Numbers, Part, check, taken};
+use etcs_bodies::{Entry, Numbers, Part, Plain, check};
 use etcs_vars::inner::{VarSink, Variables};
 use etcs_vars::{BuildFault, Var};
 use std::alloc::{AllocError, Global};
@@ -131,18 +131,26 @@ impl Part for Differing {
         let _ = &self.q_diff;
     }
 
+    #[inline(always)]
     fn take<L: Numbers>(_alloc: Global, numbers: &mut L) -> Result<Option<Differing>, AllocError> {
-        let q_diff = taken!(numbers.next(Var::Q_DIFF)) as u8;
-        let (category, v_diff) = taken!(numbers.run((category_var(q_diff), Var::V_DIFF)));
-        Ok(Some(Differing {
-            q_diff,
-            category: category as u8,
-            v_diff: v_diff as u8,
-        }))
+        Ok(Differing::read(numbers))
     }
 
     fn try_clone(&self, _alloc: Global) -> Result<Differing, AllocError> {
         Ok(*self)
+    }
+}
+
+impl Plain for Differing {
+    #[inline(always)]
+    fn read<L: Numbers>(numbers: &mut L) -> Option<Differing> {
+        let q_diff = numbers.next(Var::Q_DIFF)? as u8;
+        let (category, v_diff) = numbers.run((category_var(q_diff), Var::V_DIFF))?;
+        Some(Differing {
+            q_diff,
+            category: category as u8,
+            v_diff: v_diff as u8,
+        })
     }
 }
 

@@ -3,7 +3,7 @@
 ghost use Rattle.std.specs.Prelude.{◌≡◌, None, Some, IfOk, IfErr, OnOk};
 
 use etcs_bodies::laws::Exact;
-use etcs_bodies::{Entry, Numbers, Part, check, check_guard, taken};
+use etcs_bodies::{Entry, Numbers, Part, Plain, check, check_guard};
 use etcs_vars::inner::{VarSink, Variables};
 use etcs_vars::{BuildFault, Var};
 use std::alloc::{AllocError, Global};
@@ -112,19 +112,27 @@ impl Part for Level {
         let _ = &self.m_leveltr;
     }
 
-    #[tactic(auto, using(etcs_bodies::specs::laws::Guards::guard_ok), unfolding(etcs_bodies::specs::Guards::guard_fault))]
+    #[inline(always)]
     fn take<L: Numbers>(_alloc: Global, numbers: &mut L) -> Result<Option<Level>, AllocError> {
-        let m_leveltr = taken!(numbers.next(Var::M_LEVELTR)) as u8;
-        let nid_ntc = if m_leveltr == 1 {
-            Some(taken!(numbers.next(Var::NID_NTC)) as u8)
-        } else {
-            None
-        };
-        Ok(Some(Level { m_leveltr, nid_ntc }))
+        Ok(Level::read(numbers))
     }
 
     fn try_clone(&self, _alloc: Global) -> Result<Level, AllocError> {
         Ok(*self)
+    }
+}
+
+impl Plain for Level {
+    #[tactic(auto, using(etcs_bodies::specs::laws::Guards::guard_ok), unfolding(etcs_bodies::specs::Guards::guard_fault))]
+    #[inline(always)]
+    fn read<L: Numbers>(numbers: &mut L) -> Option<Level> {
+        let m_leveltr = numbers.next(Var::M_LEVELTR)? as u8;
+        let nid_ntc = if m_leveltr == 1 {
+            Some(numbers.next(Var::NID_NTC)? as u8)
+        } else {
+            None
+        };
+        Some(Level { m_leveltr, nid_ntc })
     }
 }
 

@@ -4,7 +4,7 @@ ghost use Rattle.std.specs.Prelude.{◌≡◌, None, Some, IfOk, IfErr, OnOk};
 
 use crate::level::Level;
 use etcs_bodies::laws::Exact;
-use etcs_bodies::{Entry, Numbers, Part, build_part, send_fields, take_fields};
+use etcs_bodies::{Entry, Numbers, Part, Plain, build_part, read_fields, send_fields};
 use etcs_vars::inner::{VarSink, Variables};
 use etcs_vars::{BuildFault, Var};
 use std::alloc::{AllocError, Global};
@@ -123,12 +123,20 @@ impl Part for LevelAck {
         let _ = &self.l_ackleveltr;
     }
 
-    fn take<L: Numbers>(alloc: Global, numbers: &mut L) -> Result<Option<LevelAck>, AllocError> {
-        fields!(take_fields: alloc, numbers)
+    #[inline(always)]
+    fn take<L: Numbers>(_alloc: Global, numbers: &mut L) -> Result<Option<LevelAck>, AllocError> {
+        Ok(LevelAck::read(numbers))
     }
 
     fn try_clone(&self, _alloc: Global) -> Result<LevelAck, AllocError> {
         Ok(*self)
+    }
+}
+
+impl Plain for LevelAck {
+    #[inline(always)]
+    fn read<L: Numbers>(numbers: &mut L) -> Option<LevelAck> {
+        fields!(read_fields: numbers)
     }
 }
 

@@ -4,7 +4,7 @@ ghost use Rattle.std.specs.Prelude.{◌≡◌, None, Some, IfOk, IfErr, OnOk};
 
 use crate::balise_at::BaliseAt;
 use etcs_bodies::laws::Exact;
-use etcs_bodies::{Entry, Flag, Numbers, Part, build_part, send_fields, taken};
+use etcs_bodies::{Entry, Flag, Numbers, Part, Plain, build_part, send_fields};
 use etcs_vars::inner::{VarSink, Variables};
 use etcs_vars::{BuildFault, Var};
 use std::alloc::{AllocError, Global};
@@ -150,28 +150,35 @@ impl Part for Link {
 
     #[inline(always)]
     fn take<L: Numbers>(_alloc: Global, numbers: &mut L) -> Result<Option<Link>, AllocError> {
-        let (d_link, far) = taken!(numbers.run((Var::D_LINK, Flag(Var::Q_NEWCOUNTRY))));
+        Ok(Link::read(numbers))
+    }
+
+    fn try_clone(&self, _alloc: Global) -> Result<Link, AllocError> {
+        Ok(*self)
+    }
+}
+
+impl Plain for Link {
+    #[inline(always)]
+    fn read<L: Numbers>(numbers: &mut L) -> Option<Link> {
+        let (d_link, far) = numbers.run((Var::D_LINK, Flag(Var::Q_NEWCOUNTRY)))?;
         let beyond = (
             Flag(Var::Q_LINKORIENTATION),
             (Var::Q_LINKREACTION, Var::Q_LOCACC),
         );
         let (nid_c, (nid_bg, (q_linkorientation, (q_linkreaction, q_locacc)))) = if far {
-            let (country, rest) = taken!(numbers.run((Var::NID_C, (Var::NID_BG, beyond))));
+            let (country, rest) = numbers.run((Var::NID_C, (Var::NID_BG, beyond)))?;
             (Some(country as u16), rest)
         } else {
-            (None, taken!(numbers.run((Var::NID_BG, beyond))))
+            (None, numbers.run((Var::NID_BG, beyond))?)
         };
-        Ok(Some(Link {
+        Some(Link {
             d_link: d_link as u16,
             balise: BaliseAt::of(nid_c, nid_bg as u16),
             q_linkorientation,
             q_linkreaction: q_linkreaction as u8,
             q_locacc: q_locacc as u8,
-        }))
-    }
-
-    fn try_clone(&self, _alloc: Global) -> Result<Link, AllocError> {
-        Ok(*self)
+        })
     }
 }
 

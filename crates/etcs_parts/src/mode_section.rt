@@ -3,7 +3,7 @@
 ghost use Rattle.std.specs.Prelude.{◌≡◌, None, Some, IfOk, IfErr, OnOk};
 
 use etcs_bodies::laws::Exact;
-use etcs_bodies::{Entry, Numbers, Part, build_part, send_fields, take_fields};
+use etcs_bodies::{Entry, Numbers, Part, Plain, build_part, read_fields, send_fields};
 use etcs_vars::inner::{VarSink, Variables};
 use etcs_vars::{BuildFault, Var};
 use std::alloc::{AllocError, Global};
@@ -149,15 +149,23 @@ impl Part for ModeSection {
         let _ = &self.d_mamode;
     }
 
+    #[inline(always)]
     fn take<L: Numbers>(
         _alloc: Global,
         numbers: &mut L,
     ) -> Result<Option<ModeSection>, AllocError> {
-        fields!(take_fields: _alloc, numbers)
+        Ok(ModeSection::read(numbers))
     }
 
     fn try_clone(&self, _alloc: Global) -> Result<ModeSection, AllocError> {
         Ok(*self)
+    }
+}
+
+impl Plain for ModeSection {
+    #[inline(always)]
+    fn read<L: Numbers>(numbers: &mut L) -> Option<ModeSection> {
+        fields!(read_fields: numbers)
     }
 }
 

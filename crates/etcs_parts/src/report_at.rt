@@ -3,7 +3,7 @@
 ghost use Rattle.std.specs.Prelude.{◌≡◌, None, Some, IfOk, IfErr, OnOk};
 
 use etcs_bodies::laws::Exact;
-use etcs_bodies::{Entry, Numbers, Part, build_part, send_fields, take_fields};
+use etcs_bodies::{Entry, Numbers, Part, Plain, build_part, read_fields, send_fields};
 use etcs_vars::inner::{VarSink, Variables};
 use etcs_vars::{BuildFault, Var};
 use std::alloc::{AllocError, Global};
@@ -101,12 +101,20 @@ impl Part for ReportAt {
         let _ = &self.d_loc;
     }
 
+    #[inline(always)]
     fn take<L: Numbers>(_alloc: Global, numbers: &mut L) -> Result<Option<ReportAt>, AllocError> {
-        fields!(take_fields: _alloc, numbers)
+        Ok(ReportAt::read(numbers))
     }
 
     fn try_clone(&self, _alloc: Global) -> Result<ReportAt, AllocError> {
         Ok(*self)
+    }
+}
+
+impl Plain for ReportAt {
+    #[inline(always)]
+    fn read<L: Numbers>(numbers: &mut L) -> Option<ReportAt> {
+        fields!(read_fields: numbers)
     }
 }
 

@@ -7,7 +7,7 @@ ghost use Rattle.etcs_bodies.specs.Codecs.{opened};
 
 use crate::groups::{check_group, send_group, take_group};
 use etcs_bodies::laws::Exact;
-use etcs_bodies::{Flag, Numbers, Part, check, taken};
+use etcs_bodies::{Flag, Numbers, Part, Plain, check};
 use etcs_vars::inner::{VarSink, Variables};
 use etcs_vars::{BuildFault, Var};
 use std::alloc::{AllocError, Global};
@@ -175,17 +175,25 @@ impl Part for Section {
         let _ = &self.length;
     }
 
+    #[inline(always)]
     fn take<L: Numbers>(_alloc: Global, numbers: &mut L) -> Result<Option<Section>, AllocError> {
-        let (length, timed) = taken!(numbers.run((Var::L_SECTION, Flag(Var::Q_SECTIONTIMER))));
-        let timer = taken!(timer_after(timed, numbers));
-        Ok(Some(Section {
-            length: length as u16,
-            timer,
-        }))
+        Ok(Section::read(numbers))
     }
 
     fn try_clone(&self, _alloc: Global) -> Result<Section, AllocError> {
         Ok(*self)
+    }
+}
+
+impl Plain for Section {
+    #[inline(always)]
+    fn read<L: Numbers>(numbers: &mut L) -> Option<Section> {
+        let (length, timed) = numbers.run((Var::L_SECTION, Flag(Var::Q_SECTIONTIMER)))?;
+        let timer = timer_after(timed, numbers)?;
+        Some(Section {
+            length: length as u16,
+            timer,
+        })
     }
 }
 

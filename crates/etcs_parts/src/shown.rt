@@ -3,7 +3,7 @@
 ghost use Rattle.std.specs.Prelude.{◌≡◌, None, Some, IfOk, IfErr, OnOk};
 
 use etcs_bodies::laws::Exact;
-use etcs_bodies::{Numbers, Part, check, check_guard, taken};
+use etcs_bodies::{Numbers, Part, Plain, check, check_guard};
 use etcs_vars::inner::{VarSink, Variables};
 use etcs_vars::{BuildFault, Var};
 use std::alloc::{AllocError, Global};
@@ -135,25 +135,33 @@ impl Part for Shown {
         let _ = &self.m_modetextdisplay;
     }
 
-    #[tactic(auto, using(etcs_bodies::specs::laws::Guards::guard_ok), unfolding(etcs_bodies::specs::Guards::guard_fault))]
+    #[inline(always)]
     fn take<L: Numbers>(_alloc: Global, numbers: &mut L) -> Result<Option<Shown>, AllocError> {
-        let (mode, level) = taken!(numbers.run((Var::M_MODETEXTDISPLAY, Var::M_LEVELTEXTDISPLAY)));
-        let m_modetextdisplay = mode as u8;
-        let m_leveltextdisplay = level as u8;
-        let nid_ntc = if m_leveltextdisplay == 1 {
-            Some(taken!(numbers.next(Var::NID_NTC)) as u8)
-        } else {
-            None
-        };
-        Ok(Some(Shown {
-            m_modetextdisplay,
-            m_leveltextdisplay,
-            nid_ntc,
-        }))
+        Ok(Shown::read(numbers))
     }
 
     fn try_clone(&self, _alloc: Global) -> Result<Shown, AllocError> {
         Ok(*self)
+    }
+}
+
+impl Plain for Shown {
+    #[tactic(auto, using(etcs_bodies::specs::laws::Guards::guard_ok), unfolding(etcs_bodies::specs::Guards::guard_fault))]
+    #[inline(always)]
+    fn read<L: Numbers>(numbers: &mut L) -> Option<Shown> {
+        let (mode, level) = numbers.run((Var::M_MODETEXTDISPLAY, Var::M_LEVELTEXTDISPLAY))?;
+        let m_modetextdisplay = mode as u8;
+        let m_leveltextdisplay = level as u8;
+        let nid_ntc = if m_leveltextdisplay == 1 {
+            Some(numbers.next(Var::NID_NTC)? as u8)
+        } else {
+            None
+        };
+        Some(Shown {
+            m_modetextdisplay,
+            m_leveltextdisplay,
+            nid_ntc,
+        })
     }
 }
 

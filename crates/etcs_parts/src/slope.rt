@@ -3,7 +3,7 @@
 ghost use Rattle.std.specs.Prelude.{◌≡◌, None, Some, IfOk, IfErr, OnOk};
 
 use etcs_bodies::laws::Exact;
-use etcs_bodies::{Entry, Numbers, Part, build_part, send_fields, take_fields};
+use etcs_bodies::{Entry, Numbers, Part, Plain, build_part, read_fields, send_fields};
 use etcs_vars::inner::{VarSink, Variables};
 use etcs_vars::{BuildFault, Var};
 use std::alloc::{AllocError, Global};
@@ -115,11 +115,18 @@ impl Part for Slope {
 
     #[inline(always)]
     fn take<L: Numbers>(_alloc: Global, numbers: &mut L) -> Result<Option<Slope>, AllocError> {
-        fields!(take_fields: _alloc, numbers)
+        Ok(Slope::read(numbers))
     }
 
     fn try_clone(&self, _alloc: Global) -> Result<Slope, AllocError> {
         Ok(*self)
+    }
+}
+
+impl Plain for Slope {
+    #[inline(always)]
+    fn read<L: Numbers>(numbers: &mut L) -> Option<Slope> {
+        fields!(read_fields: numbers)
     }
 }
 

@@ -5,7 +5,7 @@ ghost use Rattle.std.specs.Prelude.{◌≡◌, Some, OnOk, IfOk, IfErr, None};
 use crate::differing::Differing;
 use etcs_bodies::laws::Exact;
 use etcs_bodies::{
-    Counted, Entry, Numbers, Part, build_part, copy_fields, send_fields, take_fields,
+    Counted, Entry, Flag, Numbers, Part, Passing, build_part, copy_fields, send_fields, take_fields,
 };
 use etcs_vars::inner::{VarSink, Variables};
 use etcs_vars::{BuildFault, Var};
@@ -145,6 +145,22 @@ impl Part for Speed {
 
     fn try_clone(&self, alloc: Global) -> Result<Speed, AllocError> {
         fields!(copy_fields: self, alloc)
+    }
+}
+
+impl Passing for Speed {
+    #[inline(always)]
+    fn pass<L: Numbers, S: VarSink>(numbers: &mut L, out: &mut S) -> Result<bool, AllocError> {
+        let run = (Var::D_STATIC, (Var::V_STATIC, Flag(Var::Q_FRONT)));
+        let Some((d_static, (v_static, q_front))) = numbers.run(run) else {
+            return Ok(false);
+        };
+        out.send(&[
+            (Var::D_STATIC, d_static),
+            (Var::V_STATIC, v_static),
+            (Var::Q_FRONT, u64::from(q_front)),
+        ])?;
+        Counted::<Differing>::pass(numbers, out)
     }
 }
 

@@ -5,7 +5,7 @@ ghost use Rattle.std.specs.Prelude.{◌≡◌, None, Some, IfOk, IfErr, OnOk};
 use crate::confirmed::Confirmed;
 use crate::shown::Shown;
 use etcs_bodies::laws::Exact;
-use etcs_bodies::{Numbers, Part, build_part, send_fields, take_fields};
+use etcs_bodies::{Numbers, Part, Plain, build_part, read_fields, send_fields};
 use etcs_vars::inner::{VarSink, Variables};
 use etcs_vars::{BuildFault, Var};
 use std::alloc::{AllocError, Global};
@@ -202,12 +202,20 @@ impl Part for TextFrame {
         let _ = &self.q_scale;
     }
 
-    fn take<L: Numbers>(alloc: Global, numbers: &mut L) -> Result<Option<TextFrame>, AllocError> {
-        fields!(take_fields: alloc, numbers)
+    #[inline(always)]
+    fn take<L: Numbers>(_alloc: Global, numbers: &mut L) -> Result<Option<TextFrame>, AllocError> {
+        Ok(TextFrame::read(numbers))
     }
 
     fn try_clone(&self, _alloc: Global) -> Result<TextFrame, AllocError> {
         Ok(*self)
+    }
+}
+
+impl Plain for TextFrame {
+    #[inline(always)]
+    fn read<L: Numbers>(numbers: &mut L) -> Option<TextFrame> {
+        fields!(read_fields: numbers)
     }
 }
 

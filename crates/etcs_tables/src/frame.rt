@@ -10,6 +10,9 @@ use etcs_vars::Var;
 /// The largest L_PACKET.
 pub const MOST_LENGTH: usize = 8191;
 
+/// The most bits of a row: the largest L_PACKET less the frame of a packet to the train.
+pub const ROW_LIMIT: usize = 8168;
+
 /// The bits of packet 0, its NID_PACKET and NID_VBCMK.
 pub const MARKER_BITS: usize = 14;
 

@@ -8,8 +8,8 @@ mod tables;
 
 pub use etcs_vars::Var;
 pub use frame::{
-    CLOSING, CLOSING_BITS, MARKER_BITS, MOST_LENGTH, frame_bits, head_bits, is_direction,
-    is_framed, is_kept, kept_limit,
+    CLOSING, CLOSING_BITS, MARKER_BITS, MOST_LENGTH, ROW_LIMIT, frame_bits, head_bits,
+    is_direction, is_framed, is_kept, kept_limit,
 };
 pub use item::{Guard, RowItem, Test};
 pub use row::{Row, Way};

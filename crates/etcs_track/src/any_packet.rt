@@ -12,8 +12,9 @@ use crate::list::packets;
 use crate::train_other::TrainOther;
 use crate::train_packet::TrainPacket;
 use etcs_bits::{BitSlice, Bits};
+use etcs_bodies::Numbers;
 use etcs_packets::inner::{AnyPacket, Made, Source, append_variables, hold};
-use etcs_packets::{by_number, of_each};
+use etcs_packets::{by_number, of_each, pass_by_number};
 use etcs_tables::Way;
 use etcs_vars::inner::{VarSink, Variables};
 use etcs_vars::{Var, WordSink};
@@ -100,6 +101,15 @@ impl AnyPacket for TrainPacket {
 
     fn of_source<S: Source>(alloc: Global, nid: u8, dir: u8, source: &S) -> Made<TrainPacket> {
         of_number(alloc, nid, dir, source)
+    }
+
+    #[inline(always)]
+    fn pass<L: Numbers, S: VarSink>(
+        nid: u8,
+        numbers: &mut L,
+        out: &mut S,
+    ) -> Result<Option<bool>, AllocError> {
+        packets!(pass_by_number, nid, numbers, out)
     }
 
     fn of_kept(nid: u8, dir: u8, body: Bits) -> TrainPacket {

@@ -4,7 +4,7 @@ ghost use Rattle.std.specs.Prelude.{◌≡◌, None, Some, IfOk, IfErr, IfSome, 
 ghost use Rattle.etcs_bodies.specs.Formats.{fault, Is, reading, from};
 ghost use Rattle.etcs_track.specs.Locations.{integrity_format, level_format};
 
-use etcs_bodies::{Numbers, Part, check, check_guard, send_run, take_run, taken};
+use etcs_bodies::{Numbers, Part, Plain, check, check_guard, read_run, send_run};
 use etcs_vars::inner::{VarSink, Variables};
 use etcs_vars::{BuildFault, Var};
 use std::alloc::{AllocError, Global};
@@ -54,8 +54,8 @@ impl Located {
     ///   in steps of Q_SCALE.
     /// - `l_doubtunder`: L_DOUBTUNDER, how much more than measured it may have run, with the group's inaccuracy, in
     ///   steps of Q_SCALE.
-    /// - `q_length`: Q_LENGTH, what is known of the train's integrity: 0 nothing, 1 confirmed by a device, 2 confirmed
-    ///   by the driver, 3 it is lost.
+    /// - `q_length`: Q_LENGTH, the train's integrity: 0 no information, 1 confirmed by the monitoring device,
+    ///   2 confirmed by the driver, 3 lost.
     /// - `l_trainint`: L_TRAININT, the length for which it is confirmed, in metres, if Q_LENGTH is 1 or 2.
     /// - `v_train`: V_TRAIN, the speed, in steps of 5 km/h.
     /// - `q_dirtrain`: Q_DIRTRAIN, the direction of the movement: 0 reverse, 1 nominal, 2 unknown.
@@ -152,8 +152,8 @@ impl Located {
         self.l_doubtunder
     }
 
-    /// Q_LENGTH: what is known of the train's integrity: 0 nothing, 1 confirmed by a device, 2 confirmed by the driver,
-    /// 3 it is lost.
+    /// Q_LENGTH, the train's integrity: 0 no information, 1 confirmed by the monitoring device, 2 confirmed by the
+    /// driver, 3 lost.
     pub fn q_length(&self) -> u8
         ensures { result ≡ self.now.q_length }
     {
@@ -337,14 +337,26 @@ impl Part for Located {
         let _ = &self.d_lrbg;
     }
 
-    #[tactic(auto, unfolding(crate::specs::Locations::IsLocated))]
+    #[inline(always)]
     fn take<L: Numbers>(_alloc: Global, numbers: &mut L) -> Result<Option<Located>, AllocError> {
-        take_run!(_alloc numbers d_lrbg: D_LRBG u16, q_dirlrbg: Q_DIRLRBG u8, q_dlrbg: Q_DLRBG u8);
-        take_run!(_alloc numbers l_doubtover: L_DOUBTOVER u16, l_doubtunder: L_DOUBTUNDER u16);
-        let (q_length, l_trainint) = taken!(take_integrity(numbers));
-        take_run!(_alloc numbers v_train: V_TRAIN u8, q_dirtrain: Q_DIRTRAIN u8, m_mode: M_MODE u8);
-        let (m_level, nid_ntc) = taken!(take_level(numbers));
-        Ok(Some(Located {
+        Ok(Located::read(numbers))
+    }
+
+    fn try_clone(&self, _alloc: Global) -> Result<Located, AllocError> {
+        Ok(*self)
+    }
+}
+
+impl Plain for Located {
+    #[tactic(auto, unfolding(crate::specs::Locations::IsLocated))]
+    #[inline(always)]
+    fn read<L: Numbers>(numbers: &mut L) -> Option<Located> {
+        read_run!(numbers d_lrbg: D_LRBG u16, q_dirlrbg: Q_DIRLRBG u8, q_dlrbg: Q_DLRBG u8);
+        read_run!(numbers l_doubtover: L_DOUBTOVER u16, l_doubtunder: L_DOUBTUNDER u16);
+        let (q_length, l_trainint) = take_integrity(numbers)?;
+        read_run!(numbers v_train: V_TRAIN u8, q_dirtrain: Q_DIRTRAIN u8, m_mode: M_MODE u8);
+        let (m_level, nid_ntc) = take_level(numbers)?;
+        Some(Located {
             d_lrbg,
             q_dirlrbg,
             q_dlrbg,
@@ -357,10 +369,6 @@ impl Part for Located {
             m_mode,
             m_level,
             nid_ntc,
-        }))
-    }
-
-    fn try_clone(&self, _alloc: Global) -> Result<Located, AllocError> {
-        Ok(*self)
+        })
     }
 }

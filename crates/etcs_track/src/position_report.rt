@@ -4,7 +4,7 @@ ghost use Rattle.std.specs.Prelude.{◌≡◌, None, Some, IfOk, IfErr};
 ghost use Rattle.etcs_track.specs.Reports.{position_report_value, position_report_fault};
 
 use crate::located::Located;
-use etcs_bodies::{Body, Numbers, Part, build_part, send_fields, take_fields};
+use etcs_bodies::{Body, Numbers, Part, Passing, build_part, send_fields, take_fields};
 use etcs_tables::Way;
 use etcs_vars::inner::{VarSink, Variables};
 use etcs_vars::{BuildFault, Var};
@@ -131,6 +131,16 @@ impl Body for PositionReport {
         numbers: &mut L,
     ) -> Result<Option<Self>, AllocError> {
         fields!(take_fields: alloc, numbers)
+    }
+
+    #[inline(always)]
+    fn pass<L: Numbers, S: VarSink>(numbers: &mut L, out: &mut S) -> Result<bool, AllocError> {
+        let run = (Var::Q_SCALE, Var::NID_LRBG);
+        let Some((q_scale, nid_lrbg)) = numbers.run(run) else {
+            return Ok(false);
+        };
+        out.send(&[(Var::Q_SCALE, q_scale), (Var::NID_LRBG, nid_lrbg)])?;
+        Located::pass(numbers, out)
     }
 
     fn copy(&self, _alloc: Global) -> Result<PositionReport, AllocError> {

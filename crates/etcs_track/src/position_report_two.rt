@@ -4,7 +4,7 @@ ghost use Rattle.std.specs.Prelude.{◌≡◌, None, Some, IfOk, IfErr};
 ghost use Rattle.etcs_track.specs.Reports.{position_report_two_value, position_report_two_fault};
 
 use crate::located::Located;
-use etcs_bodies::{Body, Numbers, Part, build_part, send_fields, take_fields};
+use etcs_bodies::{Body, Numbers, Part, Passing, build_part, send_fields, take_fields};
 use etcs_tables::Way;
 use etcs_vars::inner::{VarSink, Variables};
 use etcs_vars::{BuildFault, Var};
@@ -147,6 +147,20 @@ impl Body for PositionReportTwo {
         numbers: &mut L,
     ) -> Result<Option<Self>, AllocError> {
         fields!(take_fields: alloc, numbers)
+    }
+
+    #[inline(always)]
+    fn pass<L: Numbers, S: VarSink>(numbers: &mut L, out: &mut S) -> Result<bool, AllocError> {
+        let run = (Var::Q_SCALE, (Var::NID_LRBG, Var::NID_PRVLRBG));
+        let Some((q_scale, (nid_lrbg, nid_prvlrbg))) = numbers.run(run) else {
+            return Ok(false);
+        };
+        out.send(&[
+            (Var::Q_SCALE, q_scale),
+            (Var::NID_LRBG, nid_lrbg),
+            (Var::NID_PRVLRBG, nid_prvlrbg),
+        ])?;
+        Located::pass(numbers, out)
     }
 
     fn copy(&self, _alloc: Global) -> Result<PositionReportTwo, AllocError> {

@@ -12,7 +12,7 @@ ghost use Rattle.etcs_track.specs.laws.TrainFlats.{train_flat_codes};
 
 use arrayvec::ArrayVec;
 use etcs_bodies::{Body, Numbers};
-use etcs_flat::inner::{check_flat, few, send_table, table_bits, table_of, take_table};
+use etcs_flat::inner::{check_flat, few, pass_table, send_table, table_bits, table_of, take_table};
 use etcs_tables::{RowItem, Way};
 use etcs_vars::BuildFault;
 use etcs_vars::inner::{VarSink, Variables};
@@ -155,6 +155,11 @@ where
         numbers: &mut L,
     ) -> Result<Option<Self>, AllocError> {
         Ok(TrainFlat::taken(dir, numbers))
+    }
+
+    #[inline(always)]
+    fn pass<L: Numbers, S: VarSink>(numbers: &mut L, out: &mut S) -> Result<bool, AllocError> {
+        pass_table(table_of(Way::ToTrack, N), numbers, out)
     }
 
     fn copy(&self, _alloc: Global) -> Result<Self, AllocError> {

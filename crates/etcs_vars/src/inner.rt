@@ -3,5 +3,5 @@
 
 pub use crate::kept::send_bits;
 pub use crate::pairs::PairList;
-pub use crate::sink::{VarSink, Variables, append_numbers, bits_of_all, send_all};
+pub use crate::sink::{Nothing, VarSink, Variables, append_numbers, bits_of_all, send_all};
 pub use crate::tables::COUNT;

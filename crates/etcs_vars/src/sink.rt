@@ -87,6 +87,29 @@ pub fn bits_of_all<V: Variables>(lists: &[V]) -> usize
     bits
 }
 
+/// A sink that keeps nothing of what it takes.
+#[derive(Clone, Copy, Debug, PartialEq, Eq)]
+pub struct Nothing;
+
+impl VarSink for Nothing {
+    ghost use Rattle.std.specs.Prelude.{refl};
+
+    ghost with = { λ s r. s };
+
+    ghost failed = { λ s t. ⊥ };
+
+    ghost with_none = { λ s. refl };
+
+    ghost with_both = { λ s a b. refl };
+
+    ghost failed_after = { λ s a t h. h };
+
+    #[inline(always)]
+    fn send(&mut self, _sent: &[(Var, u64)]) -> Result<(), AllocError> {
+        Ok(())
+    }
+}
+
 /// Numbers without their variables, one after another.
 #[derive(Debug, Drop)]
 struct NumberList {

@@ -290,8 +290,8 @@ pub enum Var {
     L_DOUBTOVER,
     /// How much more than measured it may have run, with the group's inaccuracy, by Q_SCALE.
     L_DOUBTUNDER,
-    /// What is known of the train's integrity: 0 nothing, 1 confirmed by a device, 2 confirmed by the driver,
-    /// 3 it is lost.
+    /// The train's integrity: 0 no information, 1 confirmed by the monitoring device, 2 confirmed by the driver,
+    /// 3 lost.
     Q_LENGTH,
     /// The length of the train for which its integrity is confirmed, in metres.
     L_TRAININT,

@@ -1,15 +1,18 @@
 -- Lemmas about specs/PacketFormats.antt.
-use Rattle.std.proofs.Common.{◌≡◌, ℕ, ◌≤◌, length, Some, sym, ap, arith}
+use Rattle.std.proofs.Common.{◌≡◌, ℕ, ◌≤◌, ◌++◌, [], length, Some, sym, ap, arith}
 use Rattle.std.specs.Prelude.{IsTrue, nat_le}
 use Rattle.std.proofs.lemmas.Bool.{leb-true}
-use Rattle.etcs_vars.specs.Reading.{spelled}
+use Rattle.etcs_vars.specs.Reading.{Reading, spelled}
 use Rattle.etcs_tables.specs.declared.row.Way.TheVariants.{ToTrain}
 use Rattle.etcs_tables.specs.Layouts.{whole, ROW_LIMIT}
 use Rattle.etcs_tables.specs.Rows.{row_to}
 use Rattle.etcs_bodies.specs.Equality.{IsExact}
 use Rattle.etcs_bodies.specs.Packets.{packet_from}
+use Rattle.etcs_bodies.specs.Taking.{Left}
+use Rattle.etcs_bodies.specs.Passing.{Passed, PassedRow}
+use Rattle.etcs_bodies.specs.laws.Passing.{passed_row}
 use Rattle.etcs_bodies.specs.PacketCodes.{PacketCodes}
-use Rattle.etcs_bodies.specs.Formats.{reading, row, most}
+use Rattle.etcs_bodies.specs.Formats.{Is, reading, row, most}
 use Rattle.etcs_bodies.specs.PacketFormats.{PacketFormat, IsPacketOf, packet_reading, packet_left, packet_equal}
 use Rattle.etcs_bodies.specs.laws.Repeats.{bit_count_is}
 use Rattle.etcs_bodies.specs.laws.Equality.{number_exact, both_exact, fields_exact}
@@ -41,3 +44,8 @@ module _ {B P : Type 0} (k : PacketFormat B P) where
 
   pub exact_packet : IsPacketFormat k → IsExact (packet_equal k)
   exact_packet ok = fields_exact (λ (p : P). (k.direction p, k.rest p)) (λ (n : ℕ × B). k.make n.0 n.1) ok.again (both_exact number_exact (exact_of k.body ok.body))
+
+  -- the row of a packet of the format whose body went
+  pub passed_packet : IsPacketFormat k → (nid : ℕ) → row_to ToTrain nid ≡ Some (row k.body whole) → {S : Type 0} (with : S → Reading → S) → ((o : S) (a b : Reading) → with o (a ++ b) ≡ with (with o a) b)
+      → (s t : Left) (o p : S) → Passed (Is k.body) (reading k.body) with s t o p → PassedRow ToTrain nid with s t o p
+  passed_packet ok nid is with both = passed_row with both (codes_of k.body ok.body) ToTrain nid is

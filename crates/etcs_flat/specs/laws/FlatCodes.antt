@@ -23,7 +23,10 @@ use Rattle.etcs_bodies.specs.PacketCodes.{PacketCodes, directed_from}
 use Rattle.etcs_bodies.specs.laws.PacketCodes.{direction_ok, direction_admitted, same_direction, packet_codes}
 use Rattle.etcs_flat.specs.Flats.{FlatValue, flat_value, variables, flat_row_to, flat_row, numbers_fault, row_fault, flat_fault_to, flat_fault, pairs, row_reading, flat_reading_to, flat_reading}
 use Rattle.etcs_flat.specs.laws.FlatLaws.{none_both, number_fine, fine_number, after_first, pairs-short, row_short, nothing_wrong, nothing_found}
-use Rattle.etcs_flat.specs.Tables.{table_from}
+use Rattle.etcs_bodies.specs.Passing.{PassedRow}
+use Rattle.etcs_bodies.specs.laws.Passing.{passed_value, passed_row}
+use Rattle.etcs_flat.specs.laws.TableLaws.{pairs_in}
+use Rattle.etcs_flat.specs.Tables.{table_from, table_pairs}
 use Rattle.etcs_flat.specs.FlatCodes.{row_of, AreNumbers, known, Flatly, row_from, flat_from_to, flat_from}
 
 -- ---- The numbers of some variables.
@@ -131,6 +134,16 @@ module _ (way : Way) (nid dir : ℕ) (table : List RowItem) (s : Left) (is : Som
       let k = table_is (flat_row_to way nid) table is in
       let some : table_from (map One (known (flat_row_to way nid))) s ≡ Some (ns, t) = ap (λ (l : List RowItem). table_from l s) (sym k.1) ∙ h in
       rw some refl
+
+  -- the variables of the row that were taken, and sent
+  pub table_row : {S : Type 0} (with : S → Reading → S) → ((o : S) (a b : Reading) → with o (a ++ b) ≡ with (with o a) b)
+      → (t : Left) (o q : S) (ns : List ℕ) → table_from table s ≡ Some (ns, t) → q ≡ with o (table_pairs table ns) → PassedRow way nid with s t o q
+  table_row with both t o q ns h e =
+      let k = table_is (flat_row_to way nid) table is in
+      let vs = known (flat_row_to way nid) in
+      let pairs = ap (λ (l : List RowItem). table_pairs l ns) k.1 ∙ pairs_in vs ns in
+      passed_row with both (numbers_codes vs) way nid (row_is way nid vs k.0) s t o q
+      (passed_value with both (numbers_codes vs) s t o q ns (ap (λ (l : List RowItem). table_from l s) (sym k.1) ∙ h) (e ∙ ap (with o) pairs))
 
   pub table_none : {P : Type 0} (make : ℕ → List ℕ → P) → table_from table s ≡ None → flat_from_to way make nid dir s ≡ None
   unfolding directed_from

@@ -14,7 +14,7 @@ use Rattle.etcs_parts.specs.laws.BalisesAt.{balise_at_ok}
 use Rattle.etcs_grouped.specs.BaliseLists.{BaliseListValue, balise_list_packet, nid_fault, IsBaliseList, balise_list_reading}
 use Rattle.etcs_parts.specs.contracts.balise_at.BaliseAtPartialEq.TheImpl as balise_at_eq
 
-balise_list_ok : IsPacketFormat balise_list_packet
+pub balise_list_ok : IsPacketFormat balise_list_packet
 balise_list_ok = record { again = λ p. refl; dir_is = λ dir b. refl; rest_is = λ dir b. refl; body = balise_at_ok; short = refl }
 
 pub balise_list_codes : (nid : ℕ) → nid_fault nid ≡ None → row_to ToTrain nid ≡ Some balise_list → PacketCodes ToTrain nid (λ (p : BaliseListValue). p.dir) (IsBaliseList nid) balise_list_reading (packet_from (packet_left balise_list_packet))

@@ -9,7 +9,7 @@ use Rattle.etcs_parts.specs.laws.Levels.{level_ok}
 use Rattle.etcs_grouped.specs.ConditionalLevelOrders.{ConditionalLevelOrderValue, conditional_level_order_packet, IsConditionalLevelOrder, conditional_level_order_reading}
 use Rattle.etcs_grouped.specs.contracts.conditional_level_order.ConditionalLevelOrderPartialEq.TheImpl as conditional_level_order_eq
 
-conditional_level_order_ok : IsPacketFormat conditional_level_order_packet
+pub conditional_level_order_ok : IsPacketFormat conditional_level_order_packet
 conditional_level_order_ok = record { again = λ p. refl; dir_is = λ dir b. refl; rest_is = λ dir b. refl; body = (level_ok, level_ok); short = refl }
 
 pub conditional_level_order_codes : PacketCodes ToTrain 46 (λ (p : ConditionalLevelOrderValue). p.dir) IsConditionalLevelOrder conditional_level_order_reading (packet_from (packet_left conditional_level_order_packet))

@@ -15,7 +15,7 @@ use Rattle.etcs_parts.specs.laws.TextFrames.{text_frame_ok, text_frame_exact}
 use Rattle.etcs_grouped.specs.FixedTexts.{FixedTextValue, fixed_text_value, fixed_text_packet, IsFixedText, fixed_text_reading}
 use Rattle.etcs_grouped.specs.contracts.fixed_text.FixedTextPartialEq.TheImpl as fixed_text_eq
 
-fixed_text_ok : IsPacketFormat fixed_text_packet
+pub fixed_text_ok : IsPacketFormat fixed_text_packet
 fixed_text_ok = record { again = λ p. refl; dir_is = λ dir b. refl; rest_is = λ dir b. refl; body = (text_frame_ok, tt); short = refl }
 
 pub fixed_text_codes : PacketCodes ToTrain 76 (λ (p : FixedTextValue). p.dir) IsFixedText fixed_text_reading (packet_from (packet_left fixed_text_packet))

@@ -9,7 +9,7 @@ use Rattle.etcs_parts.specs.laws.BalisesAt.{balise_at_ok}
 use Rattle.etcs_grouped.specs.InfillLocations.{InfillLocationValue, infill_location_packet, IsInfillLocation, infill_location_reading}
 use Rattle.etcs_grouped.specs.contracts.infill_location.InfillLocationPartialEq.TheImpl as infill_location_eq
 
-infill_location_ok : IsPacketFormat infill_location_packet
+pub infill_location_ok : IsPacketFormat infill_location_packet
 infill_location_ok = record { again = λ p. refl; dir_is = λ dir b. refl; rest_is = λ dir b. refl; body = balise_at_ok; short = refl }
 
 pub infill_location_codes : PacketCodes ToTrain 136 (λ (p : InfillLocationValue). p.dir) IsInfillLocation infill_location_reading (packet_from (packet_left infill_location_packet))

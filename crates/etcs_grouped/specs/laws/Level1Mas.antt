@@ -14,7 +14,7 @@ use Rattle.etcs_grouped.specs.laws.Fronts.{after_front}
 use Rattle.etcs_grouped.specs.Level1Mas.{Level1MaValue, level1_ma_value, level1_ma_packet, IsLevel1Ma, level1_ma_reading}
 use Rattle.etcs_grouped.specs.contracts.level1_ma.Level1MaPartialEq.TheImpl as level1_ma_eq
 
-level1_ma_ok : IsPacketFormat level1_ma_packet
+pub level1_ma_ok : IsPacketFormat level1_ma_packet
 level1_ma_ok = record { again = λ p. refl; dir_is = λ dir b. refl; rest_is = λ dir b. refl; body = (tt, (tt, (tt, (tt, authority_ok)))); short = refl }
 
 pub level1_ma_codes : PacketCodes ToTrain 12 (λ (p : Level1MaValue). p.dir) IsLevel1Ma level1_ma_reading (packet_from (packet_left level1_ma_packet))

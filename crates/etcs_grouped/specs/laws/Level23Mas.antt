@@ -14,7 +14,7 @@ use Rattle.etcs_grouped.specs.laws.Fronts.{after_front}
 use Rattle.etcs_grouped.specs.Level23Mas.{Level23MaValue, level23_ma_value, level23_ma_packet, IsLevel23Ma, level23_ma_reading}
 use Rattle.etcs_grouped.specs.contracts.level23_ma.Level23MaPartialEq.TheImpl as level23_ma_eq
 
-level23_ma_ok : IsPacketFormat level23_ma_packet
+pub level23_ma_ok : IsPacketFormat level23_ma_packet
 level23_ma_ok = record { again = λ p. refl; dir_is = λ dir b. refl; rest_is = λ dir b. refl; body = (tt, (tt, (tt, authority_ok))); short = refl }
 
 pub level23_ma_codes : PacketCodes ToTrain 15 (λ (p : Level23MaValue). p.dir) IsLevel23Ma level23_ma_reading (packet_from (packet_left level23_ma_packet))

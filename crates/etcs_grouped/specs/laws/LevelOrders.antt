@@ -14,7 +14,7 @@ use Rattle.etcs_grouped.specs.laws.Fronts.{after_front}
 use Rattle.etcs_grouped.specs.LevelOrders.{LevelOrderValue, level_order_value, level_order_packet, IsLevelOrder, level_order_reading}
 use Rattle.etcs_grouped.specs.contracts.level_order.LevelOrderPartialEq.TheImpl as level_order_eq
 
-level_order_ok : IsPacketFormat level_order_packet
+pub level_order_ok : IsPacketFormat level_order_packet
 level_order_ok = record { again = λ p. refl; dir_is = λ dir b. refl; rest_is = λ dir b. refl; body = (tt, (tt, (level_ack_ok, level_ack_ok))); short = refl }
 
 pub level_order_codes : PacketCodes ToTrain 41 (λ (p : LevelOrderValue). p.dir) IsLevelOrder level_order_reading (packet_from (packet_left level_order_packet))

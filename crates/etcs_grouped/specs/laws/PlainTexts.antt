@@ -18,7 +18,7 @@ use Rattle.etcs_parts.specs.laws.TextFrames.{text_frame_ok, text_frame_exact}
 use Rattle.etcs_grouped.specs.PlainTexts.{text_format, PlainTextValue, plain_text_value, plain_text_packet, IsPlainText, plain_text_reading}
 use Rattle.etcs_grouped.specs.contracts.plain_text.PlainTextPartialEq.TheImpl as plain_text_eq
 
-plain_text_ok : IsPacketFormat plain_text_packet
+pub plain_text_ok : IsPacketFormat plain_text_packet
 plain_text_ok = record { again = λ p. refl; dir_is = λ dir b. refl; rest_is = λ dir b. refl; body = (text_frame_ok, tt); short = refl }
 
 pub plain_text_codes : PacketCodes ToTrain 72 (λ (p : PlainTextValue). p.dir) IsPlainText plain_text_reading (packet_from (packet_left plain_text_packet))

@@ -14,7 +14,7 @@ use Rattle.etcs_grouped.specs.laws.Fronts.{after_front}
 use Rattle.etcs_grouped.specs.ReportParameters.{ReportParametersValue, report_parameters_packet, IsReportParameters, report_parameters_reading}
 use Rattle.etcs_grouped.specs.contracts.report_parameters.ReportParametersPartialEq.TheImpl as report_parameters_eq
 
-report_parameters_ok : IsPacketFormat report_parameters_packet
+pub report_parameters_ok : IsPacketFormat report_parameters_packet
 report_parameters_ok = record { again = λ p. refl; dir_is = λ dir b. refl; rest_is = λ dir b. refl; body = (tt, (tt, (tt, (tt, report_at_ok)))); short = refl }
 
 pub report_parameters_codes : PacketCodes ToTrain 58 (λ (p : ReportParametersValue). p.dir) IsReportParameters report_parameters_reading (packet_from (packet_left report_parameters_packet))

@@ -15,7 +15,7 @@ use Rattle.etcs_parts.specs.laws.Conditions.{condition_ok}
 use Rattle.etcs_grouped.specs.laws.Fronts.{after_front}
 use Rattle.etcs_grouped.specs.TrackConditions.{state_format, TrackConditionValue, track_condition_packet, IsTrackCondition, track_condition_reading}
 
-track_condition_ok : IsPacketFormat track_condition_packet
+pub track_condition_ok : IsPacketFormat track_condition_packet
 track_condition_ok = record { again = λ p. refl; dir_is = λ dir b. refl; rest_is = λ dir b. refl; body = (tt, ((refl, refl, refl), tt, (condition_ok, condition_ok))); short = refl }
 
 pub track_condition_codes : PacketCodes ToTrain 68 (λ (p : TrackConditionValue). p.dir) IsTrackCondition track_condition_reading (packet_from (packet_left track_condition_packet))

@@ -17,7 +17,7 @@ use Rattle.etcs_bodies.specs.Equality.{IsExact}
 use Rattle.etcs_bodies.specs.laws.Equality.{number_exact, fields_exact, both_exact, numbers_exact, option_exact, list_exact}
 use Rattle.etcs_parts.specs.contracts.authority.AuthorityPartialEq.TheImpl as authority_eq
 
-groups_ok : IsFormat groups_format
+pub groups_ok : IsFormat groups_format
 groups_ok = (((refl, refl, refl), (tt, tt)), (((refl, refl, refl), (tt, tt)), ((refl, refl, refl), (λ p. refl, λ v. refl, (tt, (tt, (tt, tt)))))))
 
 pub authority_ok : IsFormat authority_format

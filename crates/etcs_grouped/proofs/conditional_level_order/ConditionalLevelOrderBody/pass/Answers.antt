@@ -1,0 +1,12 @@
+use Rattle.std.proofs.Common.{refl}
+use Rattle.std.proofs.lemmas.Result.{IfOk-weaker}
+use Rattle.etcs_bodies.specs.laws.PacketFormats.{passed_packet}
+use Rattle.etcs_grouped.specs.ConditionalLevelOrders.{conditional_level_order_packet}
+use Rattle.etcs_grouped.specs.laws.ConditionalLevelOrders.{conditional_level_order_ok}
+use Rattle.etcs_grouped.proofs.conditional_level_order.ConditionalLevelOrderBody.pass.Goals as goal
+
+pub returns-clause-passed : goal.returns-clause-passed
+returns-clause-passed g c =
+    let left = g.L.NextNumber.left in
+    let s = g.met.S.VarSink in
+    IfOk-weaker c.pass.result _ _ (λ b h yes. passed_packet conditional_level_order_packet conditional_level_order_ok 46 refl g.S.VarSink.with s.with_both (left c.args.numbers.now) (left c.pass.new.numbers) c.args.out.now c.pass.new.out (h yes)) c.pass.ensures.passed

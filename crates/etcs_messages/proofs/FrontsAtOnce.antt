@@ -1,9 +1,10 @@
 -- What comes before a message's packets, taken at once.
-use Rattle.std.proofs.Common.{◌≡◌, ℕ, suc, ◌+◌, ◌-◌, ◌<◌, ◌≤◌, Bool, List, [], ◌∷◌, ◌++◌, length, take, drop, get_or, map, Some, refl, sym, ap, subst, ◌∙◌, arith, length-append, append_assoc, append-nil}
+use Rattle.std.proofs.Common.{◌≡◌, ℕ, suc, ◌+◌, ◌-◌, ◌<◌, ◌≤◌, Bool, true, false, List, [], ◌∷◌, ◌++◌, length, take, drop, get_or, map, Some, None, leb, refl, sym, ap, subst, ◌∙◌, arith, length-append, append_assoc, append-nil}
 use Rattle.std.specs.Prelude.{IsTrue, Option, option_map, is_some, if◌then◌else◌}
+use Rattle.std.proofs.lemmas.Bool.{leb-true}
 use Rattle.std.proofs.lemmas.List.{length-map, length-take, take_all, map-append}
 use Rattle.std.proofs.Math.Seq.{take-suc, take-append_seam, drop-append_seam}
-use Rattle.etcs_bits.specs.Bits.{num, part, number_at}
+use Rattle.etcs_bits.specs.Bits.{num, value, part, number_at}
 use Rattle.etcs_bits.specs.SliceWalker.{SliceWalk}
 use Rattle.etcs_bits.proofs.Lists.{length-part, part-add}
 use Rattle.etcs_bits.proofs.Views.{number_bits}
@@ -22,13 +23,20 @@ use Rattle.etcs_reader.specs.Fields.{ReadsFields}
 use Rattle.etcs_sequence.specs.Labels.{labelled, widths}
 use Rattle.etcs_sequence.specs.Fronts.{FrontAt}
 use Rattle.etcs_sequence.proofs.LabelLaws.{numbers_labelled}
-use Rattle.etcs_sequence.proofs.RowBits.{found_inside}
-use Rattle.etcs_messages.specs.Kinds.{IsHeadNumbers, IsOwnNumbers}
 use Rattle.etcs_tables.specs.Headers.{head_row}
 use Rattle.etcs_messages.specs.Lefts.{own_row, front_after, front_row, front_vars, front_bits, some_row}
+use Rattle.etcs_messages.specs.Fronts.{WholeFront}
 use Rattle.etcs_messages.proofs.Ways.{head_short}
 use Rattle.etcs_messages.proofs.Fields.{fields_append, fields_length}
 use Rattle.etcs_messages.proofs.Fronts.{as_row, as_items, fields_row, rows_alike, own_asked, own_few, table_long}
+
+-- a number that is found lies inside
+found_by : (t : Bool) (s w n x : ℕ) (b : List Bool) → leb (s + w) (length b) ≡ t → ◌≡◌ {A = Option ℕ} (if t then Some x else None) (Some n) → s + w ≤ length b
+found_by true s w n x b e h = leb-true (s + w) (length b) e
+found_by false s w n x b e h = absurd cc
+
+found_inside : (s w n : ℕ) (b : List Bool) → number_at s w b ≡ Some n → s + w ≤ length b
+found_inside s w n b e = found_by (leb (s + w) (length b)) s w n (value (part s w b)) b refl e
 
 -- ---- Variables one after another whose bits are all there.
 
@@ -159,13 +167,6 @@ table_is way nid table e =
     let head = head_short way in
     (own, is, ap (λ (l : List RowItem). variables (layout l)) all ∙ table_variables own, omega (arith, long, few, head))
 
--- its numbers are those of a head and of a body
-pub record WholeFront (way : Way) (nid : ℕ) (xs : List Bool) (f : List ℕ) : Type 0 where
-  pub there : length (head_row way) ≤ length f
-  pub head : IsHeadNumbers way (take (length (head_row way)) f)
-  pub own : IsOwnNumbers way nid (drop (length (head_row way)) f)
-  pub front : FrontAt (front_vars way nid) xs 18 f (length xs)
-
 pub whole_front : (way : Way) (nid : ℕ) (vars : List Var) (table : List RowItem) (xs : List Bool) (hs f : List ℕ) (mid end : ℕ) → front_row way nid ≡ Some vars → length xs ≡ front_bits vars → Some table ≡ option_map items (message_row_to way nid) → FrontAt (head_row way) xs 18 hs mid → ((own : List Var) → variables (layout table) ≡ Some own → (ns : List ℕ) × (f ≡ hs ++ ns) × FrontAt own xs mid ns end) → WholeFront way nid xs f
 whole_front way nid vars table xs hs f mid end typed long found h o =
     let row = head_row way in
@@ -220,11 +221,11 @@ own_room way nid table before mid w end found none (hs, mid_is, h) =
     let count = h.count in
     (omega (arith, long, empty, count, few), h.inside)
 
-pub front_passed : (way : Way) (nid : ℕ) (vars : List Var) (table : List RowItem) (xs : List Bool) (w w' : SliceWalk) (before mid now f : List ℕ) (end : ℕ) → front_row way nid ≡ Some vars → length xs ≡ front_bits vars → Some table ≡ option_map items (message_row_to way nid) → w ≡ record { bits = xs; place = 18 } → before ≡ [] → Passes (head_row way) w before mid w'.place → w'.bits ≡ w.bits → PassesTable table w' mid now end → f ≡ now → WholeFront way nid xs f
-front_passed way nid vars table xs w w' before mid now f end typed long found start none (hs, mid_is, h) same o f_is =
+pub front_passed : (way : Way) (nid : ℕ) (vars : List Var) (table : List RowItem) (xs : List Bool) (w w' : SliceWalk) (before mid now : List ℕ) (end : ℕ) → front_row way nid ≡ Some vars → length xs ≡ front_bits vars → Some table ≡ option_map items (message_row_to way nid) → w ≡ record { bits = xs; place = 18 } → before ≡ [] → Passes (head_row way) w before mid w'.place → w'.bits ≡ w.bits → PassesTable table w' mid now end → WholeFront way nid xs now
+front_passed way nid vars table xs w w' before mid now end typed long found start none (hs, mid_is, h) same o =
     let mid' : mid ≡ hs = mid_is ∙ ap (λ (l : List ℕ). l ++ hs) none in
     let first = subst (λ (x : SliceWalk). FrontAt (head_row way) x.bits x.place hs w'.place) start h in
     let place : w'.bits ≡ xs = same ∙ ap (λ (x : SliceWalk). x.bits) start in
-    whole_front way nid vars table xs hs f w'.place end typed long found first
+    whole_front way nid vars table xs hs now w'.place end typed long found first
     (λ own its. (let (ns, now_is, g) = o own its in
-    (ns, f_is ∙ now_is ∙ ap (λ (l : List ℕ). l ++ ns) mid', subst (λ (b : List Bool). FrontAt own b w'.place ns end) place g)))
+    (ns, now_is ∙ ap (λ (l : List ℕ). l ++ ns) mid', subst (λ (b : List Bool). FrontAt own b w'.place ns end) place g)))

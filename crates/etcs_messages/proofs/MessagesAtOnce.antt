@@ -1,6 +1,6 @@
 -- A message that lies whole in a piece, read at once.
 use Rattle.std.proofs.Common.{◌≡◌, ℕ, ◌+◌, ◌-◌, ◌*◌, ◌^◌, ◌<◌, ◌≤◌, Bool, List, [], ◌++◌, length, Some, None, refl, sym, ap, subst, ◌∙◌, arith, append-nil}
-use Rattle.std.specs.Prelude.{Option, take, drop}
+use Rattle.std.specs.Prelude.{Option, option_map, take, drop}
 use Rattle.etcs_bits.specs.Bits.{num, part}
 use Rattle.etcs_bits.proofs.Lists.{length-part, part-part, part-add}
 use Rattle.etcs_bits.proofs.Numbers.{length-num}
@@ -24,7 +24,7 @@ use Rattle.etcs_messages.specs.declared.message.Content.TheVariants.{Typed, Kept
 use Rattle.etcs_messages.specs.Kinds.{HeadOf, OwnOf, HeadLaws, OwnLaws, IsFrontBy}
 use Rattle.etcs_tables.specs.Headers.{head_row}
 use Rattle.etcs_messages.specs.Lefts.{front_row, front_vars, front_bits, some_row, headed, AfterMessageLength}
-use Rattle.etcs_messages.specs.Messages.{MessageReads, MessageLanguage, message_value, IsMessage}
+use Rattle.etcs_messages.specs.Messages.{MessageValue, kept_message, KeptReads, MessageReads, MessageLanguage, message_value, IsMessage}
 use Rattle.etcs_messages.specs.Readings.{bytes_of}
 use Rattle.etcs_messages.proofs.Bytes.{bits_counted}
 use Rattle.etcs_messages.proofs.Faults.{no_kept_fault}
@@ -36,6 +36,10 @@ pub record ReadAtOnce {H B P : Type 0} (way : Way) (hd : HeadOf H) (bd : OwnOf B
   pub message : IsMessage way hd bd form m
   pub bytes : len ≡ bytes_of way bd form m
   pub reads : (r : Reading) × MessageReads way (message_value way hd bd form m) r × (spelled r ≡ part 0 (8 * len) xs)
+
+-- some message of this many bytes, whose bits are the first of these
+abbrev pub SeenAtOnce : Way → ℕ → List Bool → Type 0
+SeenAtOnce way len xs = (m : MessageValue) × (r : Reading) × MessageReads way m r × (spelled r ≡ part 0 (8 * len) xs)
 
 -- L_MESSAGE counts its bytes
 counted : {H B P : Type 0} (way : Way) (hd : HeadOf H) (bd : OwnOf B) (form : P → Form) (m : Content H B P) (len : ℕ) (xs : List Bool) (r : Reading) → 8 * len ≤ length xs → IsMessage way hd bd form m → MessageReads way (message_value way hd bd form m) r → spelled r ≡ part 0 (8 * len) xs → ReadAtOnce way hd bd form m len xs
@@ -56,26 +60,46 @@ headed_bits nid len all r xs first second some e =
 
 -- ---- A message that is kept.
 
+-- its bits, and its reading
+kept_parts : (way : Way) (nid len : ℕ) (b xs : List Bool) → front_row way nid ≡ None → nid < 2 ^ 8 → 3 ≤ len → len < 2 ^ 10 → 8 * len ≤ length xs → num 8 nid ≡ part 0 8 xs → num 10 len ≡ part 8 10 xs → b ≡ part 18 (8 * len - 18) xs → KeptReads way nid b (headed nid len (kept OTHER_DATA b)) × (spelled (headed nid len (kept OTHER_DATA b)) ≡ part 0 (8 * len) xs)
+kept_parts way nid len b xs untyped small least most inside first second e =
+    let long : length b ≡ 8 * len - 18 = ap length e ∙ length-part 18 (8 * len - 18) xs (omega (arith, inside, least)) in (
+      record { len = len; untyped = row_none way nid untyped; small = small; least = least; most = most; bytes = omega (arith, long, least); reading_is = refl },
+      headed_bits nid len (8 * len) (kept OTHER_DATA b) xs first second (omega (arith, least)) (bits_spelled OTHER_DATA b refl ∙ e),
+    )
+
 pub kept_at_once : {H B P : Type 0} (way : Way) (hd : HeadOf H) (bd : OwnOf B) (form : P → Form) (nid len : ℕ) (b xs : List Bool) → front_row way nid ≡ None → nid < 2 ^ 8 → 3 ≤ len → len < 2 ^ 10 → 8 * len ≤ length xs → num 8 nid ≡ part 0 8 xs → num 10 len ≡ part 8 10 xs → b ≡ part 18 (8 * len - 18) xs → ReadAtOnce way hd bd form (Kept nid b) len xs
 kept_at_once way hd bd form nid len b xs untyped small least most inside first second e =
-    let none = row_none way nid untyped in
-    let long : length b ≡ 8 * len - 18 = ap length e ∙ length-part 18 (8 * len - 18) xs (omega (arith, inside, least)) in
-    let all : 18 + length b ≡ 8 * len = omega (arith, long, least) in
-    counted way hd bd form (Kept nid b) len xs (headed nid len (kept OTHER_DATA b)) inside
-    (small, no_kept_fault way nid (length b) len none all least most)
-    record { len = len; untyped = none; small = small; least = least; most = most; bytes = all; reading_is = refl }
-    (headed_bits nid len (8 * len) (kept OTHER_DATA b) xs first second (omega (arith, least)) (bits_spelled OTHER_DATA b refl ∙ e))
+    let (k, is) = kept_parts way nid len b xs untyped small least most inside first second e in
+    counted way hd bd form (Kept nid b) len xs (headed nid len (kept OTHER_DATA b)) inside (small, no_kept_fault way nid (length b) k.len k.untyped k.bytes k.least k.most) k is
+
+pub kept_seen : (way : Way) (nid len : ℕ) (xs : List Bool) → front_row way nid ≡ None → nid < 2 ^ 8 → 3 ≤ len → len < 2 ^ 10 → 8 * len ≤ length xs → num 8 nid ≡ part 0 8 xs → num 10 len ≡ part 8 10 xs → SeenAtOnce way len xs
+kept_seen way nid len xs untyped small least most inside first second =
+    let b = part 18 (8 * len - 18) xs in
+    let (k, is) = kept_parts way nid len b xs untyped small least most inside first second refl in
+    (kept_message nid b, headed nid len (kept OTHER_DATA b), k, is)
 
 -- ---- A typed message.
 
+-- a number is typed if a number of bits before its packets is known, and these are its variables' bits
+pub typed_front : (o : Option (List Var)) (n : ℕ) → Some n ≡ option_map front_bits o → (vars : List Var) × (o ≡ Some vars) × (n ≡ front_bits vars)
+typed_front None n e = absurd cc
+typed_front (Some vars) n e = (vars, refl, cc)
+
+pub untyped_front : (o : Option (List Var)) → None ≡ option_map front_bits o → o ≡ None
+untyped_front None e = refl
+untyped_front (Some vars) e = absurd cc
+
 -- its front, its packets and PADDING, and the bits that they are
 record TypedAtOnce (way : Way) (nid len : ℕ) (vars : List Var) (f : List ℕ) (vs : List PacketValue) (pad xs : List Bool) : Type 0 where
+  count : length f ≡ length vars
   lang : MessageLanguage way (headed nid len (labelled vars f ++ (readings_to way vs ++ kept PADDING pad)))
   bits : spelled (headed nid len (labelled vars f ++ (readings_to way vs ++ kept PADDING pad))) ≡ part 0 (8 * len) xs
 
-module _ (way : Way) (nid len front left : ℕ) (vars : List Var) (f : List ℕ) (holds : Holds) (pad xs : List Bool) (typed : front_row way nid ≡ Some vars) (small : nid < 2 ^ 8) (most : len < 2 ^ 10) (wide : front ≡ front_bits vars) (within : front ≤ 8 * len) (inside : 8 * len ≤ length xs) (first : num 8 nid ≡ part 0 8 xs) (second : num 10 len ≡ part 8 10 xs) (there : FrontAt vars (part 0 front xs) 18 f (length (part 0 front xs))) (run : RunAt (Message way) (8 * len - front) holds xs front left) (padded : pad ≡ part (8 * len - left) left xs) where
+module _ (way : Way) (nid len front left : ℕ) (vars : List Var) (f : List ℕ) (holds : Holds) (pad xs : List Bool) (typed : front_row way nid ≡ Some vars) (small : nid < 2 ^ 8) (most : len < 2 ^ 10) (wide : front ≡ front_bits vars) (within : front ≤ 8 * len) (inside : 8 * len ≤ length xs) (first : num 8 nid ≡ part 0 8 xs) (second : num 10 len ≡ part 8 10 xs) (there : FrontAt (front_vars way nid) (part 0 front xs) 18 f (length (part 0 front xs))) (run : RunAt (Message way) (8 * len - front) holds xs front left) (padded : pad ≡ part (8 * len - left) left xs) where
   typed_parts : TypedAtOnce way nid len vars f run.packets pad xs
   typed_parts =
+      let here = subst (λ (o : Option (List Var)). FrontAt (some_row o) (part 0 front xs) 18 f (length (part 0 front xs))) typed there in
       let vs = run.packets in
       let p = readings_to way vs in
       let q = p ++ kept PADDING pad in
@@ -88,7 +112,7 @@ module _ (way : Way) (nid len front left : ℕ) (vars : List Var) (f : List ℕ)
       let long : length (spelled p) + left ≡ room = subst (λ (r : Reading). length (spelled r) + left ≡ room) none run.long in
       let size : length (part 0 front xs) ≡ front = length-part 0 front xs (omega (arith, within, inside)) in
       let own : spelled (labelled vars f) ≡ part 18 (front - 18) xs =
-      there.bits ∙ ap (λ k. part 18 (k - 18) (part 0 front xs)) size ∙ part-part 0 front 18 (front - 18) xs (omega (arith, least)) in
+      here.bits ∙ ap (λ k. part 18 (k - 18) (part 0 front xs)) size ∙ part-part 0 front 18 (front - 18) xs (omega (arith, least)) in
       let start : 8 * len - left ≡ front + (room - left) = omega (arith, within, left_within) in
       let last : pad ≡ part (front + (room - left)) left xs = padded ∙ ap (λ k. part k left xs) start in
       let wide_pad : length pad ≡ left = ap length padded ∙ length-part (8 * len - left) left xs (omega (arith, within, left_within, inside)) in
@@ -100,11 +124,18 @@ module _ (way : Way) (nid len front left : ℕ) (vars : List Var) (f : List ℕ)
       spelled-append (labelled vars f) q ∙ parts 18 (front - 18) room (8 * len - 18) xs (spelled (labelled vars f)) (spelled q) own next (omega (arith, least, within)) in
       let wanted : length pad ≡ 8 * len - front_bits vars - length (spelled p) = omega (arith, wide_pad, long, wide) in
       let lefts : AfterMessageLength way (Some vars) len (labelled vars f ++ q) =
-      (omega (arith, wide, within), most, (labelled vars f, q, refl, there.reads, (p, kept PADDING pad, refl, (vs, whole), (pad, wanted, refl)))) in
+      (omega (arith, wide, within), most, (labelled vars f, q, refl, here.reads, (p, kept PADDING pad, refl, (vs, whole), (pad, wanted, refl)))) in
       record {
+        count = here.count;
         lang = (new_left way _).0 (nid, _, small, refl, (len, _, refl, subst (λ (o : Option (List Var)). AfterMessageLength way o len (labelled vars f ++ q)) (sym typed) lefts));
         bits = headed_bits nid len (8 * len) (labelled vars f ++ q) xs first second (omega (arith, least, within)) all;
       }
+
+pub typed_seen : (way : Way) (nid len front left : ℕ) (vars : List Var) (f : List ℕ) (holds : Holds) (xs : List Bool) → front_row way nid ≡ Some vars → nid < 2 ^ 8 → len < 2 ^ 10 → front ≡ front_bits vars → front ≤ 8 * len → 8 * len ≤ length xs → num 8 nid ≡ part 0 8 xs → num 10 len ≡ part 8 10 xs → FrontAt (front_vars way nid) (part 0 front xs) 18 f (length (part 0 front xs)) → RunAt (Message way) (8 * len - front) holds xs front left → SeenAtOnce way len xs
+typed_seen way nid len front left vars f holds xs typed small most wide within inside first second there run =
+    let whole = typed_parts way nid len front left vars f holds (part (8 * len - left) left xs) xs typed small most wide within inside first second there run refl in
+    let (m, reads) = whole.lang in
+    (m, headed nid len (labelled vars f ++ (readings_to way run.packets ++ kept PADDING (part (8 * len - left) left xs))), reads, whole.bits)
 
 -- the bits of PADDING are few
 pub padding_few : (way : Way) (room left : ℕ) (holds : Holds) (xs : List Bool) (at : ℕ) → RunAt (Message way) room holds xs at left → (left ≤ 7) × (left ≤ room)
@@ -118,8 +149,7 @@ pub typed_at_once : {H B P : Type 0} (way : Way) (hd : HeadOf H) (bd : OwnOf B) 
 typed_at_once {H} {B} {P} way hd bd form hl ol nid len front left number vars f head body list holds ps xs typed small most wide within inside first second there made run listed padded fits same =
     let pad = num left number in
     let vs = run.packets in
-    let there' = subst (λ (o : Option (List Var)). FrontAt (some_row o) (part 0 front xs) 18 f (length (part 0 front xs))) typed there in
-    let whole = typed_parts way nid len front left vars f holds pad xs typed small most wide within inside first second there' run padded in
+    let whole = typed_parts way nid len front left vars f holds pad xs typed small most wide within inside first second there run padded in
     let q = headed nid len (labelled vars f ++ (readings_to way vs ++ kept PADDING pad)) in
     let few = padding_few way (8 * len - front) left holds xs front run in
     let size = length-num left number in
@@ -130,7 +160,7 @@ typed_at_once {H} {B} {P} way hd bd form hl ol nid len front left number vars f 
       packets = vs;
       bits = pad;
       typed = typed;
-      count = there'.count;
+      count = whole.count;
       held = listed vs [] [] run.held;
       carried = run.run.carried;
       short = omega (arith, size, few.0);

@@ -8,6 +8,7 @@ use crate::kind::{Head, Own};
 use crate::message::MessageOf;
 pub use crate::rest::MessageRest;
 pub use crate::variables::send_front;
+pub use crate::whole::message_seen;
 
 /// For proofs: each message has a reading, which is `message_reading` of it. Does nothing.
 pub fn reads<H: Head, B: Own<Front = H>>(message: &MessageOf<H, B>)

@@ -10,8 +10,9 @@ ghost use Rattle.etcs_flat.specs.Flats.{variables};
 ghost use Rattle.etcs_rows.specs.declared.frames.Carrier.TheVariants.{Message};
 ghost use Rattle.etcs_sequence.specs.AtOnce.{RunFirst};
 ghost use Rattle.etcs_sequence.specs.Fronts.{FrontAt};
-ghost use Rattle.etcs_messages.specs.Messages.{MessageReads, message_value, IsMessage};
+ghost use Rattle.etcs_messages.specs.Messages.{MessageReads, MessageValue, message_value, IsMessage};
 ghost use Rattle.etcs_messages.specs.Kinds.{IsFrontBy};
+ghost use Rattle.etcs_messages.specs.Fronts.{WholeFront};
 ghost use Rattle.etcs_messages.specs.Lefts.{front_row, front_vars, front_bits};
 ghost use Rattle.etcs_messages.specs.Readers.{IsMessagePart};
 
@@ -27,8 +28,8 @@ use etcs_packets::inner::AnyPacket;
 use etcs_reader::inner::pass_front;
 use etcs_rows::inner::Carrier;
 use etcs_sequence::inner::{Room, Run, bits_at, number_at, take_run};
-use etcs_sequence::{ListStore, PacketList};
-use etcs_tables::{RowItem, head_row, message_row};
+use etcs_sequence::{ListStore, PacketCount, PacketList};
+use etcs_tables::{RowItem, Way, head_row, message_row};
 use etcs_vars::Var;
 use std::alloc::Global;
 
@@ -54,6 +55,54 @@ pub(crate) fn message_at<H: Head, B: Own<Front = H>>(
     ensures left { IfSome result (λ t. part.new ≡ part.old) }
     ensures part { IfSome part.new (λ t. IsMessagePart H.Store.holds H.Packet.WAY (bits piece.now) t.0 t.1) }
 {
+    let (nid, bytes) = frame_at(piece)?;
+    match front_bits(H::Packet::WAY, nid) {
+        Some(front) => Some((typed_at(room, nid, front, piece, bytes, part)?, bytes)),
+        None => Some((kept_at(room.alloc(), nid, piece, bytes)?, bytes)),
+    }
+}
+
+/// How many bytes a message of this way has that a piece begins with, which then lies whole in it. It may always return
+/// `None`. Takes no memory.
+#[inline(always)]
+pub fn message_seen<H: Head, B: Own<Front = H>>(piece: &[u8]) -> Option<usize>
+    requires small { length (bits piece.now) < 2 ^ 64 }
+    ensures within { IfSome result (λ n. n ≤ length piece.now) }
+    ensures reads { IfSome result (λ n. (m : MessageValue) × (r : Reading) × MessageReads H.Packet.WAY m r × (spelled r ≡ bit_lists.part 0 (8 * n) (bits piece.now))) }
+{
+    let (nid, bytes) = frame_at(piece)?;
+    let Some(front) = front_bits(H::Packet::WAY, nid) else {
+        return Some(bytes);
+    };
+    let end = 8 * bytes;
+    if front > end {
+        return None;
+    }
+    front_numbers(H::Packet::WAY, nid, bits_at(piece, 0, front))?;
+    let mut store = PacketCount::<H::Packet>::new();
+    match take_run(
+        &mut store,
+        Carrier::Message(H::Packet::WAY),
+        end - front,
+        piece,
+        front,
+    )? {
+        Run::All(_) => Some(bytes),
+        Run::First(_) => None,
+    }
+}
+
+/// NID_MESSAGE and L_MESSAGE of the message that a piece begins with, if as many bytes lie in it.
+#[inline(always)]
+fn frame_at(piece: &[u8]) -> Option<(u8, usize)>
+    ensures small { IfSome result (λ t. t.0 < 2 ^ 8) }
+    ensures number { IfSome result (λ t. num 8 t.0 ≡ bit_lists.part 0 8 (bits piece.now)) }
+    ensures length { IfSome result (λ t. num 10 t.1 ≡ bit_lists.part 8 10 (bits piece.now)) }
+    ensures least { IfSome result (λ t. 3 ≤ t.1) }
+    ensures most { IfSome result (λ t. t.1 < 2 ^ 10) }
+    ensures within { IfSome result (λ t. t.1 ≤ length piece.now) }
+    ensures inside { IfSome result (λ t. 8 * t.1 ≤ length (bits piece.now)) }
+{
     if piece.len() < 3 {
         return None;
     }
@@ -62,10 +111,7 @@ pub(crate) fn message_at<H: Head, B: Own<Front = H>>(
     if bytes < 3 || bytes > piece.len() {
         return None;
     }
-    match front_bits(H::Packet::WAY, nid) {
-        Some(front) => Some((typed_at(room, nid, front, piece, bytes, part)?, bytes)),
-        None => Some((kept_at(room.alloc(), nid, piece, bytes)?, bytes)),
-    }
+    Some((nid, bytes))
 }
 
 /// The message of a number that isn't typed, whose bits after L_MESSAGE are kept.
@@ -182,13 +228,24 @@ fn front_at<H: Head, B: Own<Front = H>>(nid: u8, bits: BitSlice<'_>) -> Option<(
     requires typed { (vars : List Var) × (front_row H.Packet.WAY nid ≡ Some vars) × (length bits ≡ front_bits vars) }
     ensures { IfSome result (λ t. (f : List ℕ) × FrontAt (front_vars H.Packet.WAY nid) bits.entry 18 f (length bits.entry) × IsFrontBy H.Packet.WAY H.head B.own nid f t.0 t.1) }
 {
+    let numbers = front_numbers(H::Packet::WAY, nid, bits)?;
+    Some(front_by(nid, numbers.as_slice()))
+}
+
+/// The numbers of the variables before the packets of a typed message of this number, after L_MESSAGE, if each is
+/// admitted. The bits are those of the message before its packets.
+#[inline(always)]
+fn front_numbers(way: Way, nid: u8, bits: BitSlice<'_>) -> Option<ArrayVec<u64, 5>>
+    requires typed { (vars : List Var) × (front_row way nid ≡ Some vars) × (length bits ≡ front_bits vars) }
+    ensures { IfSome result (λ f. WholeFront way nid bits.entry f.items) }
+{
     let mut walker = SliceWalker::new(bits);
     walker.next(NUMBER_BITS + LENGTH_BITS)?;
     let mut numbers = ArrayVec::new();
-    take_items(head_row(H::Packet::WAY).items, &mut walker, &mut numbers)?;
-    let row = message_row(H::Packet::WAY, nid)?;
+    take_items(head_row(way).items, &mut walker, &mut numbers)?;
+    let row = message_row(way, nid)?;
     take_items(row.items, &mut walker, &mut numbers)?;
-    Some(front_by(nid, numbers.as_slice()))
+    Some(numbers)
 }
 
 /// Takes the number of a variable, if it is admitted.

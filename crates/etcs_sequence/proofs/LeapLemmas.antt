@@ -74,12 +74,6 @@ pub whole_at : (way : Way) (c : Carrier) → way_of c ≡ way → (H H' : Holds)
 whole_at way c to H H' xs at l nid dir frame within held v t is =
     whole_of c H H' xs at l nid dir frame within (λ vs u h t' is'. held vs u h t' (subst (λ (w : Way). IsPacketTo w u) to is')) v t (subst (λ (w : Way). IsPacketTo w v) (sym to) is)
 
--- before a packet a store holds packets alone
-pub held_at_number : (c : Carrier) (s : Stage) (H : Holds) → s ≡ Number → ((q : Reading) × HoldsAt c s H q) → (vs : List PacketValue) × H vs [] []
-held_at_number c s H number (q, held) =
-    let (vs, f, k, h, holds, all, (ef, ek, eh), eq) : HoldsAt c Number H q = rw number at held in
-    (vs, rw (ef, ek) at holds)
-
 pub leapt_held : (c c' : Carrier) (H H' : Holds) (xs : List Bool) (at l : ℕ) (s s' : Stage) (w : WholeAt c H H' xs at l) → s ≡ Number → c' ≡ c → Here c' s' [] [] [] → (q : Reading) → HoldsAt c s H q → HoldsAt c' s' H' (q ++ reading_to (way_of c) w.packet)
 leapt_held c c' H H' xs at l s s' w number same here q held =
     let one = reading_to (way_of c) w.packet in

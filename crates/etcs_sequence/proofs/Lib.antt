@@ -27,8 +27,8 @@ pub mod PacketLemmas
 pub mod Padding
 pub mod Resuming
 pub mod RoundTrips
-pub mod RowBits
 pub mod RunLemmas
+pub mod SeenLemmas
 pub mod Sent
 pub mod Splits
 pub mod StageLaws

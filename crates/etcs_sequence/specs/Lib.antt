@@ -11,7 +11,6 @@ pub mod Leaps
 pub mod Lefts
 pub mod Readables
 pub mod Refs
-pub mod RowBits
 pub mod Runs
 pub mod Spellings
 pub mod Progress

@@ -7,7 +7,6 @@
 //! and returns.
 #![tactic(auto)]
 
-mod count;
 mod fault;
 mod first;
 mod held;
@@ -22,14 +21,13 @@ mod packets;
 mod packets_in;
 mod pieces;
 mod room;
-mod row_bits;
 mod run;
+mod seen;
 mod sending;
 mod stage;
 mod state;
 mod store;
 
-pub use count::PacketCount;
 pub use etcs_bits::BitSlice;
 pub use etcs_packets::Packet;
 pub use etcs_vars::{Fed, ReadFault, Var};
@@ -40,6 +38,7 @@ pub use list_store::ListStore;
 pub use packet_ref::PacketRef;
 pub use packets::PacketsRest;
 pub use packets_in::Packets;
+pub use seen::PacketCount;
 pub use stage::Stage;
 pub use state::PacketsState;
-pub use store::PacketStore;
+pub use store::{PacketSink, PacketStore};

@@ -3,7 +3,8 @@
 ghost use Rattle.std.specs.Prelude.{◌≡◌, ℕ, Bool, List, [], ◌∷◌, ◌++◌, ⊤, OnOk, map, All};
 ghost use Rattle.etcs_sequence.specs.Held.{list_holds};
 
-use crate::store::PacketStore;
+use crate::pieces::bits_at;
+use crate::store::{PacketSink, PacketStore};
 use etcs_bits::inner::append;
 use etcs_bits::{BitSlice, Bits};
 use etcs_packets::inner::AnyPacket;
@@ -55,13 +56,49 @@ fn put<P: AnyPacket>(packets: &mut Vec<P>, packet: P) -> Result<(), AllocError>
     }
 }
 
-impl<P: AnyPacket> PacketStore for PacketList<P> {
+impl<P: AnyPacket> PacketSink for PacketList<P> {
     ghost WAY = { P.WAY };
 
     ghost holds = { λ s. list_holds P.form s.packets.items s.numbers.items s.bits };
 
+    ghost before = { λ s. [] };
+
     ghost fails = { ⊤ };
 
+    fn marker(&mut self, number: u8) -> Result<(), AllocError> {
+        match P::of_marker(number) {
+            Some(packet) => put(&mut self.packets, packet),
+            None => Ok(()),
+        }
+    }
+
+    fn keep(&mut self, nid: u8, dir: u8, body: &BitSlice<'_>) -> Result<(), AllocError> {
+        let bits = Bits::from_slice(self.alloc, body.all())?;
+        put(&mut self.packets, P::of_kept(nid, dir, bits))
+    }
+
+    #[inline(always)]
+    fn whole(
+        &mut self,
+        nid: u8,
+        dir: u8,
+        piece: &[u8],
+        at: usize,
+        len: usize,
+    ) -> Result<bool, AllocError> {
+        match P::of_bits(self.alloc, nid, dir, bits_at(piece, at, len)) {
+            Ok(Some(packet)) => {
+                packet.hold();
+                put(&mut self.packets, packet)?;
+                Ok(true)
+            }
+            Ok(None) => Ok(false),
+            Err(error) => Err(error),
+        }
+    }
+}
+
+impl<P: AnyPacket> PacketStore for PacketList<P> {
     #[inline]
     fn number(&mut self, number: u64) -> Result<(), AllocError> {
         match self.numbers.push(number) {
@@ -74,13 +111,6 @@ impl<P: AnyPacket> PacketStore for PacketList<P> {
         match append(&mut self.bits, slice) {
             Ok(()) => Ok(()),
             Err(error) => Err(error),
-        }
-    }
-
-    fn marker(&mut self, number: u8) -> Result<(), AllocError> {
-        match P::of_marker(number) {
-            Some(packet) => put(&mut self.packets, packet),
-            None => Ok(()),
         }
     }
 
@@ -100,18 +130,5 @@ impl<P: AnyPacket> PacketStore for PacketList<P> {
     fn kept(&mut self, nid: u8, dir: u8) -> Result<(), AllocError> {
         let body = mem::replace(&mut self.bits, Bits::new(self.alloc));
         put(&mut self.packets, P::of_kept(nid, dir, body))
-    }
-
-    #[inline(always)]
-    fn whole(&mut self, nid: u8, dir: u8, body: BitSlice<'_>) -> Result<bool, AllocError> {
-        match P::of_bits(self.alloc, nid, dir, body) {
-            Ok(Some(packet)) => {
-                packet.hold();
-                put(&mut self.packets, packet)?;
-                Ok(true)
-            }
-            Ok(None) => Ok(false),
-            Err(error) => Err(error),
-        }
     }
 }

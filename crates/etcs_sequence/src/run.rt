@@ -1,7 +1,7 @@
 //! Packets that lie whole in a piece, and all packets of a room in one pass.
 
 ghost use Rattle.std.specs.Prelude.{◌≡◌, ◌≤◌, ◌<◌, ◌+◌, ◌-◌, ◌^◌, [], None, ℕ, Bool, false, List, length, IsTrue, IfOk, IfSome, IsNone, OnOk, OnErr};
-ghost use Rattle.etcs_bits.specs.Bits.{bits};
+ghost use Rattle.etcs_bits.specs.Bits.{bits, part};
 ghost use Rattle.etcs_bits.specs.NextBits.{AreNext};
 ghost use Rattle.etcs_vars.specs.Reading.{spelled};
 ghost use Rattle.etcs_tables.specs.Frames.{frame_bits, kept_limit};
@@ -13,7 +13,7 @@ ghost use Rattle.etcs_sequence.specs.Contents.{closing};
 ghost use Rattle.etcs_sequence.specs.AtOnce.{IsFrameIn, IsPut, WholeAt, RunIs, ClosesAt};
 
 use crate::inner::bits_at;
-use crate::store::PacketStore;
+use crate::store::PacketSink;
 use etcs_bits::{BitSlice, next_bits};
 use etcs_flat::inner::check_other;
 use etcs_rows::inner::{Carrier, MOST_PADDING};
@@ -72,24 +72,6 @@ fn closes(carrier: Carrier, left: usize, word: u64) -> bool
     }
 }
 
-/// Keeps the bits after L_PACKET, if there are any.
-///
-/// # Errors
-///
-/// `AllocError`: out of memory. No clause says what the store holds then.
-#[inline(always)]
-fn keep_bits<S: PacketStore>(store: &mut S, body: &BitSlice<'_>) -> Result<(), AllocError>
-    requires small { length body.now ≤ 8191 }
-    requires held { ∥ ((vs : List PacketValue) × S.holds store.old vs [] []) ∥₁ }
-    ensures ok { OnOk result ((vs : List PacketValue) → S.holds store.old vs [] [] → S.holds store.new vs [] body.now) }
-    ensures err { OnErr result S.fails }
-{
-    if body.is_empty() {
-        return Ok(());
-    }
-    store.bits(body)
-}
-
 /// Keeps the packet of this number and direction with these bits after L_PACKET, if it isn't typed, and returns whether
 /// it may be kept. If it may not, the store stays as it was.
 ///
@@ -97,7 +79,7 @@ fn keep_bits<S: PacketStore>(store: &mut S, body: &BitSlice<'_>) -> Result<(), A
 ///
 /// `AllocError`: out of memory. No clause says what the store holds then.
 #[inline(never)]
-fn keep_packet<S: PacketStore>(
+fn keep_packet<S: PacketSink>(
     store: &mut S,
     way: Way,
     nid: u8,
@@ -105,46 +87,49 @@ fn keep_packet<S: PacketStore>(
     body: &BitSlice<'_>,
 ) -> Result<bool, AllocError>
     requires way { way ≡ S.WAY }
-    requires held { ∥ ((vs : List PacketValue) × S.holds store.old vs [] []) ∥₁ }
     ensures whole { IfOk result (λ b. IsTrue b → IsPut way nid dir body.now (S.holds store.old) (S.holds store.new)) }
     ensures none { IfOk result (λ b. b ≡ false → store.new ≡ store.old) }
+    ensures before { S.before store.new ≡ S.before store.old }
     ensures err { OnErr result S.fails }
 {
     match check_other(way, nid, dir, body.len()) {
         Ok(()) => {}
         Err(_) => return Ok(false),
     }
-    keep_bits(store, body)?;
-    store.kept(nid, dir)?;
+    store.keep(nid, dir, body)?;
     Ok(true)
 }
 
-/// Puts the packet of this number and direction with these bits after L_PACKET into a store, typed or kept, and returns
+/// Puts the packet of this number and direction with these bits of a piece after L_PACKET into a store, typed or kept, and returns
 /// whether there is such a packet. If there is none, the store stays as it was.
 ///
 /// # Errors
 ///
 /// `AllocError`: out of memory. No clause says what the store holds then.
 #[inline(always)]
-fn put_packet<S: PacketStore>(
+fn put_packet<S: PacketSink>(
     store: &mut S,
     way: Way,
     nid: u8,
     dir: u8,
-    body: BitSlice<'_>,
+    piece: &[u8],
+    at: usize,
+    len: usize,
 ) -> Result<bool, AllocError>
     requires way { way ≡ S.WAY }
-    requires small { length body ≤ kept_limit S.WAY }
-    requires held { ∥ ((vs : List PacketValue) × S.holds store.old vs [] []) ∥₁ }
-    ensures whole { IfOk result (λ b. IsTrue b → IsPut way nid dir body.entry (S.holds store.old) (S.holds store.new)) }
+    requires inside { at + len ≤ length (bits piece.now) }
+    requires small { length (bits piece.now) < 2 ^ 64 }
+    requires short { len ≤ kept_limit S.WAY }
+    ensures whole { IfOk result (λ b. IsTrue b → IsPut way nid dir (part at len (bits piece.now)) (S.holds store.old) (S.holds store.new)) }
     ensures none { IfOk result (λ b. b ≡ false → store.new ≡ store.old) }
+    ensures before { S.before store.new ≡ S.before store.old }
     ensures err { OnErr result S.fails }
 {
-    let typed = store.whole(nid, dir, body.all())?;
+    let typed = store.whole(nid, dir, piece, at, len)?;
     if typed {
         return Ok(true);
     }
-    keep_packet(store, way, nid, dir, &body)
+    keep_packet(store, way, nid, dir, &bits_at(piece, at, len))
 }
 
 /// Takes packet 0, the marker, of a telegram that has this many bits left, of which the word has the first, and returns
@@ -154,7 +139,7 @@ fn put_packet<S: PacketStore>(
 ///
 /// `AllocError`: out of memory. No clause says what the store holds then.
 #[inline(never)]
-fn take_marker<S: PacketStore>(
+fn take_marker<S: PacketSink>(
     store: &mut S,
     room: usize,
     word: u64,
@@ -165,6 +150,7 @@ fn take_marker<S: PacketStore>(
     ensures left { IfOk result (λ o. IfSome o (λ n. IsTrue (may_be_left Telegram (room - n)))) }
     ensures whole { (xs : List Bool) (at : ℕ) → AreNext word xs at → at + room ≤ length xs → IfOk result (λ o. IfSome o (λ n. WholeAt Telegram (S.holds store.old) (S.holds store.new) xs at n)) }
     ensures none { IfOk result (λ o. IsNone o → store.new ≡ store.old) }
+    ensures before { S.before store.new ≡ S.before store.old }
 {
     if room < MARKER_BITS + CLOSING_BITS {
         return Ok(None);
@@ -206,7 +192,7 @@ fn fits(carrier: Carrier, room: usize, len: usize) -> bool
 ///
 /// `AllocError`: out of memory. No clause says what the store holds then.
 #[inline(always)]
-pub(crate) fn take_framed<S: PacketStore>(
+pub(crate) fn take_framed<S: PacketSink>(
     store: &mut S,
     carrier: Carrier,
     room: usize,
@@ -220,11 +206,11 @@ pub(crate) fn take_framed<S: PacketStore>(
     requires small { length (bits piece.now) < 2 ^ 64 }
     requires room { room ≤ 8191 }
     requires word { AreNext word (bits piece.now) at }
-    requires held { ∥ ((vs : List PacketValue) × S.holds store.old vs [] []) ∥₁ }
     ensures within { IfOk result (λ o. IfSome o (λ n. (0 < n) × (n ≤ room) × (n ≤ count))) }
     ensures left { IfOk result (λ o. IfSome o (λ n. IsTrue (may_be_left carrier (room - n)))) }
     ensures whole { IfOk result (λ o. IfSome o (λ n. WholeAt carrier (S.holds store.old) (S.holds store.new) (bits piece.now) at n)) }
     ensures none { IfOk result (λ o. IsNone o → store.new ≡ store.old) }
+    ensures before { S.before store.new ≡ S.before store.old }
     ensures err { OnErr result S.fails }
     ensures viable { OnErr result ((len : ℕ) × (frame_bits (way_of carrier) ≤ len) × (len ≤ room) × IsTrue (may_be_left carrier (room - len))) }
 {
@@ -234,8 +220,7 @@ pub(crate) fn take_framed<S: PacketStore>(
     if len < front || len > count || !fits(carrier, room, len) {
         return Ok(None);
     }
-    let body = bits_at(piece, at + front, len - front);
-    let put = put_packet(store, way, nid, dir, body)?;
+    let put = put_packet(store, way, nid, dir, piece, at + front, len - front)?;
     if put {
         return Ok(Some(len));
     }
@@ -249,7 +234,7 @@ pub(crate) fn take_framed<S: PacketStore>(
 ///
 /// `AllocError`: out of memory. No clause says what the store holds then.
 #[inline(always)]
-fn take_packet<S: PacketStore>(
+fn take_packet<S: PacketSink>(
     store: &mut S,
     carrier: Carrier,
     room: usize,
@@ -262,11 +247,11 @@ fn take_packet<S: PacketStore>(
     requires small { length (bits piece.now) < 2 ^ 64 }
     requires room { room ≤ 8191 }
     requires word { AreNext word (bits piece.now) at }
-    requires held { ∥ ((vs : List PacketValue) × S.holds store.old vs [] []) ∥₁ }
     ensures within { IfOk result (λ o. IfSome o (λ n. (0 < n) × (n ≤ room))) }
     ensures left { IfOk result (λ o. IfSome o (λ n. IsTrue (may_be_left carrier (room - n)))) }
     ensures whole { IfOk result (λ o. IfSome o (λ n. WholeAt carrier (S.holds store.old) (S.holds store.new) (bits piece.now) at n)) }
     ensures none { IfOk result (λ o. IsNone o → store.new ≡ store.old) }
+    ensures before { S.before store.new ≡ S.before store.old }
 {
     match carrier {
         Carrier::Telegram if word >> 56 == 0 => take_marker(store, room, word),
@@ -288,11 +273,11 @@ pub enum Run {
 /// the `First` the bits before are these packets, and others or what closes them may come. The store holds the packets.
 ///
 /// It may always return `None`, for instance if the first bits aren't those of a packet or if out of memory. No clause
-/// says when, nor what the store then holds.
+/// says when, nor which packets the store then holds.
 ///
 /// Requires that the store's packets go the carrier's way, that it holds nothing, that the piece holds the room,
 /// that the room has at most 8,191 bits, and that a word counts the bits of the piece.
-pub fn take_run<S: PacketStore>(
+pub fn take_run<S: PacketSink>(
     store: &mut S,
     carrier: Carrier,
     room: usize,
@@ -304,7 +289,8 @@ pub fn take_run<S: PacketStore>(
     requires inside { at + room ≤ length (bits piece.now) }
     requires small { length (bits piece.now) < 2 ^ 64 }
     requires room { room ≤ 8191 }
-    ensures { IfSome result (λ run. RunIs carrier room (S.holds store.new) (bits piece.now) at run) }
+    ensures run { IfSome result (λ run. RunIs carrier room (S.holds store.new) (bits piece.now) at run) }
+    ensures before { S.before store.new ≡ S.before store.old }
 {
     let mut left = room;
     let mut place = at;
@@ -324,4 +310,35 @@ pub fn take_run<S: PacketStore>(
         word = next_bits(piece, place);
     }
     Some(Run::All(left - closing_bits(carrier)))
+}
+
+/// How many bits of a room are left after packets and what closes them, by the lengths of the packets alone: as many as
+/// [`take_run`] returns if it takes all of them. `None` if the lengths don't fit the room, which begins at bit `at` of a piece.
+///
+/// Requires that the piece holds the room, and that a word counts the bits of the piece.
+pub fn left_by_lengths(carrier: Carrier, room: usize, piece: &[u8], at: usize) -> Option<usize>
+    requires inside { at + room ≤ length (bits piece.now) }
+    requires small { length (bits piece.now) < 2 ^ 64 }
+    ensures { IfSome result (λ left. left ≤ room) }
+{
+    let mut left = room;
+    let mut word = next_bits(piece, at);
+    while !closes(carrier, left, word) {
+        let len = packet_length(carrier, word);
+        if len == 0 || len > left {
+            return None;
+        }
+        left -= len;
+        word = next_bits(piece, at + (room - left));
+    }
+    Some(left - closing_bits(carrier))
+}
+
+/// How many bits the packet has whose first bits the word has.
+#[inline(always)]
+fn packet_length(carrier: Carrier, word: u64) -> usize {
+    match carrier {
+        Carrier::Telegram if word >> 56 == 0 => MARKER_BITS,
+        _ => frame_in(carrier.way(), word).len,
+    }
 }

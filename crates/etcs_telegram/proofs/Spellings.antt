@@ -110,7 +110,7 @@ whole_length size r (t, (st, x)) =
 abbrev made : Size → HeaderValue → List PacketValue → List Bool → TelegramValue
 made s h ps f = record { size = s; header = h; packets = ps; fill = f }
 
-parts_one : (t u : TelegramValue) → t.size ≡ u.size → t.header ≡ u.header → t.packets ≡ u.packets → t.fill ≡ u.fill → t ≡ u
+pub parts_one : (t u : TelegramValue) → t.size ≡ u.size → t.header ≡ u.header → t.packets ≡ u.packets → t.fill ≡ u.fill → t ≡ u
 parts_one t u s h p f i = made (s i) (h i) (p i) (f i)
 
 pub one_value : (t u : TelegramValue) (r : Reading) → t.size ≡ u.size → TelegramReads t r → TelegramReads u r → t ≡ u

@@ -17,13 +17,14 @@ use Rattle.etcs_vars.specs.laws.Spellings.{spelled-append}
 use Rattle.etcs_rows.specs.declared.frames.Carrier.TheVariants as carrier
 use Rattle.etcs_rows.proofs.LengthLemmas.{length-spelled}
 use Rattle.etcs_tables.specs.declared.row.Way.TheVariants.{ToTrain}
+use Rattle.etcs_packets.specs.declared.packet.Packet.{Packet}
 use Rattle.etcs_packets.specs.PacketValues.{PacketValue}
 use Rattle.etcs_packets.specs.PacketReadings.{packet_reading, packets_reading}
 use Rattle.etcs_packets.specs.laws.PacketReadings.{packet_bits}
 use Rattle.etcs_sequence.specs.Contents.{closing}
 use Rattle.etcs_sequence.specs.laws.Agreement.{some_bits}
 use Rattle.etcs_sequence.specs.AtOnce.{Holds}
-use Rattle.etcs_sequence.specs.declared.count.PacketCount.{PacketCount}
+use Rattle.etcs_sequence.specs.declared.seen.PacketCount.{PacketCount}
 use Rattle.etcs_sequence.specs.laws.BitLaws.{bits_spelled}
 use Rattle.etcs_sequence.specs.Refs.{ArePackets}
 use Rattle.etcs_telegram.specs.declared.size.Size.{Size}
@@ -70,10 +71,10 @@ none_wanted size b x long o =
     o.open_end (r, l, e ∙ ap (λ (u : List Bool). b ++ u) none ∙ append-nil b)
 
 -- what is read of a telegram's bits, with packets that are counted
-abbrev pub counts : PacketCount → Holds
+abbrev pub counts : PacketCount Packet → Holds
 counts store vs f k = length vs % 2 ^ 64 ≡ store.packets
 
-whole_seen : (size : Size) (b : List Bool) (header : List ℕ) (room : ℕ) (store : PacketCount) (q : Reading) → TelegramLanguage size q → Filled header (counts store) room 0 (pad_bits size) q → spelled q ≡ b → ViewIn size b (header_of header) store.packets (user_bits size - room) × IsHeaderNumbers header × (room ≤ user_bits size)
+whole_seen : (size : Size) (b : List Bool) (header : List ℕ) (room : ℕ) (store : PacketCount Packet) (q : Reading) → TelegramLanguage size q → Filled header (counts store) room 0 (pad_bits size) q → spelled q ≡ b → ViewIn size b (header_of header) store.packets (user_bits size - room) × IsHeaderNumbers header × (room ≤ user_bits size)
 whole_seen size b header room store q l f e =
     let (reads, numbers) = whole_reads size header f.packets f.fill q f.ten f.carried l f.reading_is in
     let t : TelegramValue = record { size = size; header = header_of header; packets = f.packets; fill = f.fill } in
@@ -93,7 +94,7 @@ whole_seen size b header room store q l f e =
     )
 
 -- if these bits of all are taken, by the variables q
-pub record Passed (size : Size) (L : Reading → Type 0) (b : List Bool) (t : TelegramState PacketCount) (n : ℕ) (front beyond : List Bool) (q : Reading) : Type 0 where
+pub record Passed (size : Size) (L : Reading → Type 0) (b : List Bool) (t : TelegramState (PacketCount Packet)) (n : ℕ) (front beyond : List Bool) (q : Reading) : Type 0 where
   pub size_is : t.size ≡ size
   pub within : n ≤ length b
   pub none : front ≡ []
@@ -102,11 +103,11 @@ pub record Passed (size : Size) (L : Reading → Type 0) (b : List Bool) (t : Te
   pub bits : spelled q ++ beyond ≡ front ++ take n b
   pub more : (x : Var) → next_var t ≡ Some x → (n ≡ length b) × Owner L (front ++ take n b) x
 
-abbrev pub Seen : Size → List Bool → TelegramState PacketCount → Type 0
+abbrev pub Seen : Size → List Bool → TelegramState (PacketCount Packet) → Type 0
 Seen size b t = ViewIn size b (header_of t.header) t.store.packets (user_bits size - t.left.room) × IsHeaderNumbers t.header × (t.left.room ≤ user_bits size)
 
 module _ (size : Size) (L : Reading → Type 0) (same : Same L (TelegramLanguage size)) (b : List Bool) (long : length b ≡ user_bits size + pad_bits size) where
-  pub all_seen : (t : TelegramState PacketCount) (n : ℕ) (front beyond : List Bool) (q : Reading) → Passed size L b t n front beyond q → Seen size b t
+  pub all_seen : (t : TelegramState (PacketCount Packet)) (n : ℕ) (front beyond : List Bool) (q : Reading) → Passed size L b t n front beyond q → Seen size b t
   all_seen t n front beyond q p = by_next (next_var t) refl
     where
       taken : spelled q ++ beyond ≡ take n b

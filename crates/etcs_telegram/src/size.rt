@@ -10,8 +10,10 @@ pub enum Size {
 }
 
 impl Size {
-    ghost use Rattle.std.specs.Prelude.{◌≡◌};
-    ghost use Rattle.etcs_telegram.specs.Telegrams.{user_bits, pad_bits, packet_room, container_bytes};
+    ghost use Rattle.std.specs.Prelude.{◌≡◌, ◌*◌, ◌≤◌, ◌<◌, ◌^◌, length, IsTrue};
+    ghost use Rattle.etcs_bits.specs.Bits.{bits, part};
+    ghost use Rattle.etcs_vars.specs.Reading.{Reading, spelled};
+    ghost use Rattle.etcs_telegram.specs.Telegrams.{ReadsAs, TelegramValue, user_bits, pad_bits, packet_room, container_bytes};
 
     /// How many bits come before PAD: 210 or 830.
     pub fn user_bits(self) -> usize
@@ -41,6 +43,19 @@ impl Size {
             Size::Short => 27,
             Size::Long => 104,
         }
+    }
+
+    /// If true, the piece begins with the bytes of a telegram of this size: 27 or 104. False says nothing: then a
+    /// [`TelegramReader`](crate::TelegramReader) decides. Takes no memory.
+    ///
+    /// Requires that a word counts the bits of the piece.
+    #[inline(never)]
+    pub fn sees(self, piece: &[u8]) -> bool
+        requires small { length (bits piece.now) < 2 ^ 64 }
+        ensures within { IsTrue result → container_bytes self ≤ length piece.now }
+        ensures reads { IsTrue result → (t : TelegramValue) × (r : Reading) × ReadsAs self t r × (spelled r ≡ part 0 (8 * container_bytes self) (bits piece.now)) }
+    {
+        crate::whole::sees(self, piece)
     }
 
     /// How many user bits the header leaves to packets, packet 255 and FILL: 160 or 780.

@@ -13,6 +13,7 @@ use crate::header_bits::HEADER_BITS;
 use crate::rest::TelegramRest;
 use crate::size::Size;
 use etcs_bits::BitSlice;
+use etcs_packets::Packet;
 use etcs_reader::{Feeder, Stop};
 use etcs_sequence::inner::{bits_at, packets};
 use etcs_sequence::{PacketCount, Packets};
@@ -85,7 +86,7 @@ impl<'a> TelegramView<'a> {
         if bytes.len() != size.container_bytes() {
             return Err(ViewFault::Length);
         }
-        let mut feeder = Feeder::new(TelegramRest::new(size, PacketCount { packets: 0 }));
+        let mut feeder = Feeder::new(TelegramRest::new(size, PacketCount::<Packet>::new()));
         match feeder.feed(bytes) {
             Ok(_) => {
                 let rest = feeder.rest();

@@ -1,13 +1,14 @@
 //! A telegram that lies whole in a piece, in one pass.
 
-ghost use Rattle.std.specs.Prelude.{◌≡◌, ◌*◌, ◌≤◌, ◌<◌, ◌^◌, length, IfSome};
+ghost use Rattle.std.specs.Prelude.{◌≡◌, ◌*◌, ◌≤◌, ◌<◌, ◌^◌, length, IfSome, IsTrue};
 ghost use Rattle.etcs_bits.specs.Bits as bit_lists;
-ghost use Rattle.etcs_bits.specs.Bits.{bits};
+ghost use Rattle.etcs_bits.specs.Bits.{num, bits};
 ghost use Rattle.etcs_vars.specs.Reading.{Reading, spelled};
 ghost use Rattle.etcs_sequence.specs.AtOnce.{RunFirst};
-ghost use Rattle.etcs_telegram.specs.Telegrams.{IsTelegram, ReadsAs, telegram_value, container_bytes, packet_room};
+ghost use Rattle.etcs_telegram.specs.Telegrams.{IsAdmitted, IsTelegram, ReadsAs, TelegramValue, telegram_value, header_reading, user_bits, pad_bits, container_bytes, packet_room};
 ghost use Rattle.etcs_telegram.specs.Readers.{store_holds, IsTelegramPart};
 
+use crate::header::Header;
 use crate::header_bits::{HEADER_BITS, header_at_front};
 use crate::rest::TelegramRest;
 use crate::size::Size;
@@ -18,7 +19,7 @@ use etcs_packets::Packet;
 use etcs_reader::Rest;
 use etcs_rows::inner::Carrier;
 use etcs_sequence::inner::{Room, Run, bits_at, number_at, take_run};
-use etcs_sequence::{ItemRest, PacketStore};
+use etcs_sequence::{ItemRest, PacketCount, PacketStore};
 use std::alloc::Global;
 
 /// The telegram of this size that a piece begins with. It may always return `None`, as it does if the piece begins with
@@ -38,12 +39,7 @@ pub(crate) fn telegram_at(
     ensures left { IfSome result (λ t. part.new ≡ part.old) }
     ensures part { IfSome part.new (λ t. IsTelegramPart size (bits piece.now) t.0 t.1) }
 {
-    if piece.len() < size.container_bytes()
-        || number_at(piece, size.user_bits(), size.pad_bits()) > 0
-    {
-        return None;
-    }
-    let header = header_at_front(piece)?;
+    let header = front_of(size, piece)?;
     let list = room.take();
     let mut store = TelegramStore { list };
     let bits = size.packet_room();
@@ -64,6 +60,45 @@ pub(crate) fn telegram_at(
         packets: ListOf::from_vec(store.list.packets),
         fill: store.list.bits,
     })
+}
+
+/// The header that a piece begins with, if the piece has all bytes of a telegram of this size, whose bits of PAD are
+/// zeros. `None` if it doesn't, or if one of the header's variables doesn't admit its number.
+#[inline(always)]
+fn front_of(size: Size, piece: &[u8]) -> Option<Header>
+    ensures within { IfSome result (λ h. container_bytes size ≤ length piece.now) }
+    ensures pad { IfSome result (λ h. bit_lists.part (user_bits size) (pad_bits size) (bits piece.now) ≡ num (pad_bits size) 0) }
+    ensures admitted { IfSome result (λ h. IsAdmitted (header_reading h)) }
+    ensures bits { IfSome result (λ h. spelled (header_reading h) ≡ bit_lists.part 0 50 (bits piece.now)) }
+{
+    if piece.len() < size.container_bytes()
+        || number_at(piece, size.user_bits(), size.pad_bits()) > 0
+    {
+        return None;
+    }
+    header_at_front(piece)
+}
+
+/// If true, the piece begins with a telegram of this size. It may always return false. Takes no memory.
+pub(crate) fn sees(size: Size, piece: &[u8]) -> bool
+    requires small { length (bits piece.now) < 2 ^ 64 }
+    ensures within { IsTrue result → container_bytes size ≤ length piece.now }
+    ensures reads { IsTrue result → (t : TelegramValue) × (r : Reading) × ReadsAs size t r × (spelled r ≡ bit_lists.part 0 (8 * container_bytes size) (bits piece.now)) }
+{
+    if front_of(size, piece).is_none() {
+        return false;
+    }
+    let mut store = PacketCount::<Packet>::new();
+    matches!(
+        take_run(
+            &mut store,
+            Carrier::Telegram,
+            size.packet_room(),
+            piece,
+            HEADER_BITS
+        ),
+        Some(Run::All(_))
+    )
 }
 
 /// Puts into `part` what is left after the header that a piece begins with, and after the packets that a store has taken of

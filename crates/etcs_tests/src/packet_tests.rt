@@ -36,8 +36,8 @@ fn listed(alloc: Global) -> Feeder<PacketsRest<PacketList<Packet>>> {
 }
 
 /// A reader that counts them.
-fn counted() -> Feeder<PacketsRest<PacketCount>> {
-    reader_of(PacketCount { packets: 0 })
+fn counted() -> Feeder<PacketsRest<PacketCount<Packet>>> {
+    reader_of(PacketCount::new())
 }
 
 /// Whether these are the packets of `BOTH`.

@@ -1,9 +1,9 @@
 //! The packets of a message, as its reader makes them.
 
-ghost use Rattle.std.specs.Prelude.{⊤};
+ghost use Rattle.std.specs.Prelude.{[], ⊤};
 
 use etcs_bits::BitSlice;
-use etcs_sequence::{ListStore, PacketList, PacketStore};
+use etcs_sequence::{ListStore, PacketList, PacketSink, PacketStore};
 use etcs_track::TrainPacket;
 use std::alloc::AllocError;
 
@@ -13,7 +13,7 @@ pub struct TrainStore {
     packets: PacketList<TrainPacket>,
 }
 
-impl PacketStore for TrainStore {
+impl PacketSink for TrainStore {
     ghost use Rattle.etcs_tables.specs.declared.row.Way.TheVariants.{ToTrack};
     ghost use Rattle.etcs_track.specs.TrackPackets.{track_form};
     ghost use Rattle.etcs_sequence.specs.Held.{list_holds};
@@ -22,8 +22,34 @@ impl PacketStore for TrainStore {
 
     ghost holds = { λ s. list_holds track_form s.packets.packets.items s.packets.numbers.items s.packets.bits };
 
+    ghost before = { λ s. [] };
+
     ghost fails = { ⊤ };
 
+    #[inline(always)]
+    fn marker(&mut self, number: u8) -> Result<(), AllocError> {
+        self.packets.marker(number)
+    }
+
+    #[inline]
+    fn keep(&mut self, nid: u8, dir: u8, body: &BitSlice<'_>) -> Result<(), AllocError> {
+        self.packets.keep(nid, dir, body)
+    }
+
+    #[inline(always)]
+    fn whole(
+        &mut self,
+        nid: u8,
+        dir: u8,
+        piece: &[u8],
+        at: usize,
+        len: usize,
+    ) -> Result<bool, AllocError> {
+        self.packets.whole(nid, dir, piece, at, len)
+    }
+}
+
+impl PacketStore for TrainStore {
     #[inline(always)]
     fn number(&mut self, number: u64) -> Result<(), AllocError> {
         self.packets.number(number)
@@ -35,11 +61,6 @@ impl PacketStore for TrainStore {
     }
 
     #[inline(always)]
-    fn marker(&mut self, number: u8) -> Result<(), AllocError> {
-        self.packets.marker(number)
-    }
-
-    #[inline(always)]
     fn typed(&mut self, nid: u8, dir: u8) -> Result<(), AllocError> {
         self.packets.typed(nid, dir)
     }
@@ -47,11 +68,6 @@ impl PacketStore for TrainStore {
     #[inline(always)]
     fn kept(&mut self, nid: u8, dir: u8) -> Result<(), AllocError> {
         self.packets.kept(nid, dir)
-    }
-
-    #[inline(always)]
-    fn whole(&mut self, nid: u8, dir: u8, body: BitSlice<'_>) -> Result<bool, AllocError> {
-        self.packets.whole(nid, dir, body)
     }
 }
 

@@ -16,4 +16,4 @@ returns g c =
     let m = c.pass_front.new.rest in
     let room = c.is_at_packets.ensures.room c.if-not-is_at_packets.false in
     let new = c.new-rest in
-    message_part g.H.Packet.AnyPacket.WAY g.H.Store.PacketStore.holds xs new.result m c.resume.new.self a.front a.end a.left new.ensures.way new.ensures.left new.ensures.holds c.requires.order c.requires.most room some (c.pass_front.ensures c.if-not-pass_front.false) (c.resume.ensures xs a.front (rw room c.requires.run))
+    message_part g.H.Packet.AnyPacket.WAY g.H.Store.PacketSink.holds xs new.result m c.resume.new.self a.front a.end a.left new.ensures.way new.ensures.left new.ensures.holds c.requires.order c.requires.most room some (c.pass_front.ensures c.if-not-pass_front.false) (c.resume.ensures xs a.front (rw room c.requires.run))

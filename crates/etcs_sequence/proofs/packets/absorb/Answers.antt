@@ -22,4 +22,4 @@ pub returns-after-number-eq1-clause-ok : goal.returns-after-number-eq1-clause-ok
 returns-after-number-eq1-clause-ok g c =
     let sent : part 7 1 (bits (c.if-number-eq1.byte ∷ [])) ≡ (c.args.number == 1) ∷ [] = elim c.if-number-eq1.branch [ then-number-eq1 w ↦ one_sent _ _ w.if-number-eq1.true w.byte-is | else-number-eq1 w ↦ none_sent _ _ w.if-number-eq1.false w.byte-is ] in
     let same = c.bits_at.ensures ∙ sent in
-    on_ok_weaker c.bits.result (λ ok vs f k held. rw c.in-Bit.is (subst (λ (t : List Bool). g.S.PacketStore.holds c.bits.new.self vs f (k ++ t)) same (ok vs f k held))) c.bits.ensures.ok
+    on_ok_weaker c.bits.result (λ ok vs f k held. rw c.in-Bit.is (subst (λ (t : List Bool). g.S.PacketSink.holds c.bits.new.self vs f (k ++ t)) same (ok vs f k held))) c.bits.ensures.ok

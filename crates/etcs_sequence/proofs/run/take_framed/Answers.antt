@@ -1,6 +1,5 @@
 use Rattle.std.proofs.Common.{◌≡◌, ◌+◌, ◌-◌, ◌≤◌, length, sym, ap, subst, ◌∙◌, arith}
-use Rattle.etcs_bits.specs.Bits.{bits}
-use Rattle.etcs_bits.proofs.Lists.{length-part}
+use Rattle.etcs_bits.specs.Bits.{bits, part}
 use Rattle.etcs_tables.specs.declared.row.Way.{Way}
 use Rattle.etcs_tables.specs.Frames.{frame_bits, kept_limit}
 use Rattle.etcs_rows.specs.Frames.{way_of}
@@ -14,15 +13,15 @@ fits-requires g c = frame_short c.way-way.result c.args.word c.frame_in-nid.resu
 pub overflow_add-at : goal.overflow_add-at
 overflow_add-at g c = omega (arith, c.requires.inside, c.requires.small, c.if-len-front.false, c.fits.ensures.within c.if-not-fits.false)
 
-pub put_packet-requires-clause-small : goal.put_packet-requires-clause-small
-put_packet-requires-clause-small g c =
+pub put_packet-requires-clause-inside : goal.put_packet-requires-clause-inside
+put_packet-requires-clause-inside g c = omega (arith, c.requires.inside, c.if-len-front.false, c.fits.ensures.within c.if-not-fits.false)
+
+pub put_packet-requires-clause-short : goal.put_packet-requires-clause-short
+put_packet-requires-clause-short g c =
     let a = c.args in
-    let f = c.frame_in-nid.result in
     let front : c.frame_bits-front.result ≡ frame_bits (way_of a.carrier) = c.frame_bits-front.ensures.bits ∙ ap frame_bits c.way-way.ensures in
-    let inside : a.at + c.frame_bits-front.result + (f.len - c.frame_bits-front.result) ≤ length (bits a.piece.now) = omega (arith, c.requires.inside, c.if-len-front.false, c.fits.ensures.within c.if-not-fits.false) in
-    let size = ap length c.bits_at-body.ensures ∙ length-part (a.at + c.frame_bits-front.result) (f.len - c.frame_bits-front.result) (bits a.piece.now) inside in
-    let limit : kept_limit (way_of a.carrier) ≡ kept_limit g.S.PacketStore.WAY = ap kept_limit c.requires.way in
-    omega (arith, size, c.requires.room, c.fits.ensures.within c.if-not-fits.false, front, limit)
+    let limit : kept_limit (way_of a.carrier) ≡ kept_limit g.S.PacketSink.WAY = ap kept_limit c.requires.way in
+    omega (arith, c.requires.room, c.fits.ensures.within c.if-not-fits.false, front, limit)
 
 pub returns-then-put-clause-whole : goal.returns-then-put-clause-whole
 returns-then-put-clause-whole g c =
@@ -35,4 +34,4 @@ returns-then-put-clause-whole g c =
     let least : frame_bits way ≤ f.len = omega (arith, front, c.if-len-front.false) in
     let within : a.at + f.len ≤ length xs = omega (arith, c.requires.inside, c.fits.ensures.within c.if-not-fits.false) in
     let frame : FrameAt way f.nid f.dir f.len a.at xs = word_frame way a.word a.at xs f c.requires.word is-frame least within in
-    c.in_ok-put.ensures.whole c.if-put.true a.carrier xs a.at f.len (sym c.way-way.ensures) frame within (rw front at c.bits_at-body.ensures)
+    c.in_ok-put.ensures.whole c.if-put.true a.carrier xs a.at f.len (sym c.way-way.ensures) frame within (ap (λ k. part (a.at + k) (f.len - k) xs) front)

@@ -14,7 +14,7 @@ content_of-content-requires g c =
     let s = c.args.self in
     let form = g.H.Packet.AnyPacket.form in
     let list = g.H.Store.ListStore.list in
-    let held = held_in_list form list g.H.Store.PacketStore.holds g.met.H.Store.ListStore.listed s _ c.requires.holds.1 in
+    let held = held_in_list form list g.H.Store.PacketSink.holds g.met.H.Store.ListStore.listed s _ c.requires.holds.1 in
     let numbers = whole_numbers g.H.Packet.AnyPacket.WAY g.H.Head.head g.B.Own.own form list g.met.H.Head.laws g.met.B.Own.laws s c.requires.ended c.requires.whole (c.requires.holds.0, held) in
     rw c.as_slice.ensures.value (rw (← c.self.view_is) at numbers)
 
@@ -27,7 +27,7 @@ is_message g c =
     let form = g.H.Packet.AnyPacket.form in
     let list = g.H.Store.ListStore.list in
     let k = list i.packets.store in
-    let held = held_in_list form list g.H.Store.PacketStore.holds g.met.H.Store.ListStore.listed s _ c.requires.holds.1 in
+    let held = held_in_list form list g.H.Store.PacketSink.holds g.met.H.Store.ListStore.listed s _ c.requires.holds.1 in
     let is : c.content_of-content.result ≡ content_by way g.H.Head.head g.B.Own.own (front_row way i.nid) i.nid i.front.items k.packets.items k.bits i.padding =
     c.content_of-content.ensures
     ∙ ap (λ (front : List ℕ). content_by way g.H.Head.head g.B.Own.own (front_row way i.nid) i.nid front c.into_list-store.result.packets.items c.into_list-store.result.bits i.padding) c.as_slice.ensures.value

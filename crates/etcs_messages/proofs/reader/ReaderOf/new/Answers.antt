@@ -15,7 +15,7 @@ new-requires-clause-readable g c =
     let way = g.H.Packet.AnyPacket.WAY in
     let form = g.H.Packet.AnyPacket.form in
     let list = g.H.Store.ListStore.list in
-    let holds = g.H.Store.PacketStore.holds in
+    let holds = g.H.Store.PacketSink.holds in
     let listed = g.met.H.Store.ListStore.listed in
     record {
       regular = regular way;

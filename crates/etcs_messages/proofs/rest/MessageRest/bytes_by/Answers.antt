@@ -11,7 +11,7 @@ overflow_add-result-in-Data g c =
     let i = c.self.inside in
     let v = c.self.view_is in
     let s = state g.H.Packet.AnyPacket.WAY i.nid i.phase i.front.items i.packets.left i.padding i.packets.store i.stands in
-    let few = begins_few _ _ _ (data_begins g.H.Store.PacketStore.holds s _ (rw (← v) at c.requires.held) c.in-Data.left c.in-Data.is) in
+    let few = begins_few _ _ _ (data_begins g.H.Store.PacketSink.holds s _ (rw (← v) at c.requires.held) c.in-Data.left c.in-Data.is) in
     let bits = rw (← v) at c.requires.bits in
     omega (arith, few, bits)
 
@@ -21,7 +21,7 @@ returns-in-Front g c =
     let v = c.self.view_is in
     let way = g.H.Packet.AnyPacket.WAY in
     let s = state way i.nid i.phase i.front.items i.packets.left i.padding i.packets.store i.stands in
-    let begins = front_begins g.H.Store.PacketStore.holds s _ (rw (← v) at c.requires.held) c.in-Front.field-0 c.in-Front.is in
+    let begins = front_begins g.H.Store.PacketSink.holds s _ (rw (← v) at c.requires.held) c.in-Front.field-0 c.in-Front.is in
     let front : c.unwrap_or-front.result ≡ unwrap_or (option_map front_bits (front_row way i.nid)) 0 = c.unwrap_or-front.ensures ∙ ap (λ (o : Option ℕ). unwrap_or o 0) (rw c.WAY.ensures at c.front_bits.ensures) in
     rw (← v) (λ len r e. rw (front, c.ahead.ensures) (begins_bytes _ _ len r _ begins e))
 
@@ -30,7 +30,7 @@ returns-in-Data g c =
     let i = c.self.inside in
     let v = c.self.view_is in
     let s = state g.H.Packet.AnyPacket.WAY i.nid i.phase i.front.items i.packets.left i.padding i.packets.store i.stands in
-    let begins = data_begins g.H.Store.PacketStore.holds s _ (rw (← v) at c.requires.held) c.in-Data.left c.in-Data.is in
+    let begins = data_begins g.H.Store.PacketSink.holds s _ (rw (← v) at c.requires.held) c.in-Data.left c.in-Data.is in
     let bits = rw (← v) at c.requires.bits in
     rw (← v) (λ len r e. rw bits (begins_bytes _ _ len r _ begins e))
 
@@ -41,4 +41,4 @@ returns-in_default g c =
     let s = state g.H.Packet.AnyPacket.WAY i.nid i.phase i.front.items i.packets.left i.padding i.packets.store i.stands in
     let other = c.in_default in
     let bits = rw (← v) at c.requires.bits in
-    rw (← v) (λ len r e. rw bits (rest_bytes g.H.Store.PacketStore.holds s _ (rw (← v) at c.requires.held) other.not-Front other.not-Packets other.not-Padding other.not-Data len r e))
+    rw (← v) (λ len r e. rw bits (rest_bytes g.H.Store.PacketSink.holds s _ (rw (← v) at c.requires.held) other.not-Front other.not-Packets other.not-Padding other.not-Data len r e))

@@ -25,7 +25,7 @@ invariant_of-self-in-None g c =
     let i = c.self.inside in
     let v = c.self.view_is in
     let s = state g.H.Packet.AnyPacket.WAY i.nid i.phase i.front.items i.packets.left i.padding i.packets.store i.stands in
-    let holds = g.H.Store.PacketStore.holds i.packets.store in
+    let holds = g.H.Store.PacketSink.holds i.packets.store in
     let found = no_front front_bits (front_row g.H.Packet.AnyPacket.WAY i.nid) (rw c.WAY-way.ensures at c.in-None.ensures) in
     let bits : 8 * c.args.number - 18 ≡ c.args.number * 8 - 18 = omega arith in
     ∥∥₁_map c.self.invariant (λ h. subst (λ n. DataFits (phase.Data n) holds) bits (begun_fits s holds c.args.number (rw (← v) at c.requires.phase) found (rw (← v) at c.requires.goes) h))

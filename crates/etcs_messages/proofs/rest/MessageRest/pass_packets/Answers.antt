@@ -26,4 +26,4 @@ returns-clause-ok g c =
     let phase : i.phase ≡ Packets = rw (← v) at c.requires.phase in
     let goes : Starts (left_of i.packets.left.carrier i.packets.left.room i.packets.left.stage) c.args.var 0 c.args.number = (begins_packets s c.args.var 0 c.args.number (rw (← v) at c.requires.next) phase).1 (rw (← v) at c.requires.goes) in
     let steps = c.in_ok-pass.ensures.ok in
-    rw (← v) (packets_follow g.H.Store.PacketStore.holds s _ _ _ _ ((c.args.var, c.args.number) ∷ []) phase c.after_packets-self-inside.ensures (moved_left i.packets.left l' c.args.var c.args.number goes steps.0) steps)
+    rw (← v) (packets_follow g.H.Store.PacketSink.holds s _ _ _ _ ((c.args.var, c.args.number) ∷ []) phase c.after_packets-self-inside.ensures (moved_left i.packets.left l' c.args.var c.args.number goes steps.0) steps)

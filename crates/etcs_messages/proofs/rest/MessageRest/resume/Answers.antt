@@ -31,7 +31,7 @@ returns g c =
     let s = state g.H.Packet.AnyPacket.WAY i.nid i.phase i.front.items i.packets.left i.padding i.packets.store i.stands in
     let l' = c.resume.new.self.left in
     let e = c.after_packets-self-inside.ensures in
-    let holds = g.H.Store.PacketStore.holds in
+    let holds = g.H.Store.PacketSink.holds in
     let phase : i.phase ≡ Packets = rw (← v) at c.requires.phase in
     let carrier : i.packets.left.carrier ≡ Message g.H.Packet.AnyPacket.WAY = rw (← v) at (packets_parts c.args.self.now c.requires.phase).0 in
     λ xs at run. rw (← v)

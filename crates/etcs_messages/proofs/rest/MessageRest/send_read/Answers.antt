@@ -25,7 +25,7 @@ module _ (g : Over) (c : In_ok-send_numbers g) where
 
   -- what is held of it
   in_its_list : HoldsIn (in_list g.H.Packet.AnyPacket.form g.H.Store.ListStore.list) message read
-  in_its_list = held_in_list g.H.Packet.AnyPacket.form g.H.Store.ListStore.list g.H.Store.PacketStore.holds g.met.H.Store.ListStore.listed message read (rw (← c.self.view_is) at c.requires.held)
+  in_its_list = held_in_list g.H.Packet.AnyPacket.form g.H.Store.ListStore.list g.H.Store.PacketSink.holds g.met.H.Store.ListStore.listed message read (rw (← c.self.view_is) at c.requires.held)
 
   counted : (len : ℕ) (r : Reading) → read ≡ headed message.nid len r → c.bytes_by.result ≡ len
   counted = rw (← c.self.view_is) at c.bytes_by.ensures

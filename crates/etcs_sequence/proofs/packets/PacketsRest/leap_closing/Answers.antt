@@ -24,7 +24,7 @@ invariant_of-self g c =
     let s = c.args.self.now.left in
     let t = c.pass_number.new.self in
     let n = c.from-number.result in
-    let H = g.S.PacketStore.holds c.args.self.now.store in
+    let H = g.S.PacketSink.holds c.args.self.now.store in
     let held = closing_held s.carrier t.carrier s.stage t.stage n H c.requires.stage c.pass_number.ensures.moved.same c.pass_number.ensures.here in
     record { way = ap way_of c.pass_number.ensures.moved.same ∙ c.args.self.now.way; held = ∥∥₁_map c.args.self.now.held (λ old closed. let h = old (rw c.requires.stage refl) in (h.0 ++ (NID_PACKET, n) ∷ [], held h.0 h.1)) }
 
@@ -34,7 +34,7 @@ returns-clause-some g c =
     let t = c.pass_number.new.self in
     let n = c.from-number.result in
     let xs = bits c.args.piece.now in
-    let H = g.S.PacketStore.holds c.args.self.now.store in
+    let H = g.S.PacketSink.holds c.args.self.now.store in
     let moved = c.pass_number.ensures.moved in
     let held = closing_held s.carrier t.carrier s.stage t.stage n H c.requires.stage moved.same c.pass_number.ensures.here in
     let is : c.number_at.result ≡ n = omega arith in

@@ -36,8 +36,8 @@ finish-requires g c =
     let t = c.run_at-run.result in
     let e = c.pass_bits-event in
     let size = sym c.len-count.ensures in
-    let by = taken s.carrier s.stage e.new.self.stage (λ f. f) (λ k. k ++ t) (kept OTHER_DATA t) e.result (g.S.PacketStore.holds c.args.self.now.store) (g.S.PacketStore.holds c.bits.new.self) c.in-Ok.ensures.ok (e.ensures.here t size) in
-    ∥∥₁_map c.args.self.now.held (λ old. let w = old (rw c.requires.stage refl) in event_held g.S.PacketStore.WAY c.args.self.now.way (by w.0 w.1))
+    let by = taken s.carrier s.stage e.new.self.stage (λ f. f) (λ k. k ++ t) (kept OTHER_DATA t) e.result (g.S.PacketSink.holds c.args.self.now.store) (g.S.PacketSink.holds c.bits.new.self) c.in-Ok.ensures.ok (e.ensures.here t size) in
+    ∥∥₁_map c.args.self.now.held (λ old. let w = old (rw c.requires.stage refl) in event_held g.S.PacketSink.WAY c.args.self.now.way (by w.0 w.1))
 
 pub invariant_of-self-in-Ok-finish : goal.invariant_of-self-in-Ok-finish
 invariant_of-self-in-Ok-finish g c =
@@ -45,9 +45,9 @@ invariant_of-self-in-Ok-finish g c =
     let t = c.run_at-run.result in
     let e = c.pass_bits-event in
     let size = sym c.len-count.ensures in
-    let by = taken s.carrier s.stage e.new.self.stage (λ f. f) (λ k. k ++ t) (kept OTHER_DATA t) e.result (g.S.PacketStore.holds c.args.self.now.store) (g.S.PacketStore.holds c.bits.new.self) c.in-Ok.ensures.ok (e.ensures.here t size) in
+    let by = taken s.carrier s.stage e.new.self.stage (λ f. f) (λ k. k ++ t) (kept OTHER_DATA t) e.result (g.S.PacketSink.holds c.args.self.now.store) (g.S.PacketSink.holds c.bits.new.self) c.in-Ok.ensures.ok (e.ensures.here t size) in
     let same = (e.ensures.moved t size).same in
-    record { way = ap way_of same ∙ c.args.self.now.way; held = ∥∥₁_map c.args.self.now.held (λ old closed. let w = old (rw c.requires.stage refl) in (w.0 ++ kept OTHER_DATA t, more_held g.S.PacketStore.WAY c.args.self.now.way (g.S.PacketStore.holds c.finish.new.store) e.new.self.carrier same c.in-Ok-finish.ensures.ok (by w.0 w.1))) }
+    record { way = ap way_of same ∙ c.args.self.now.way; held = ∥∥₁_map c.args.self.now.held (λ old closed. let w = old (rw c.requires.stage refl) in (w.0 ++ kept OTHER_DATA t, more_held g.S.PacketSink.WAY c.args.self.now.way (g.S.PacketSink.holds c.finish.new.store) e.new.self.carrier same c.in-Ok-finish.ensures.ok (by w.0 w.1))) }
 
 pub invariant_of-self-in-Err-finish-clause-way : goal.invariant_of-self-in-Err-finish-clause-way
 invariant_of-self-in-Err-finish-clause-way g c = ap way_of (c.close-in-Err-finish.ensures.carrier ∙ (c.pass_bits-event.ensures.moved c.run_at-run.result (sym c.len-count.ensures)).same) ∙ c.args.self.now.way
@@ -58,7 +58,7 @@ returns-clause-some g c =
     let t = c.run_at-run.result in
     let e = c.pass_bits-event in
     let size = sym c.len-count.ensures in
-    let by = taken s.carrier s.stage e.new.self.stage (λ f. f) (λ k. k ++ t) (kept OTHER_DATA t) e.result (g.S.PacketStore.holds c.args.self.now.store) (g.S.PacketStore.holds c.bits.new.self) c.in-Ok.ensures.ok (e.ensures.here t size) in
+    let by = taken s.carrier s.stage e.new.self.stage (λ f. f) (λ k. k ++ t) (kept OTHER_DATA t) e.result (g.S.PacketSink.holds c.args.self.now.store) (g.S.PacketSink.holds c.bits.new.self) c.in-Ok.ensures.ok (e.ensures.here t size) in
     let moved = e.ensures.moved t size in
     let some = kept_some s.carrier s.room s.stage c.args.nid c.args.dir c.args.left c.requires.stage s.stands in
     record {
@@ -66,7 +66,7 @@ returns-clause-some g c =
       inside = omega (arith, c.run_at-run.ensures.inside, c.len-count.ensures);
       goes = kept_goes s.carrier s.room s.stage c.args.nid c.args.dir c.args.left c.requires.stage c.requires.goes t _ c.run_at-run.ensures.within moved.residual;
       whole = kept OTHER_DATA t;
-      follows = (moved, λ q h. more_held g.S.PacketStore.WAY c.args.self.now.way (g.S.PacketStore.holds c.finish.new.store) e.new.self.carrier moved.same c.in-Ok-finish.ensures.ok (by q h));
+      follows = (moved, λ q h. more_held g.S.PacketSink.WAY c.args.self.now.way (g.S.PacketSink.holds c.finish.new.store) e.new.self.carrier moved.same c.in-Ok-finish.ensures.ok (by q h));
       bits = spelled_kept t ∙ c.run_at-run.ensures.bits ∙ ap (λ n. part c.args.at n (bits c.args.piece.now)) size;
     }
 

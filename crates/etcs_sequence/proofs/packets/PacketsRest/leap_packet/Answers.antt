@@ -14,7 +14,7 @@ use Rattle.etcs_sequence.proofs.Carried.{after_whole}
 use Rattle.etcs_rows.specs.Frames.{may_be_left}
 use Rattle.etcs_sequence.proofs.Fits.{run_some}
 use Rattle.etcs_sequence.specs.AtOnce.{WholeAt}
-use Rattle.etcs_sequence.proofs.LeapLemmas.{held_at_number, leapt_held, packet_viable}
+use Rattle.etcs_sequence.proofs.LeapLemmas.{leapt_held, packet_viable}
 use Rattle.etcs_sequence.specs.declared.packets.PacketsRest.{PacketsRest, held-type}
 use Rattle.etcs_sequence.proofs.packets.PacketsRest.leap_packet.Goals as goal
 
@@ -37,18 +37,12 @@ overflow_sub-count g c = omega (arith, c.requires.inside, length-bits c.args.pie
 pub take_framed-requires-clause-inside : goal.take_framed-requires-clause-inside
 take_framed-requires-clause-inside g c = omega (arith, c.requires.inside, length-bits c.args.piece.now)
 
-pub take_framed-requires-clause-held : goal.take_framed-requires-clause-held
-take_framed-requires-clause-held g c =
-    let s = c.args.self.now.left in
-    let H = g.S.PacketStore.holds c.args.self.now.store in
-    ∥∥₁_map c.args.self.now.held (λ old. held_at_number s.carrier s.stage H c.requires.stage (old (rw c.requires.stage refl)))
-
 pub invariant_of-self-2 : goal.invariant_of-self-2
 invariant_of-self-2 g c =
     let s = c.args.self.now.left in
     let xs = bits c.args.piece.now in
-    let H = g.S.PacketStore.holds c.args.self.now.store in
-    let H' = g.S.PacketStore.holds c.take_framed.new.store in
+    let H = g.S.PacketSink.holds c.args.self.now.store in
+    let H' = g.S.PacketSink.holds c.take_framed.new.store in
     let w : WholeAt s.carrier H H' xs c.args.at c.in-Some.len = rw c.in-Some.is at c.in-Ok.ensures.whole in
     let held = leapt_held s.carrier c.skip.new.self.carrier H H' xs c.args.at c.in-Some.len s.stage c.skip.new.self.stage w c.requires.stage c.skip.ensures.carrier c.skip.ensures.here in
     record { way = ap way_of c.skip.ensures.carrier ∙ c.args.self.now.way; held = ∥∥₁_map c.args.self.now.held (λ old closed. let h = old (rw c.requires.stage refl) in (h.0 ++ reading_to (way_of s.carrier) w.packet, held h.0 h.1)) }
@@ -63,8 +57,8 @@ returns-clause-some g c =
     let s = c.args.self.now.left in
     let xs = bits c.args.piece.now in
     let n = c.in-Some.len in
-    let H = g.S.PacketStore.holds c.args.self.now.store in
-    let H' = g.S.PacketStore.holds c.take_framed.new.store in
+    let H = g.S.PacketSink.holds c.args.self.now.store in
+    let H' = g.S.PacketSink.holds c.take_framed.new.store in
     let within = rw c.in-Some.is at c.in-Ok.ensures.within in
     let left : IsTrue (may_be_left s.carrier (s.room - n)) = rw c.in-Some.is at c.in-Ok.ensures.left in
     let w : WholeAt s.carrier H H' xs c.args.at n = rw c.in-Some.is at c.in-Ok.ensures.whole in
@@ -85,7 +79,7 @@ pub returns-in_default-clause-none : goal.returns-in_default-clause-none
 returns-in_default-clause-none g c =
     let r = c.args.self.now in
     let e = (rw c.in_default.is at c.in-Ok.ensures.none) refl in
-    λ none. subst (λ (store : g.row.S.Denot). (w : way_of r.left.carrier ≡ g.S.PacketStore.WAY) (h : held-type g.row.S.Denot g.S.PacketStore r.left store r.tried w) → ◌≡◌ {A = PacketsRest g.row.S.Denot g.S.PacketStore} (record { left = r.left; store = store; tried = r.tried; way = w; held = h }) r) (sym e) (λ w h i. record { left = r.left; store = r.store; tried = r.tried; way = ways_alike (way_of r.left.carrier) g.S.PacketStore.WAY w r.way i; held = ∥∥₁_prop h r.held i }) _ _
+    λ none. subst (λ (store : g.row.S.Denot). (w : way_of r.left.carrier ≡ g.S.PacketSink.WAY) (h : held-type g.row.S.Denot g.S.PacketSink r.left store r.tried w) → ◌≡◌ {A = PacketsRest g.row.S.Denot g.S.PacketSink} (record { left = r.left; store = store; tried = r.tried; way = w; held = h }) r) (sym e) (λ w h i. record { left = r.left; store = r.store; tried = r.tried; way = ways_alike (way_of r.left.carrier) g.S.PacketSink.WAY w r.way i; held = ∥∥₁_prop h r.held i }) _ _
 
 pub returns-in-Err-clause-viable : goal.returns-in-Err-clause-viable
 returns-in-Err-clause-viable g c =

@@ -23,7 +23,7 @@ loop-place-init g c =
       same = λ e. refl;
       goes = λ less. absurd (omega (arith, less));
       whole = [];
-      follows = follows_none s.left (g.S.PacketStore.holds s.store);
+      follows = follows_none s.left (g.S.PacketSink.holds s.store);
       spelling = (let none : c.args.at - c.args.at ≡ 0 = omega arith in ap (λ (k : ℕ). part c.args.at k (bits c.args.piece.now)) (sym none));
     }
 
@@ -48,7 +48,7 @@ loop-place-preserved g c =
       same = λ e. absurd (omega (arith, e, i.order, some));
       goes = λ less. leap.goes;
       whole = i.whole ++ leap.whole;
-      follows = follows_along c.args.self.now.left l.self.left new.left (g.S.PacketStore.holds c.args.self.now.store) (g.S.PacketStore.holds l.self.store) (g.S.PacketStore.holds new.store) i.whole leap.whole i.follows leap.follows;
+      follows = follows_along c.args.self.now.left l.self.left new.left (g.S.PacketSink.holds c.args.self.now.store) (g.S.PacketSink.holds l.self.store) (g.S.PacketSink.holds new.store) i.whole leap.whole i.follows leap.follows;
       spelling =
           spelled-append i.whole leap.whole
           ∙ ap (λ (b : List Bool). b ++ spelled leap.whole) i.spelling

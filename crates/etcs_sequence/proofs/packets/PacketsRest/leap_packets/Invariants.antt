@@ -14,7 +14,7 @@ invariant-loop-place g l =
       same : l.place ≡ l.at → l.self ≡ l.fn.self;
       goes : l.at < l.place → Goes (left_of l.self.left.carrier l.self.left.room l.self.left.stage);
       whole : Reading;
-      follows : Follows l.fn.self.left (g.S.PacketStore.holds l.fn.self.store) whole l.self.left (g.S.PacketStore.holds l.self.store);
+      follows : Follows l.fn.self.left (g.S.PacketSink.holds l.fn.self.store) whole l.self.left (g.S.PacketSink.holds l.self.store);
       spelling : spelled whole ≡ part l.at (l.place - l.at) (bits l.piece);
     }
 

@@ -20,8 +20,8 @@ finish-requires g c =
     let stage = same_row s.stage c.in-Row.field-0 c.in-Row.field-1 c.args.nid c.args.dir c.in-Row.row c.in-Row.is c.requires.row in
     let run = c.in-Some.ensures.run in
     let e = c.pass_to-event in
-    let by = run_taken s.carrier s.stage e.new.self.stage run.run c.as_slice.result.now e.result (g.S.PacketStore.holds c.args.self.now.store) (g.S.PacketStore.holds c.absorb_numbers.new.store) (run.numbers_are ∙ sym c.as_slice.ensures.value) c.in-Ok.ensures.ok (e.ensures.here c.in-Row.row run.run stage run.follows) in
-    ∥∥₁_map c.args.self.now.held (λ old. let w = old (rw stage refl) in event_held g.S.PacketStore.WAY c.args.self.now.way (by w.0 w.1))
+    let by = run_taken s.carrier s.stage e.new.self.stage run.run c.as_slice.result.now e.result (g.S.PacketSink.holds c.args.self.now.store) (g.S.PacketSink.holds c.absorb_numbers.new.store) (run.numbers_are ∙ sym c.as_slice.ensures.value) c.in-Ok.ensures.ok (e.ensures.here c.in-Row.row run.run stage run.follows) in
+    ∥∥₁_map c.args.self.now.held (λ old. let w = old (rw stage refl) in event_held g.S.PacketSink.WAY c.args.self.now.way (by w.0 w.1))
 
 pub invariant_of-self-2 : goal.invariant_of-self-2
 invariant_of-self-2 g c =
@@ -29,9 +29,9 @@ invariant_of-self-2 g c =
     let stage = same_row s.stage c.in-Row.field-0 c.in-Row.field-1 c.args.nid c.args.dir c.in-Row.row c.in-Row.is c.requires.row in
     let run = c.in-Some.ensures.run in
     let e = c.pass_to-event in
-    let by = run_taken s.carrier s.stage e.new.self.stage run.run c.as_slice.result.now e.result (g.S.PacketStore.holds c.args.self.now.store) (g.S.PacketStore.holds c.absorb_numbers.new.store) (run.numbers_are ∙ sym c.as_slice.ensures.value) c.in-Ok.ensures.ok (e.ensures.here c.in-Row.row run.run stage run.follows) in
+    let by = run_taken s.carrier s.stage e.new.self.stage run.run c.as_slice.result.now e.result (g.S.PacketSink.holds c.args.self.now.store) (g.S.PacketSink.holds c.absorb_numbers.new.store) (run.numbers_are ∙ sym c.as_slice.ensures.value) c.in-Ok.ensures.ok (e.ensures.here c.in-Row.row run.run stage run.follows) in
     let same = (e.ensures.moved c.in-Row.row run.run stage run.follows).same in
-    record { way = ap way_of same ∙ c.args.self.now.way; held = ∥∥₁_map c.args.self.now.held (λ old closed. let w = old (rw stage refl) in (w.0 ++ run.run, more_held g.S.PacketStore.WAY c.args.self.now.way (g.S.PacketStore.holds c.finish.new.store) e.new.self.carrier same c.in-Ok-finish.ensures.ok (by w.0 w.1))) }
+    record { way = ap way_of same ∙ c.args.self.now.way; held = ∥∥₁_map c.args.self.now.held (λ old closed. let w = old (rw stage refl) in (w.0 ++ run.run, more_held g.S.PacketSink.WAY c.args.self.now.way (g.S.PacketSink.holds c.finish.new.store) e.new.self.carrier same c.in-Ok-finish.ensures.ok (by w.0 w.1))) }
 
 pub invariant_of-self-in-Err-finish-clause-way : goal.invariant_of-self-in-Err-finish-clause-way
 invariant_of-self-in-Err-finish-clause-way g c =
@@ -47,14 +47,14 @@ returns-clause-some g c =
     let stage = same_row s.stage c.in-Row.field-0 c.in-Row.field-1 c.args.nid c.args.dir c.in-Row.row c.in-Row.is c.requires.row in
     let run = c.in-Some.ensures.run in
     let e = c.pass_to-event in
-    let by = run_taken s.carrier s.stage e.new.self.stage run.run c.as_slice.result.now e.result (g.S.PacketStore.holds c.args.self.now.store) (g.S.PacketStore.holds c.absorb_numbers.new.store) (run.numbers_are ∙ sym c.as_slice.ensures.value) c.in-Ok.ensures.ok (e.ensures.here c.in-Row.row run.run stage run.follows) in
+    let by = run_taken s.carrier s.stage e.new.self.stage run.run c.as_slice.result.now e.result (g.S.PacketSink.holds c.args.self.now.store) (g.S.PacketSink.holds c.absorb_numbers.new.store) (run.numbers_are ∙ sym c.as_slice.ensures.value) c.in-Ok.ensures.ok (e.ensures.here c.in-Row.row run.run stage run.follows) in
     let moved = e.ensures.moved c.in-Row.row run.run stage run.follows in
     record {
       some = c.in-Some.ensures.some;
       inside = run.inside;
       goes = run_goes s.carrier s.room s.stage c.args.nid c.args.dir c.in-Row.row c.in-Some.run'.rest run.run stage c.requires.goes c.in-Some.ensures.goes run.follows.read _ moved.residual;
       whole = run.run;
-      follows = (moved, λ q h. more_held g.S.PacketStore.WAY c.args.self.now.way (g.S.PacketStore.holds c.finish.new.store) e.new.self.carrier moved.same c.in-Ok-finish.ensures.ok (by q h));
+      follows = (moved, λ q h. more_held g.S.PacketSink.WAY c.args.self.now.way (g.S.PacketSink.holds c.finish.new.store) e.new.self.carrier moved.same c.in-Ok-finish.ensures.ok (by q h));
       bits = run.spelling;
     }
 

@@ -12,7 +12,7 @@ overflow_sub-taken g c = ∥∥₁_elim c.requires.run le_prop (λ (xs, (at, (ru
 pub invariant_of-self : goal.invariant_of-self
 invariant_of-self g c =
     let s = c.args.self.now.left in
-    let H = g.S.PacketStore.holds c.args.store in
+    let H = g.S.PacketSink.holds c.args.store in
     record {
       way = ap way_of c.skip.ensures.carrier ∙ c.args.self.now.way;
       held = ∥∥₁_map c.requires.run (λ (xs, (at, (run, some, may))) closed. (variables s.carrier s.room H xs at c.args.left run, run_held s.carrier s.room H xs at c.args.left run c.skip.new.self.carrier c.skip.new.self.stage c.skip.ensures.carrier c.skip.ensures.here));
@@ -23,8 +23,8 @@ returns g c xs at (run, some, may) =
     let s = c.args.self.now.left in
     let t = c.skip.new.self in
     let left = c.args.left in
-    let H = g.S.PacketStore.holds c.args.self.now.store in
-    let H' = g.S.PacketStore.holds c.args.store in
+    let H = g.S.PacketSink.holds c.args.self.now.store in
+    let H' = g.S.PacketSink.holds c.args.store in
     let moved = c.skip.ensures.moved (variables s.carrier s.room H' xs at left run) (run_after s.carrier s.room H' xs at left run, run_long s.carrier s.room H' xs at left run) in
     let held = run_follows s.carrier s.room H' xs at left run H s.stage t.stage t.carrier c.requires.stage c.requires.none c.skip.ensures.carrier c.skip.ensures.here in
     let small = s.small in

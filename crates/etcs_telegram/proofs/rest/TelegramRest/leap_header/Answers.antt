@@ -20,4 +20,4 @@ returns-clause-some g c =
     rw (← v)
     (front_leaps header_row (bits c.args.piece.now) c.args.at c.in_ok-numbers.numbers.items c.in_ok-numbers.end (left_at i.size Packets i.packets.left) _ (omega arith) f
     (front_left (PacketsAfter i.size i.packets.left) header_row goes)
-    (whole_header g.S.PacketStore.holds s c.in_ok-numbers.numbers.items _ (bits c.args.piece.now) c.args.at c.in_ok-numbers.end phase f))
+    (whole_header g.S.PacketSink.holds s c.in_ok-numbers.numbers.items _ (bits c.args.piece.now) c.args.at c.in_ok-numbers.end phase f))

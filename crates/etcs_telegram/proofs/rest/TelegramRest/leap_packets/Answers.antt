@@ -14,7 +14,7 @@ pub invariant_of-self-2 : goal.invariant_of-self-2
 invariant_of-self-2 g c =
     let i = c.self.inside in
     let l' = c.leap.new.self.left in
-    let holds = g.S.PacketStore.holds in
+    let holds = g.S.PacketSink.holds in
     let s = state i.size i.phase i.header.items i.packets.left i.packets.store i.stands in
     let by = steps i.packets.left l' (holds i.packets.store) (holds c.leap.new.self.store) (bits c.args.piece.now) c.args.at c.in_ok-leapt.leapt (λ none. let same = c.in_ok-leapt.ensures.none none in (ap (λ (p : PacketsRest _ _). p.left) same, ap (λ (p : PacketsRest _ _). holds p.store) same)) c.in_ok-leapt.ensures.some in
     ∥∥₁_map i.packets.held (packets_fits s c.after_packets-self-inside.result l' (holds i.packets.store) (holds c.leap.new.self.store) by.0 (rw (← c.self.view_is) at c.requires.phase) c.after_packets-self-inside.ensures by.1)
@@ -26,7 +26,7 @@ returns-clause-some g c =
     let s = state i.size i.phase i.header.items i.packets.left i.packets.store i.stands in
     let l' = c.leap.new.self.left in
     let e = c.after_packets-self-inside.ensures in
-    let holds = g.S.PacketStore.holds in
+    let holds = g.S.PacketSink.holds in
     let phase : i.phase ≡ Packets = rw (← v) at c.requires.phase in
     rw (← v)
     (leaps_on i.packets.left l' (holds i.packets.store) (holds c.leap.new.self.store) (bits c.args.piece.now) c.args.at c.in_ok-leapt.leapt (λ goes. rw e (packets_all i.size l' goes))

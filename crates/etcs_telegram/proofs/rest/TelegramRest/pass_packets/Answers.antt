@@ -14,7 +14,7 @@ pass-requires-clause-goes g c = rw (← c.self.view_is) at ((begins_packets c.ar
 pub invariant_of-self-2 : goal.invariant_of-self-2
 invariant_of-self-2 g c =
     let i = c.self.inside in
-    let holds = g.S.PacketStore.holds in
+    let holds = g.S.PacketSink.holds in
     let s = state i.size i.phase i.header.items i.packets.left i.packets.store i.stands in
     ∥∥₁_map i.packets.held (packets_fits s c.after_packets-self-inside.result c.pass.new.self.left (holds i.packets.store) (holds c.pass.new.self.store) ((c.args.var, c.args.number) ∷ []) (rw (← c.self.view_is) at c.requires.phase) c.after_packets-self-inside.ensures c.in_ok-pass.ensures.ok)
 
@@ -27,4 +27,4 @@ returns-clause-ok g c =
     let phase : i.phase ≡ Packets = rw (← v) at c.requires.phase in
     let goes : Starts (left_of i.packets.left.carrier i.packets.left.room i.packets.left.stage) c.args.var 0 c.args.number = (begins_packets s c.args.var 0 c.args.number (rw (← v) at c.requires.next) phase).1 (rw (← v) at c.requires.goes) in
     let steps = c.in_ok-pass.ensures.ok in
-    rw (← v) (packets_follow g.S.PacketStore.holds s _ _ _ _ ((c.args.var, c.args.number) ∷ []) phase c.after_packets-self-inside.ensures (moved_left i.packets.left l' c.args.var c.args.number goes steps.0) steps)
+    rw (← v) (packets_follow g.S.PacketSink.holds s _ _ _ _ ((c.args.var, c.args.number) ∷ []) phase c.after_packets-self-inside.ensures (moved_left i.packets.left l' c.args.var c.args.number goes steps.0) steps)

@@ -1,7 +1,8 @@
 use Rattle.std.proofs.Common.{◌≡◌, ℕ, ◌+◌, ◌*◌, List, [], length, refl, sym, ap, ◌∙◌}
 use Rattle.etcs_bits.specs.Bits.{bits}
 use Rattle.etcs_bits.proofs.Positions.{length-bits}
-use Rattle.etcs_sequence.specs.declared.count.PacketCount.{PacketCount}
+use Rattle.etcs_packets.specs.declared.packet.Packet.{Packet}
+use Rattle.etcs_sequence.specs.declared.seen.PacketCount.{PacketCount}
 use Rattle.etcs_telegram.specs.declared.size.Size.{Size}
 use Rattle.etcs_telegram.specs.declared.view.ViewFault.{ViewFault}
 use Rattle.etcs_telegram.specs.declared.view.ViewFault.TheVariants.{Refused}
@@ -14,17 +15,17 @@ use Rattle.etcs_telegram.proofs.view.TelegramView.new.Goals as goal
 use Rattle.etcs_telegram.proofs.view.TelegramView.new.Goals.{In-Ok}
 
 pub new-feeder-requires : goal.new-feeder-requires
-new-feeder-requires c = let (r, l) = some_telegram c.args.size in (r, (c.new.ensures.left r).1 l)
+new-feeder-requires c = let (r, l) = some_telegram c.args.size in (r, (c.new-2.ensures.left r).1 l)
 
 container_bits : (size : Size) (out : List ℕ) → length out ≡ container_bytes size → length (bits out) ≡ user_bits size + pad_bits size
 container_bits size out e = length-bits out ∙ ap (λ (k : ℕ). 8 * k) e ∙ sym (whole_bytes size)
 
 -- all bits are a telegram's
-seen : (c : In-Ok) (t : TelegramState PacketCount) → t ≡ c.feed.new.self.rest → Seen c.args.size (bits c.args.bytes.now) t
+seen : (c : In-Ok) (t : TelegramState (PacketCount Packet)) → t ≡ c.feed.new.self.rest → Seen c.args.size (bits c.args.bytes.now) t
 seen c t is =
-    let same = rw (← c.new-feeder.ensures.rest) at c.new.ensures.left in
-    let size = rw (← c.new-feeder.ensures.rest) at c.new.ensures.size in
-    let none = rw (← c.new-feeder.ensures.rest) at c.new.ensures.holds in
+    let same = rw (← c.new-feeder.ensures.rest) at c.new-2.ensures.left in
+    let size = rw (← c.new-feeder.ensures.rest) at c.new-2.ensures.size in
+    let none = rw (← c.new-feeder.ensures.rest) at c.new-2.ensures.holds in
     let (stop, count, h) = c.in-Ok.ensures.going c.new-feeder.ensures.stop in
     let f = h.passed.follows in
     let long = container_bits c.args.size c.args.bytes.now (c.if-bytes-container_bytes.false ∙ c.container_bytes.ensures) in
@@ -63,7 +64,7 @@ pub returns-in-Err-Refused-clause-refused : goal.returns-in-Err-Refused-clause-r
 returns-in-Err-Refused-clause-refused c i x e =
     let s = c.new-feeder.result.rest in
     let b = bits c.args.bytes.now in
-    let same = rw (← c.new-feeder.ensures.rest) at c.new.ensures.left in
+    let same = rw (← c.new-feeder.ensures.rest) at c.new-2.ensures.left in
     let answer = c.in-Err-Refused.ensures.going c.new-feeder.ensures.stop in
     let (stop, is, n, place, h) = rw c.in-Err-Refused.field-0-is at answer in
     let r = refused_bit c.args.size (Left s) same c.new-feeder.result.part b c.in-Err-Refused.bit n c.new-feeder.result.count c.in-Err-Refused.var c.new-feeder.ensures.part c.new-feeder.ensures.count place h.refuses in

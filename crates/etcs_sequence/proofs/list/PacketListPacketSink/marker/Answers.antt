@@ -2,7 +2,7 @@ use Rattle.std.proofs.Common.{sym}
 use Rattle.std.proofs.lemmas.Result.{on_ok_weaker}
 use Rattle.etcs_packets.specs.PacketValues.{marker}
 use Rattle.etcs_sequence.proofs.Values.{more_made}
-use Rattle.etcs_sequence.proofs.list.PacketListPacketStore.marker.Goals as goal
+use Rattle.etcs_sequence.proofs.list.PacketListPacketSink.marker.Goals as goal
 
 pub returns-in-Some-clause-ok : goal.returns-in-Some-clause-ok
 returns-in-Some-clause-ok g c = on_ok_weaker c.put.result (λ put admitted vs (is, (made, rest)).

@@ -1,5 +1,7 @@
+use Rattle.std.proofs.Common.{◌∙◌}
+use Rattle.etcs_bits.specs.Bits.{bits, part}
 use Rattle.etcs_sequence.proofs.Values.{HasRow, typed_row, one_by_bits, more_made}
-use Rattle.etcs_sequence.proofs.list.PacketListPacketStore.whole.Goals as goal
+use Rattle.etcs_sequence.proofs.list.PacketListPacketSink.whole.Goals as goal
 
 pub returns-in_ok-put-in-Ok-Some-clause-row : goal.returns-in_ok-put-in-Ok-Some-clause-row
 returns-in_ok-put-in-Ok-Some-clause-row g c = λ found.
@@ -14,6 +16,6 @@ returns-in_ok-put-in-Ok-Some-clause-held g c = λ found vs v (is, (made, rest)) 
     let row = typed_row way c.args.nid c.args.dir value (rw c.in-Ok-Some.field-0-is at c.in-Ok-Some.ensures.typed) c.hold.ensures.packet in
     let has : ¬ (¬ HasRow way c.args.nid) = λ no. no row in
     let some = rw c.in-Ok-Some.field-0-is at c.in-Ok-Some.ensures.some in
-    let one = one_by_bits way c.args.nid c.args.dir c.args.body v value has v-is v-typed v-has c.hold.ensures.packet some.0 some.1 in
+    let one = one_by_bits way c.args.nid c.args.dir (part c.args.at c.args.len (bits c.args.piece.now)) v value has v-is v-typed v-has c.hold.ensures.packet some.0 (some.1 ∙ c.bits_at.ensures) in
     let both = more_made g.P.AnyPacket.form c.args.self.now.packets.items c.put.new.packets.items p vs v c.in_ok-put-in-Ok-Some.ensures is made one c.hold.ensures.made in
     (both.0, (both.1, rest)))

@@ -6,7 +6,19 @@
  * With a word `quick` after them it leaves out threads, and stacks, which can't be measured under valgrind.
  * Linked with -Wl,--wrap=malloc,--wrap=realloc -pthread. */
 #define _GNU_SOURCE
+#include "etcs.h"
+
+/* How many bytes the reader of etcs_help.h has given to etcs_check, and whether memory runs out there. */
+static size_t checked;
+static int is_starved;
+static etcs_status check_of_reader(etcs_kind kind, const uint8_t *bytes, size_t len, etcs_answer *answer)
+{
+    checked += len;
+    return is_starved ? ETCS_NO_MEMORY : etcs_check(kind, bytes, len, answer);
+}
+#define etcs_check check_of_reader
 #include "etcs_help.h"
+#undef etcs_check
 
 #include <limits.h>
 #include <pthread.h>
@@ -205,8 +217,9 @@ static void statuses(void)
         {0, ETCS_VAR_M_ACK, 1}, {0, ETCS_VAR_NID_LRBG, 24}, {0, ETCS_VAR_PADDING, 5},
     };
     static etcs_field zeros[ETCS_MOST_FIELDS], fields[8];
-    uint8_t out[256], packet[64];
+    uint8_t out[256], packet[64], front[64];
     size_t packet_len = item(packet, RADIO);
+    memcpy(front, packet, packet_len), front[1] = 0xFF, front[2] = 0xC0;   /* L_MESSAGE 1023 */
     etcs_answer a;
     int starved;
 #define ANSWERS(status, call) (memset(&a, 0, sizeof a), memset(out, 7, sizeof out), (call) == (status))
@@ -216,7 +229,8 @@ static void statuses(void)
     EXPECT(ANSWERS(ETCS_OK, etcs_check(ETCS_RADIO, ten, 10, &a)) && a.taken == 10);
     EXPECT(ANSWERS(ETCS_MORE, etcs_check(ETCS_RADIO, ten, 9, &a)));
     EXPECT(ANSWERS(ETCS_REFUSED, etcs_check(ETCS_RADIO, eleven, 3, &a)) && IS_REFUSED(17, "L_MESSAGE"));
-    EXPECT(STARVES(etcs_check(ETCS_RADIO, packet, packet_len, &a)));
+    EXPECT(ANSWERS(ETCS_MORE, etcs_check(ETCS_RADIO, front, packet_len, &a)));
+    EXPECT(STARVES(etcs_check(ETCS_RADIO, front, packet_len, &a)));
     EXPECT(ANSWERS(ETCS_UNKNOWN_KIND, etcs_check(9, ten, 10, &a)));
 
     EXPECT(ANSWERS(ETCS_OK, etcs_show(ETCS_RADIO, 1, ten, 10, out, 256, &a)) && a.taken == 10);
@@ -513,32 +527,82 @@ static void variables(void)
 
 static uint8_t file[1 << 20], text[1 << 20], json_text[1 << 20];
 
-/* Feeds bytes in pieces, and compares the items with those of the bytes at once. */
+/* Whether the reader has to check an item of which it held some bytes and has some more: at 1, 2, 3, 6, 12, .. bytes, and at all. */
+static int is_due(etcs_kind kind, const uint8_t *front, size_t held, size_t now)
+{
+    static const size_t marks[] = {1, 2, 3, 6, 12, 24, 48, 96, 192, 384, 768};
+    size_t all = kind == ETCS_LONG ? 104 : kind == ETCS_SHORT ? 27 : now < 3 ? 3 : (size_t)(front[1] * 256 + front[2]) / 64;
+    for (size_t i = 0; i < sizeof marks / sizeof *marks; i++)
+        if (held < marks[i] && marks[i] <= now) return 1;
+    return held < all && all <= now;
+}
+
+/* A reader that has refused a bit refuses it again, and its bytes have a reason. */
+static void stays_refused(etcs_reader *reader, const etcs_answer *a)
+{
+    etcs_answer b = {0};
+    size_t used = 1;
+    EXPECT(etcs_reader_feed(reader, file, 1, &used, &b) == ETCS_REFUSED && used == 0 && a->bit == b.bit && !strcmp(a->var, b.var));
+    memset(&b, 0, sizeof b);
+    EXPECT(etcs_reader_end(reader, &b) == ETCS_REFUSED && a->bit == b.bit && !strcmp(a->var, b.var));
+    EXPECT(etcs_explain(reader->kind, reader->bytes, reader->len, text, sizeof text, &b) == ETCS_REFUSED && a->bit == b.bit && b.written > 0);
+}
+
+/* Feeds bytes in pieces, and compares what the reader returns, and when, with the items of the bytes at once. */
 static void pieces(etcs_kind kind, const uint8_t *bytes, size_t len, size_t piece)
 {
     etcs_reader reader;
     etcs_answer a = {0}, b = {0};
     size_t item_at = 0;
+    etcs_status s;
     etcs_reader_start(&reader, kind);
+    checked = 0;
     for (size_t at = 0; at < len; at += piece) {
         size_t n = len - at < piece ? len - at : piece;
         for (size_t from = 0, used; from < n; from += used) {
-            etcs_status s = etcs_reader_feed(&reader, bytes + at + from, n - from, &used, &a);
+            const uint8_t *front = bytes + item_at;
+            size_t now = at + n - item_at, before = checked;
+            int due = is_due(kind, front, at + from - item_at, now);
+            s = etcs_reader_feed(&reader, bytes + at + from, n - from, &used, &a);
+            EXPECT(s == (due ? etcs_check(kind, front, now, &b) : ETCS_MORE) && due == (checked > before));
             if (s == ETCS_OK) {
-                EXPECT(etcs_check(kind, bytes + item_at, len - item_at, &b) == ETCS_OK && a.taken == b.taken);
-                EXPECT(!memcmp(reader.bytes, bytes + item_at, a.taken));
-                item_at += a.taken;
+                EXPECT(a.taken == b.taken && !memcmp(reader.bytes, front, a.taken));
+                EXPECT(piece > 1 || checked < 3 * a.taken);
+                item_at += a.taken, checked = 0;
                 EXPECT(item_at == at + from + used);
             } else if (s == ETCS_REFUSED) {
-                EXPECT(etcs_check(kind, bytes + item_at, len - item_at, &b) == ETCS_REFUSED && a.bit == b.bit && !strcmp(a.var, b.var));
-                EXPECT(a.bit / 8 + item_at >= at && a.bit / 8 + item_at < at + n);
-                EXPECT(etcs_reader_feed(&reader, bytes, len, &used, &b) == ETCS_REFUSED && used == 0 && a.bit == b.bit);
-                EXPECT(etcs_explain(kind, reader.bytes, reader.len, text, sizeof text, &b) == ETCS_REFUSED && a.bit == b.bit && b.written > 0);
+                EXPECT(a.bit == b.bit && !strcmp(a.var, b.var));
+                EXPECT(piece > 1 || now < 2 * (a.bit / 8 + 1));
+                stays_refused(&reader, &a);
                 return;
             } else if (s != ETCS_MORE) { EXPECT(0); return; }
         }
     }
-    EXPECT(etcs_check(kind, bytes + item_at, len - item_at, &b) == ETCS_MORE && reader.len == len - item_at);
+    EXPECT(reader.len == len - item_at);
+    s = etcs_reader_end(&reader, &a);
+    EXPECT(s == (item_at == len ? ETCS_OK : etcs_check(kind, bytes + item_at, len - item_at, &b)));
+    if (s == ETCS_REFUSED) {
+        EXPECT(a.bit == b.bit && !strcmp(a.var, b.var));
+        stays_refused(&reader, &a);
+    }
+}
+
+/* A reader for which memory runs out is as it was before, and takes the same piece again. */
+static void reader_without_memory(void)
+{
+    uint8_t bytes[64];
+    size_t len = item(bytes, SHORT), used = 1;
+    etcs_reader reader;
+    etcs_answer a = {0};
+    etcs_reader_start(&reader, ETCS_SHORT);
+    EXPECT(etcs_reader_feed(&reader, bytes, 13, &used, &a) == ETCS_MORE && used == 13);
+    is_starved = 1;
+    EXPECT(etcs_reader_feed(&reader, bytes + 13, len - 13, &used, &a) == ETCS_NO_MEMORY && used == 0 && reader.len == 13);
+    EXPECT(etcs_reader_end(&reader, &a) == ETCS_NO_MEMORY && reader.len == 13);
+    is_starved = 0;
+    EXPECT(etcs_reader_end(&reader, &a) == ETCS_MORE);
+    EXPECT(etcs_reader_feed(&reader, bytes + 13, len - 13, &used, &a) == ETCS_OK && used == len - 13 && a.taken == len);
+    EXPECT(etcs_reader_end(&reader, &a) == ETCS_OK);
 }
 
 static void *many(void *arg)
@@ -799,7 +863,7 @@ static void items(void)
         if (count % 31 == 0)
             for (size_t n = 1; n <= taken; n++)
                 exact(front, n, taken);
-        if (count % 97 == 0)
+        if (count % 97 < 20)
             for (size_t bit = 0; bit < 8 * taken; bit++) {
                 front[bit / 8] ^= 0x80 >> bit % 8;
                 etcs_status s = etcs_check(file_kind, front, taken, &a);
@@ -808,6 +872,7 @@ static void items(void)
                     EXPECT(etcs_from_fields(file_kind, sent, b.written, out, sizeof out, &b) == ETCS_OK && !memcmp(out, front, taken));
                 if (s == ETCS_REFUSED) {
                     refused++, pieces(file_kind, front, taken, 1 + bit % 40);
+                    pieces(file_kind, front, taken, 1), pieces(file_kind, front, a.bit / 8 + 1, 1);
                     EXPECT(etcs_explain(file_kind, front, taken, text, sizeof text, &b) == s && a.bit == b.bit && !strcmp(a.var, b.var) && b.written > 0);
                     EXPECT(etcs_fields_before(file_kind, front, taken, sent, ETCS_MOST_FIELDS, &b) == s && a.bit == b.bit && !strcmp(a.var, b.var));
                     EXPECT(are_first(sent, b.written, front, b.bit));
@@ -844,6 +909,7 @@ int main(int argc, char **argv)
             for (int i = 0; i < 3; i++) len += item(bytes + len, RADIO);
             pieces(ETCS_RADIO, bytes, len, n);
         }
+        reader_without_memory();
         if (argc < 2) deep_json(), threads();
     }
     puts(wrong ? "something is wrong" : "all is well");

@@ -9,7 +9,7 @@ use Rattle.etcs_vars.specs.Reading.{IsOutcome, done, refused, more}
 use Rattle.etcs_sequence.specs.Progress as inner
 use Rattle.etcs_text.specs.declared.entry.Kind.{Kind}
 use Rattle.etcs_text.specs.Entries.{EntryReads, EntryValue}
-use Rattle.etcs_text.specs.Readers.{Feeds, Progress, finished, progress_of}
+use Rattle.etcs_text.specs.Readers.{Feeds, finished, progress_of}
 
 inner_finished : {V : Type 0} (item : V → EntryValue) (s : inner.Progress V) (e : EntryValue) → progress_of item s ≡ finished e → (v : V) × (s ≡ inner.finished v)
 inner_finished item (inner.reading b) e h = absurd cc

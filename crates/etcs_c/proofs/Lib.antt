@@ -1,3 +1,4 @@
+pub mod Checking
 pub mod Delivering
 pub mod Firsts
 pub mod Fits

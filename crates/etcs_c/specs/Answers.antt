@@ -3,7 +3,7 @@
 use Rattle.std.specs.Prelude.{◌≡◌, ℕ, ◌*◌, ◌⊎◌, Bool, List}
 use Rattle.serde_json.specs.Written.{compact_text}
 use Rattle.etcs_vars.specs.declared.var.Var.{Var}
-use Rattle.etcs_vars.specs.Reading.{IsOutcome, done, refused, more}
+use Rattle.etcs_vars.specs.Reading.{IsOutcome, Outcome, done, refused, more}
 use Rattle.etcs_text.specs.declared.entry.Kind.{Kind}
 use Rattle.etcs_text.specs.declared.entry.Kind.TheVariants.{Long, Short, Radio, Train}
 use Rattle.etcs_text.specs.Entries.{EntryReads, EntryValue, entry_text, entry_value}
@@ -45,9 +45,19 @@ Says Memory s a = s ≡ 4
 abbrev pub NoKind : ℕ → ℕ → Type 0
 NoKind n s = (s ≡ 5) × ((kind : Kind) → kind_number kind ≡ n → ⊥)
 
--- `etcs_check`: the status and the answer are those of what the bits begin with; or no kind has the number
+-- the status and the numbers of an outcome: an item of so many whole bytes, the beginning of one, or a refused bit
+abbrev pub SaysOutcome : Outcome EntryValue → ℕ → EtcsAnswer → Type 0
+SaysOutcome (done e n) s a = (s ≡ 0) × (n ≡ 8 * a.taken)
+SaysOutcome more s a = s ≡ 1
+SaysOutcome (refused i x) s a = (s ≡ 2) × (a.bit ≡ i) × (a.var ≡ name_field x)
+
+-- the status and the numbers are those of what the bits begin with, of items of the kind (`IsOutcome`); or it is out of memory
+abbrev pub SaysBits : Kind → List Bool → ℕ → EtcsAnswer → Type 0
+SaysBits kind b s a = ((o : Outcome EntryValue) × IsOutcome (EntryReads kind) b o × SaysOutcome o s a) ⊎ (s ≡ 4)
+
+-- `etcs_check`: that; or no kind has the number
 abbrev pub Checks : ℕ → List Bool → ℕ → EtcsAnswer → Type 0
-Checks n b s a = ((kind : Kind) × (found : Found) × (kind_number kind ≡ n) × Finds kind b found × Says found s a) ⊎ NoKind n s
+Checks n b s a = ((kind : Kind) × (kind_number kind ≡ n) × SaysBits kind b s a) ⊎ NoKind n s
 
 -- the text is what is written of the item: its lines of text, or its JSON
 abbrev pub IsText : Wanted → EntryValue → List ℕ → Type 0

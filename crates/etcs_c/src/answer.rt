@@ -68,6 +68,16 @@ pub fn name_field(var: Var) -> [u8; 32]
     field
 }
 
+/// Puts how many bytes the item has into the answer, and returns the status `WHOLE`.
+pub fn accept(taken: usize, answer: &mut EtcsAnswer) -> u32
+    ensures status { result ≡ 0 }
+    ensures taken { answer.new.taken ≡ taken }
+    ensures written { answer.new.written ≡ answer.old.written }
+{
+    answer.taken = taken;
+    WHOLE
+}
+
 /// Puts the refused bit and the name of the variable that holds it into the answer, and returns the status `REFUSED`.
 pub fn refuse(bit: usize, var: Var, answer: &mut EtcsAnswer) -> u32
     ensures status { result ≡ 2 }

@@ -15,9 +15,14 @@ const ITEM: &[u8] = &[0x18, 0x02, 0x80, 0, 0, 0, 0, 0, 0, 0];
 /// The first nine of its bytes.
 const FRONT: &[u8] = &[0x18, 0x02, 0x80, 0, 0, 0, 0, 0, 0];
 
-/// The same with packet 137 in 13 bytes, for which a reader wants memory.
+/// The same with packet 137 in 13 bytes, which are accepted without memory.
 const PACKET: &[u8] = &[
     0x18, 0x03, 0x40, 0x00, 0x00, 0x00, 0x00, 0x08, 0x00, 0x31, 0x28, 0x06, 0x20,
+];
+
+/// The same with L_MESSAGE 1023: the first bytes of a message, for whose packet a reader wants memory.
+const PACKET_FRONT: &[u8] = &[
+    0x18, 0xFF, 0xC0, 0x00, 0x00, 0x00, 0x00, 0x08, 0x00, 0x31, 0x28, 0x06, 0x20,
 ];
 
 /// L_MESSAGE 11, in which a packet has no room: the last bit of L_MESSAGE is bit 17.
@@ -63,6 +68,8 @@ type OfBytes = (Call, u32, &'static [u8], usize, Wanted);
 static OF_BYTES: &[OfBytes] = &[
     (Call::Check, 3, ITEM, 0, (0, 10, ANY, ANY, NONE)),
     (Call::Check, 3, FRONT, 0, (1, ANY, ANY, ANY, NONE)),
+    (Call::Check, 3, PACKET, 0, (0, 13, ANY, ANY, NONE)),
+    (Call::Check, 3, PACKET_FRONT, 0, (1, ANY, ANY, ANY, NONE)),
     (Call::Check, 3, ELEVEN, 0, (2, ANY, ANY, 17, LENGTH)),
     (Call::Check, 9, ITEM, 0, (5, ANY, ANY, ANY, NONE)),
     (Call::Show, 3, ITEM, 110, (0, 10, 110, ANY, NONE)),
@@ -477,9 +484,10 @@ fn fronts(rt: HostRuntime) -> Result<(), Fail> {
 /// What is returned when out of memory.
 const STARVED: Wanted = (4, ANY, ANY, ANY, NONE);
 
-/// A call of each function, all of which want memory.
+/// A call of each function, all of which want memory but the first.
 static STARVED_BYTES: &[OfBytes] = &[
-    (Call::Check, 3, PACKET, 0, STARVED),
+    (Call::Check, 3, PACKET, 0, (0, 13, ANY, ANY, NONE)),
+    (Call::Check, 3, PACKET_FRONT, 0, STARVED),
     (Call::Show, 3, ITEM, 110, STARVED),
     (Call::ToJson, 3, ITEM, 120, STARVED),
     (Call::Fields, 3, ITEM, 6, STARVED),

@@ -8,7 +8,9 @@ ghost use Rattle.etcs_c.specs.declared.found.Found.{Found};
 ghost use Rattle.etcs_c.specs.Answers.{Finds};
 ghost use Rattle.etcs_c.specs.Explained.{IsRefused, SaysBefore, SaysLineWhy, SaysUnwritten, SaysWhy};
 
-use crate::answer::{BAD_JSON, EtcsAnswer, MORE, NO_MEMORY, REFUSED, WHOLE, deliver, refuse};
+use crate::answer::{
+    BAD_JSON, EtcsAnswer, MORE, NO_MEMORY, REFUSED, WHOLE, accept, deliver, refuse,
+};
 use crate::fields::{EtcsField, fields_in};
 use crate::found::{find, say};
 use etcs_explain::json_reason;
@@ -31,10 +33,7 @@ fn refused_of(
 {
     answer.written = 0;
     match Account::unless_whole(alloc, kind, bytes, wanted) {
-        Ok(Ok(taken)) => {
-            answer.taken = taken;
-            Err(WHOLE)
-        }
+        Ok(Ok(taken)) => Err(accept(taken, answer)),
         Ok(Err(account)) => match account.end {
             End::Refused(bit, part) => {
                 refuse(bit, part.var, answer);

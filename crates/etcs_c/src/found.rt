@@ -6,11 +6,12 @@ ghost use Rattle.etcs_vars.specs.Reading.{IsOutcome, done};
 ghost use Rattle.etcs_sequence.specs.Progress.{reading};
 ghost use Rattle.etcs_messages.specs.Messages.{message_value};
 ghost use Rattle.etcs_text.specs.Entries.{EntryReads, kind_of, message_kind, of_message};
-ghost use Rattle.etcs_c.specs.Answers.{Finds, Says};
+ghost use Rattle.etcs_c.specs.Answers.{Finds, Says, SaysBits};
 
-use crate::answer::{EtcsAnswer, MORE, NO_MEMORY, WHOLE, refuse};
+use crate::answer::{EtcsAnswer, MORE, NO_MEMORY, accept, refuse};
 use etcs_messages::{Head, MessageOf, Own, ReaderOf};
 use etcs_telegram::{Size, TelegramReader};
+use etcs_text::inner::seen;
 use etcs_text::{Entry, Kind};
 use etcs_vars::{Fed, ReadFault, Var};
 use std::alloc::Global;
@@ -121,12 +122,20 @@ pub(crate) fn say(found: &Found, answer: &mut EtcsAnswer) -> u32
     ensures { Says found.now result answer.new }
 {
     match found {
-        Found::Whole { taken, .. } => {
-            answer.taken = *taken;
-            WHOLE
-        }
+        Found::Whole { taken, .. } => accept(*taken, answer),
         Found::More => MORE,
         Found::Refused { bit, var } => refuse(*bit, *var, answer),
         Found::Memory => NO_MEMORY,
+    }
+}
+
+/// Returns the status of what the bytes begin with, of items of this kind, and puts the numbers of it into the answer. Most
+/// items are accepted without making a value of them.
+pub(crate) fn check(alloc: Global, kind: Kind, bytes: &[u8], answer: &mut EtcsAnswer) -> u32
+    ensures { SaysBits kind (bits bytes.now) result answer.new }
+{
+    match seen(kind, bytes) {
+        Some(taken) => accept(taken, answer),
+        None => say(&find(alloc, kind, bytes), answer),
     }
 }

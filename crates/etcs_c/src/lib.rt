@@ -49,7 +49,7 @@ use built::from_fields;
 use etcs_runs::line_front;
 use explained::{write_before, write_line_why, write_why};
 pub use fields::EtcsField;
-use found::{find, say};
+use found::check;
 use groups::assemble;
 pub use groups::{EtcsGroup, EtcsTelegram};
 use item_fields::write_fields;
@@ -72,7 +72,7 @@ pub extern "C" fn etcs_check(alloc: Global, kind: u32, bytes: &[u8], answer: &mu
     ensures { Checks kind (bits bytes.now) result answer.new }
 {
     match kind_of(kind) {
-        Some(kind) => say(&find(alloc, kind, bytes), answer),
+        Some(kind) => check(alloc, kind, bytes, answer),
         None => UNKNOWN_KIND,
     }
 }

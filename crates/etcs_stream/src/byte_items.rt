@@ -1,6 +1,6 @@
 //! The items of bytes, one after another.
 
-ghost use Rattle.std.specs.Prelude.{◌≡◌, ◌+◌, ◌<◌, ◌≤◌, ◌⊎◌, ◌++◌, ℕ, List, [], length, IfErr, IfOk, OnErr, OnOk};
+ghost use Rattle.std.specs.Prelude.{◌≡◌, ◌+◌, ◌<◌, ◌≤◌, ◌⊎◌, ◌++◌, ℕ, List, [], length, IfErr, IfOk, IfSome, IsNone, OnErr, OnOk};
 ghost use Rattle.etcs_text.specs.Entries.{EntryValue, entry_kind};
 ghost use Rattle.etcs_runs.specs.declared.fault.RunFault.{RunFault};
 ghost use Rattle.etcs_text.specs.Readers.{seen_bits, reading, finished};
@@ -29,6 +29,31 @@ pub(crate) struct ByteItems {
     pub(crate) reader: EntryReader,
     pub(crate) printer: Printer,
     ghost groupable: { IsGroupable job },
+}
+
+/// Takes the item that the bytes begin with without a value of it, if the reader has begun none, and returns how many bytes it
+/// has. It may always return `None`.
+#[inline(always)]
+fn take_seen(
+    job: Job,
+    reader: &EntryReader,
+    printer: &mut Printer,
+    bytes: &[u8],
+    page: &mut Page,
+) -> Result<Option<usize>, RunFault>
+    requires waits { Awaits job.kind reader.now }
+    requires few { printer.old.count < 1000000 }
+    ensures taken { IfOk result (λ o. IfSome o (λ n. TakesFront job reader.now reader.now printer.old printer.new bytes.now page.old page.new n)) }
+    ensures none { IfOk result (λ o. IsNone o → (printer.new ≡ printer.old) × (page.new ≡ page.old)) }
+    ensures err { IfErr result (λ e. Halts job.kind job.command (seen_bits reader.now.progress) printer.old bytes.now page.old page.new e × Says job.command printer.old printer.new page.old page.new) }
+{
+    if reader.bits_seen() > 0 {
+        return Ok(None);
+    }
+    match printer.print_seen(job.command, job.kind, bytes, page) {
+        Ok(taken) => Ok(taken),
+        Err(AllocError) => Err(RunFault::Memory),
+    }
 }
 
 impl ByteItems {
@@ -144,6 +169,23 @@ impl ByteItems {
         if self.printer.count() == MOST_ITEMS {
             return Err(RunFault::Endless);
         }
+        match take_seen(self.job, &self.reader, &mut self.printer, bytes, page) {
+            Ok(Some(count)) => Ok(count),
+            Ok(None) => self.feed_reader(bytes, page),
+            Err(fault) => Err(fault),
+        }
+    }
+
+    /// Gives bytes to the reader up to the end of an item, which it reports, or all of them, and returns how many.
+    #[inline(never)]
+    fn feed_reader(&mut self, bytes: &[u8], page: &mut Page) -> Result<usize, RunFault>
+        requires some { 0 < length bytes.now }
+        requires waits { Awaits self.old.job.kind self.old.reader }
+        requires few { self.old.printer.count < 1000000 }
+        ensures job { self.new.job ≡ self.old.job }
+        ensures ok { IfOk result (λ n. TakesFront self.old.job self.old.reader self.new.reader self.old.printer self.new.printer bytes.now page.old page.new n) }
+        ensures err { IfErr result (λ e. Halts self.old.job.kind self.old.job.command (seen_bits self.old.reader.progress) self.old.printer bytes.now page.old page.new e × Says self.old.job.command self.old.printer self.new.printer page.old page.new) }
+    {
         match self.reader.feed(bytes) {
             Ok(Fed::More) => Ok(bytes.len()),
             Ok(Fed::Done { taken }) => {

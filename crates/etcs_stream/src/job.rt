@@ -1,6 +1,6 @@
 //! What the program is asked to do, and what it returns.
 
-ghost use Rattle.std.specs.Prelude.{◌↔◌, IsTrue};
+ghost use Rattle.std.specs.Prelude.{◌≡◌, ◌↔◌, IsTrue};
 ghost use Rattle.etcs_text.specs.Kinds.{IsOfTelegrams};
 ghost use Rattle.etcs_stream.specs.Printers.{IsGroupable};
 

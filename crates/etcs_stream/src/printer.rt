@@ -1,10 +1,12 @@
 //! What is written of each item, and after the last one.
 
-ghost use Rattle.std.specs.Prelude.{◌≡◌, ◌+◌, ◌<◌, ◌++◌, ◌∷◌, [], ℕ, List, Ok, Err, IfOk, OnErr, OnOk};
+ghost use Rattle.std.specs.Prelude.{◌≡◌, ◌+◌, ◌*◌, ◌<◌, ◌≤◌, ◌++◌, ◌∷◌, [], ℕ, List, Ok, Err, IfOk, IfSome, IsNone, OnErr, OnOk, length, true};
+ghost use Rattle.etcs_bits.specs.Bits.{bits};
+ghost use Rattle.etcs_vars.specs.Reading.{IsOutcome, done};
 ghost use Rattle.etcs_telegram.specs.Telegrams.{IsTelegram};
 ghost use Rattle.etcs_group.specs.Groups.{HeldAfter, IsGroup};
-ghost use Rattle.etcs_text.specs.Encodings.{IsEncoded};
-ghost use Rattle.etcs_text.specs.Entries.{entry_kind, entry_value};
+ghost use Rattle.etcs_text.specs.Encodings.{IsEncoded, check_line};
+ghost use Rattle.etcs_text.specs.Entries.{EntryReads, EntryValue, entry_kind, entry_value};
 ghost use Rattle.hex.specs.Hex.{encode_upper};
 ghost use Rattle.etcs_stream.specs.Groups.{Answers, clashes_with};
 ghost use Rattle.etcs_stream.specs.Reported.{Reported};
@@ -14,11 +16,11 @@ ghost use Rattle.etcs_stream.specs.Printers.{Closes, OutputsItem, nothing_report
 use crate::group_lines::{answer_line, last_lines};
 use crate::job::{Command, Tally};
 use etcs_group::{Added, Assembly, Clash};
-use etcs_packet_text::inner::Page;
+use etcs_packet_text::inner::{Page, to_digits};
 use etcs_runs::Form;
 use etcs_telegram::Telegram;
-use etcs_text::inner::{check_on, json_on, show_on};
-use etcs_text::{Entry, encoded, hex_line};
+use etcs_text::inner::{check_on, item_bits, json_on, seen, show_on};
+use etcs_text::{Entry, Kind, encoded, hex_line};
 use std::alloc::AllocError;
 use std::marker::Model;
 
@@ -58,6 +60,34 @@ impl Printer {
         ensures { result ≡ self.now.count }
     {
         self.count
+    }
+
+    /// Appends what the command writes of the next item, with which these bytes begin, without a value of the item, and
+    /// returns how many bytes it has. It may always return `None`, and then nothing is appended.
+    ///
+    /// # Errors
+    ///
+    /// `AllocError` if out of memory. Nothing is appended then.
+    #[inline(always)]
+    pub(crate) fn print_seen(
+        &mut self,
+        command: Command,
+        kind: Kind,
+        bytes: &[u8],
+        page: &mut Page,
+    ) -> Result<Option<usize>, AllocError>
+        requires few { self.old.count < 1000000 }
+        ensures some { IfOk result (λ o. IfSome o (λ n. (n ≤ length bytes.now) × (e : EntryValue) × IsOutcome (EntryReads kind) (bits bytes.now) (done e (8 * n)) × (added : List ℕ) × OutputsItem command e self.old added self.new × (page.new ≡ page.old ++ added))) }
+        ensures count { IfOk result (λ o. IfSome o (λ n. self.new.count ≡ self.old.count + 1)) }
+        ensures none { IfOk result (λ o. IsNone o → (self.new ≡ self.old) × (page.new ≡ page.old)) }
+        ensures err { OnErr result ((self.new ≡ self.old) × (page.new ≡ page.old)) }
+    {
+        let item = self.count + 1;
+        let taken = write_seen(command, kind, item, bytes, page)?;
+        if taken.is_some() {
+            self.count = item;
+        }
+        Ok(taken)
     }
 
     /// Appends what the command writes of the next item, or nothing.
@@ -195,6 +225,91 @@ fn write_alone(
     }
 }
 
+/// Appends what a command writes of the item of this number with which these bytes begin, and returns how many bytes it has.
+/// It may always return `None`, and then nothing is appended, as in case of an error.
+#[inline(always)]
+fn write_seen(
+    command: Command,
+    kind: Kind,
+    item: u64,
+    bytes: &[u8],
+    page: &mut Page,
+) -> Result<Option<usize>, AllocError>
+    ensures some { (s : Reported) → item ≡ s.count + 1 → IfOk result (λ o. IfSome o (λ n. (n ≤ length bytes.now) × (e : EntryValue) × IsOutcome (EntryReads kind) (bits bytes.now) (done e (8 * n)) × (added : List ℕ) × OutputsItem command e s added (one_more s) × (page.new ≡ page.old ++ added))) }
+    ensures none { IfOk result (λ o. IsNone o → page.new ≡ page.old) }
+    ensures err { OnErr result (page.new ≡ page.old) }
+{
+    match command {
+        Command::Check => check_seen(kind, item, bytes, page),
+        Command::Convert(form) => convert_seen(form, kind, bytes, page),
+        Command::Show | Command::Group => Ok(None),
+    }
+}
+
+/// Appends the item with which these bytes begin in this form, as [`write_seen`] does.
+#[inline(always)]
+fn convert_seen(
+    form: Form,
+    kind: Kind,
+    bytes: &[u8],
+    page: &mut Page,
+) -> Result<Option<usize>, AllocError>
+    ensures some { (s : Reported) → IfOk result (λ o. IfSome o (λ n. (n ≤ length bytes.now) × (e : EntryValue) × IsOutcome (EntryReads kind) (bits bytes.now) (done e (8 * n)) × (added : List ℕ) × OutputsItem (Command.Convert form) e s added (one_more s) × (page.new ≡ page.old ++ added))) }
+    ensures none { IfOk result (λ o. IsNone o → page.new ≡ page.old) }
+    ensures err { OnErr result (page.new ≡ page.old) }
+{
+    match form {
+        Form::Hex => hex_seen(kind, bytes, page),
+        Form::Bin => bytes_seen(kind, bytes, page),
+        Form::Json => Ok(None),
+    }
+}
+
+/// Appends the line of the item of this number with which these bytes begin, as [`write_seen`] does.
+#[inline(always)]
+fn check_seen(
+    kind: Kind,
+    item: u64,
+    bytes: &[u8],
+    page: &mut Page,
+) -> Result<Option<usize>, AllocError>
+    ensures some { IfOk result (λ o. IfSome o (λ n. (n ≤ length bytes.now) × (e : EntryValue) × IsOutcome (EntryReads kind) (bits bytes.now) (done e (8 * n)) × (page.new ≡ page.old ++ check_line e item))) }
+    ensures none { IfOk result (λ o. IsNone o → page.new ≡ page.old) }
+    ensures err { OnErr result (page.new ≡ page.old) }
+{
+    let Some(count) = seen(kind, bytes) else {
+        return Ok(None);
+    };
+    page.put_checked(item, item_bits(kind, count))?;
+    Ok(Some(count))
+}
+
+/// Appends the digits of the item with which these bytes begin and a LF, as [`write_seen`] does.
+fn hex_seen(kind: Kind, bytes: &[u8], page: &mut Page) -> Result<Option<usize>, AllocError>
+    ensures some { IfOk result (λ o. IfSome o (λ n. (n ≤ length bytes.now) × (e : EntryValue) × IsOutcome (EntryReads kind) (bits bytes.now) (done e (8 * n)) × (b : List ℕ) × IsEncoded e b × (page.new ≡ page.old ++ (encode_upper b ++ 10 ∷ [])))) }
+    ensures none { IfOk result (λ o. IsNone o → page.new ≡ page.old) }
+    ensures err { OnErr result (page.new ≡ page.old) }
+{
+    let Some(count) = seen(kind, bytes) else {
+        return Ok(None);
+    };
+    write_digits(&bytes[..count], page)?;
+    Ok(Some(count))
+}
+
+/// Appends the bytes of the item with which these begin, as [`write_seen`] does.
+fn bytes_seen(kind: Kind, bytes: &[u8], page: &mut Page) -> Result<Option<usize>, AllocError>
+    ensures some { IfOk result (λ o. IfSome o (λ n. (n ≤ length bytes.now) × (e : EntryValue) × IsOutcome (EntryReads kind) (bits bytes.now) (done e (8 * n)) × (b : List ℕ) × IsEncoded e b × (page.new ≡ page.old ++ b))) }
+    ensures none { IfOk result (λ o. IsNone o → page.new ≡ page.old) }
+    ensures err { OnErr result (page.new ≡ page.old) }
+{
+    let Some(count) = seen(kind, bytes) else {
+        return Ok(None);
+    };
+    write_bytes(&bytes[..count], page)?;
+    Ok(Some(count))
+}
+
 /// Appends the entry's encoding in digits and a LF to a page, or nothing.
 fn hex_on(entry: &Entry, page: &mut Page) -> Result<(), AllocError>
     ensures ok { OnOk result ((bytes : List ℕ) × IsEncoded (entry_value entry.now) bytes × (page.new ≡ page.old ++ (encode_upper bytes ++ 10 ∷ []))) }
@@ -213,6 +328,32 @@ fn encoded_on(entry: &Entry, page: &mut Page) -> Result<(), AllocError>
 {
     let mut text = page.take_text();
     let written = encoded(entry, &mut text);
+    *page = Page::after(text);
+    written
+}
+
+/// Appends bytes to a page, or nothing.
+fn write_bytes(bytes: &[u8], page: &mut Page) -> Result<(), AllocError>
+    ensures ok { OnOk result (page.new ≡ page.old ++ bytes.now) }
+    ensures err { OnErr result (page.new ≡ page.old) }
+{
+    let mut text = page.take_text();
+    let written = text.extend_from_slice(bytes);
+    *page = Page::after(text);
+    written
+}
+
+/// Appends the digits of bytes and a LF to a page, or nothing.
+fn write_digits(bytes: &[u8], page: &mut Page) -> Result<(), AllocError>
+    ensures ok { OnOk result (page.new ≡ page.old ++ (encode_upper bytes.now ++ 10 ∷ [])) }
+    ensures err { OnErr result (page.new ≡ page.old) }
+{
+    let mut text = page.take_text();
+    let start = text.len();
+    let mut written = text.extend_from_slice(bytes);
+    if written.is_ok() {
+        written = to_digits(&mut text, start);
+    }
     *page = Page::after(text);
     written
 }

@@ -3,6 +3,7 @@ pub mod ItemKinds
 pub mod JsonExamples
 pub mod MessageExamples
 pub mod MessageTexts
+pub mod SeenItems
 pub mod TelegramTexts
 pub mod TextLengths
 pub mod TreeTexts

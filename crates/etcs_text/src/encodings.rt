@@ -57,7 +57,7 @@ pub fn check_line(entry: &Entry, item: u64, out: &mut Vec<u8>) -> Result<(), All
 
 /// For callers: each byte is below 256.
 #[inline]
-fn are_bytes(bytes: &[u8])
+pub fn are_bytes(bytes: &[u8])
     ensures { All (λ b. b < 256) bytes.now }
 {
     let _ = bytes;

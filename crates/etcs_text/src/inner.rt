@@ -3,4 +3,5 @@
 pub use crate::encodings::check_on;
 pub use crate::item_lines::write_item_number;
 pub use crate::json_lines::{json_on, kind_member, way_member};
+pub use crate::seen::{item_bits, seen};
 pub use crate::show::show_on;

@@ -14,7 +14,7 @@ use Rattle.etcs_c.proofs.explained.refused_of.Goals.{in_default-via-in-Open+else
 pub returns-in-Ok-Ok : goal.returns-in-Ok-Ok
 returns-in-Ok-Ok c =
     let (e, whole) = rw (c.in-Ok-Ok.is, c.in-Ok-Ok.field-0-is) at c.unless_whole.ensures in
-    (found_as.Whole e c.in-Ok-Ok.taken, whole, ((refl, refl), refl))
+    (found_as.Whole e c.in-Ok-Ok.taken, whole, ((c.accept.ensures.status, c.accept.ensures.taken), c.accept.ensures.written))
 
 pub returns-in-Refused : goal.returns-in-Refused
 returns-in-Refused c =

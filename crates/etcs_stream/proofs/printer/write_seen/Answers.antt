@@ -1,0 +1,12 @@
+use Rattle.std.proofs.Common.{◌+◌, refl}
+use Rattle.std.proofs.lemmas.Option.{IfSome_then}
+use Rattle.std.proofs.lemmas.Result.{IfOk-weaker}
+use Rattle.etcs_text.specs.Encodings.{check_line}
+use Rattle.etcs_stream.proofs.printer.write_seen.Goals as goal
+
+pub returns-in-Check-clause-some : goal.returns-in-Check-clause-some
+returns-in-Check-clause-some c = λ s is.
+    rw c.in-Check.is (IfOk-weaker c.check_seen.result _ _ (λ o h. IfSome_then o h (λ n (within, e, out, page). (within, e, out, check_line e (s.count + 1), (refl, refl), rw is at page))) c.check_seen.ensures.some)
+
+pub returns-in-Convert-clause-some : goal.returns-in-Convert-clause-some
+returns-in-Convert-clause-some c = λ s is. rw c.in-Convert.is (c.convert_seen.ensures.some s)

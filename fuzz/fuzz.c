@@ -622,7 +622,8 @@ static void try_refused(etcs_kind kind, const uint8_t *bytes, size_t len, const 
     HOLDS(other.status != ETCS_REFUSED || other.answer.bit > bit);
 }
 
-/* The reader of pieces finds the items that the calls find in the whole. */
+/* The reader of pieces finds the items that the calls find in the whole, and a bit that is refused in the n-th byte of an item
+ * before it has 2n bytes of it, or at the end. */
 static void try_pieces(etcs_kind kind, const uint8_t *bytes, size_t len)
 {
     etcs_reader reader;
@@ -643,9 +644,17 @@ static void try_pieces(etcs_kind kind, const uint8_t *bytes, size_t len)
         } else if (status == ETCS_REFUSED) {
             HOLDS(whole.status == ETCS_REFUSED && whole.answer.bit == a.bit && !strcmp(whole.answer.var, a.var));
             return;
-        } else
+        } else {
             HOLDS(status == ETCS_MORE && used == piece && (whole.status != ETCS_OK || begin + whole.answer.taken > at));
+            HOLDS(whole.status != ETCS_REFUSED || at - begin < 2 * (whole.answer.bit / 8) + 1);
+        }
     }
+    is_inside = 1;
+    etcs_status status = etcs_reader_end(&reader, &a);
+    is_inside = 0;
+    result rest = call_with(CHECK, kind, bytes + begin, len - begin, 0, 0);
+    HOLDS(status == (begin < len ? rest.status : ETCS_OK));
+    HOLDS(status != ETCS_REFUSED || (rest.answer.bit == a.bit && !strcmp(rest.answer.var, a.var)));
 }
 
 static void try_bytes(etcs_kind kind, const uint8_t *bytes, size_t len)

@@ -52,9 +52,13 @@ static inline size_t etcs_bit_of(const etcs_field *fields, size_t place)
     return bits;
 }
 
-/* A reader of items from pieces of any length. It refuses in the piece with the first bit after which no item continues. It
- * keeps the bytes of the item that isn't whole and reads them again with each piece, so for speed feed pieces of several
- * bytes, not single bytes. Only one thread at a time may use it.
+/* A reader of items from pieces of any length, single bytes too. An item comes with the piece that completes it.
+ *
+ * The reader keeps the bytes of an item that isn't whole, and checks them anew when all are there (27, 104, or as many as
+ * L_MESSAGE gives), and before that when 1, 2, 3, 6, 12, 24 and so on up to 768 of them are. So the time for an item is
+ * proportional to its bytes, and a refused bit may be reported late: if it is in byte n of the item, counted from 1, then
+ * with the piece that brings byte n or one of the n - 1 bytes after it, at the latest with the item's last byte, or by
+ * etcs_reader_end. Its bit and var are those of etcs_check. Only one thread at a time may use a reader.
  *
  *     etcs_reader reader;
  *     etcs_reader_start(&reader, ETCS_RADIO);
@@ -65,7 +69,9 @@ static inline size_t etcs_bit_of(const etcs_field *fields, size_t place)
  *             else if (status != ETCS_MORE) stop: it returns this status from now on, and etcs_explain with reader.bytes
  *                                           and reader.len writes the reason
  *         }
- *     if (reader.len > 0)                   the input ended inside an item
+ *     status = etcs_reader_end(&reader, &answer);
+ *     if (status == ETCS_MORE)              the input ended inside an item
+ *     else if (status != ETCS_OK)           stop, as above
  */
 typedef struct etcs_reader {
     etcs_kind kind;
@@ -82,13 +88,44 @@ static inline void etcs_reader_start(etcs_reader *reader, etcs_kind kind)
     reader->status = ETCS_MORE;
 }
 
-/* Takes *used bytes, up to the end of an item or of the piece. A refused bit is counted from the item's first. */
+/* For etcs_reader_feed: how many bytes an item of the kind has; the most that it has if it is a message. */
+static inline size_t etcs_reader_most(etcs_kind kind)
+{
+    return kind == ETCS_SHORT ? 27 : kind == ETCS_LONG ? 104 : ETCS_MOST_BYTES;
+}
+
+/* For etcs_reader_feed: at how many bytes of the item, more than it keeps, it is checked next. */
+static inline size_t etcs_reader_due(const etcs_reader *reader)
+{
+    size_t all = etcs_reader_most(reader->kind), due = 6;
+    if (reader->len < 3)
+        return reader->len + 1;
+    if (all == ETCS_MOST_BYTES)
+        all = (size_t)reader->bytes[1] << 2 | reader->bytes[2] >> 6; /* L_MESSAGE: bits 8 to 17 */
+    while (due <= reader->len)
+        due *= 2;
+    return due < all ? due : all;
+}
+
+/* For etcs_reader_feed and etcs_reader_end: checks the first len bytes, and notes a failure. */
+static inline etcs_status etcs_reader_check(etcs_reader *reader, size_t len, etcs_answer *answer)
+{
+    etcs_status status = etcs_check(reader->kind, reader->bytes, len, answer);
+    if (status != ETCS_OK && status != ETCS_MORE && status != ETCS_NO_MEMORY) {
+        reader->len = len;
+        reader->status = status;
+        reader->failed = *answer;
+    }
+    return status;
+}
+
+/* Takes *used bytes, up to the end of an item or of the piece; none with ETCS_NO_MEMORY, which leaves the reader as it was.
+ * A refused bit is counted from the item's first. */
 static inline etcs_status etcs_reader_feed(etcs_reader *reader, const uint8_t *piece, size_t len, size_t *used,
                                            etcs_answer *answer)
 {
-    size_t most = reader->kind == ETCS_SHORT ? 27 : reader->kind == ETCS_LONG ? 104 : ETCS_MOST_BYTES;
-    size_t held = reader->len, take = most - held < len ? most - held : len;
-    etcs_status status;
+    size_t held = reader->len, room = etcs_reader_most(reader->kind) - held, take = room < len ? room : len;
+    etcs_status status = ETCS_MORE;
     *used = 0;
     if (reader->status != ETCS_MORE) {
         *answer = reader->failed;
@@ -96,24 +133,28 @@ static inline etcs_status etcs_reader_feed(etcs_reader *reader, const uint8_t *p
     }
     if (take)
         memcpy(reader->bytes + held, piece, take);
-    status = etcs_check(reader->kind, reader->bytes, held + take, answer);
-    switch (status) {
-    case ETCS_OK:
+    if (held + take >= etcs_reader_due(reader))
+        status = etcs_reader_check(reader, held + take, answer);
+    if (status == ETCS_OK) {
         *used = answer->taken - held;
         reader->len = 0;
-        break;
-    case ETCS_MORE:
+    } else if (status == ETCS_MORE) {
         *used = take;
         reader->len = held + take;
-        break;
-    case ETCS_NO_MEMORY: /* the reader stays as it was */
-        break;
-    default:
-        reader->len = held + take;
-        reader->status = status;
-        reader->failed = *answer;
     }
     return status;
+}
+
+/* Ends the input: ETCS_OK if all of its items are whole, ETCS_MORE inside an item, else as etcs_reader_feed. */
+static inline etcs_status etcs_reader_end(etcs_reader *reader, etcs_answer *answer)
+{
+    if (reader->status != ETCS_MORE) {
+        *answer = reader->failed;
+        return reader->status;
+    }
+    if (reader->len == 0)
+        return ETCS_OK;
+    return etcs_reader_check(reader, reader->len, answer);
 }
 
 #endif

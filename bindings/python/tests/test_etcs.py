@@ -29,6 +29,19 @@ def example(name):
         return bytes.fromhex(file.read())
 
 
+def refused(data, kind):
+    """Yields the bytes with each bit turned with which they are refused, and the fault."""
+    for bit in range(8 * len(data)):
+        turned = bytearray(data)
+        turned[bit // 8] ^= 0x80 >> bit % 8
+        try:
+            etcs.check(turned, kind)
+        except etcs.Refused as fault:
+            yield bytes(turned), fault
+        except etcs.Truncated:
+            pass
+
+
 def all_items():
     """Yields the items of the examples, and telegrams and messages with a packet of each number."""
     for name in sorted(os.listdir(EXAMPLES)):
@@ -512,18 +525,13 @@ class Tests(unittest.TestCase):
         self.assertIn("M_VERSION admits", fault.reason)
         # the fields before a bit are those of the item whose bit was turned
         data, widths = example("short_linking.hex")[:27], dict(zip(VARIABLES, WIDTHS))
-        for bit in range(len(data) * 8):
-            turned = bytearray(data)
-            turned[bit // 8] ^= 0x80 >> bit % 8
-            try:
-                etcs.check(turned, "short")
-            except etcs.Refused as fault:
-                before = fault.fields
-                whole = sum(each.width for each in before)
-                self.assertTrue(0 <= fault.bit - whole < widths[fault.variable])
-                spelled = "".join(f"{each.number:0{each.width}b}" for each in before)
-                self.assertEqual(spelled, f"{int.from_bytes(turned, 'big'):0216b}"[:whole])
-                self.assertTrue(fault.reason)
+        for turned, fault in refused(data, "short"):
+            before = fault.fields
+            whole = sum(each.width for each in before)
+            self.assertTrue(0 <= fault.bit - whole < widths[fault.variable])
+            spelled = "".join(f"{each.number:0{each.width}b}" for each in before)
+            self.assertEqual(spelled, f"{int.from_bytes(turned, 'big'):0216b}"[:whole])
+            self.assertTrue(fault.reason)
         reader = etcs.Reader("radio")
         with self.assertRaises(etcs.Refused) as caught:
             reader.feed(RADIO + bytes.fromhex("0602C0"))
@@ -566,6 +574,69 @@ class Tests(unittest.TestCase):
             with self.assertRaises(etcs.Refused) as caught:
                 reader.feed(b"\xC0")
             self.assertEqual((caught.exception.item, caught.exception.items), (2, []))
+
+    def refusal_of(self, data, kind, size):
+        """The piece with which a reader refuses a bit, from 0, or None for the end of the pieces; and the fault."""
+        reader = etcs.Reader(kind)
+        try:
+            for number, at in enumerate(range(0, len(data), size)):
+                self.assertEqual(reader.feed(data[at:at + size]), [])
+            number = None
+            reader.close()
+        except etcs.Refused as fault:
+            self.assertEqual((fault.item, fault.items), (1, []))
+            return number, fault
+        return self.fail("no bit is refused")
+
+    def test_late_refusals(self):
+        """A refused bit is reported when there are 1, 2, 3, 6, 12, .. bytes of the item, or all, or at the end of the input."""
+        for name, kind in ("short_linking", "short"), ("long_line_ahead", "long"), ("radio_stop_in_sr", "radio"), ("train_position_report", "train"):
+            data = example(f"{name}.hex")
+            for turned, wanted in refused(data[:etcs.check(data, kind)], kind):
+                # bits 8 to 17 of a message are L_MESSAGE
+                count = int.from_bytes(turned[1:3], "big") >> 6 if kind in ("radio", "train") else len(turned)
+                marks = {1, 2, 3, 6, 12, 24, 48, 96, 192, 384, 768, max(count, 3)}
+                reach = wanted.bit // 8 + 1
+                self.assertLess(min(mark for mark in marks if mark >= reach), 2 * reach)
+                for size, end in (1, reach), (1, len(turned)), (5, len(turned)), (len(turned), len(turned)):
+                    number, fault = self.refusal_of(turned[:end], kind, size)
+                    self.assertEqual((fault.bit, fault.variable), (wanted.bit, wanted.variable))
+                    ends = [*range(size, end, size), end]
+                    read = (at for at, last in enumerate(ends) if last >= reach and any(last - size < mark <= last for mark in marks))
+                    self.assertEqual(number, next(read, None))
+
+    def test_few_readings(self):
+        """An item of n bytes that come one by one is read from fewer than 3n bytes, counted each time that they are read."""
+        read, fields_of_bytes = [], _library.fields
+        for count in 3, 4, 13, 100, 767, 768, 769, 1023:
+            # message 15 isn't typed: it is NID_MESSAGE, L_MESSAGE and bits that are kept
+            data = (15 << 16 | count << 6).to_bytes(3, "big") + bytes(count - 3)
+            read.clear()
+            with mock.patch.object(_library, "fields", lambda front, kind: read.append(len(front)) or fields_of_bytes(front, kind)):
+                reader = etcs.Reader("radio")
+                found = [reader.feed(data[at:at + 1]) for at in range(count)]
+            self.assertEqual(found, [[]] * (count - 1) + [[etcs.decode(data, "radio")]])
+            self.assertEqual(read, [each for each in (1, 2, 3, 6, 12, 24, 48, 96, 192, 384, 768) if each < count] + [count])
+            self.assertLess(sum(read), 3 * count)
+
+    def test_reader_without_memory(self):
+        """A call that runs out of memory leaves the reader as it was before the piece."""
+        reader, fields_of_bytes = etcs.Reader("radio"), _library.fields
+        self.assertEqual(reader.feed(RADIO[:5]), [])
+        piece, calls = RADIO[5:] + RADIO + RADIO[:2], []
+
+        def failing(front, kind):
+            calls.append(front)
+            if len(calls) == 2:
+                raise MemoryError
+            return fields_of_bytes(front, kind)
+
+        with mock.patch.object(_library, "fields", failing):
+            with self.assertRaises(MemoryError):
+                reader.feed(piece)
+            self.assertEqual(reader.count, 0)
+            self.assertEqual(reader.feed(piece), [etcs.decode(RADIO, "radio")] * 2)
+        self.assertEqual((reader.count, len(reader.feed(RADIO[2:]))), (2, 1))
 
     def test_items(self):
         self.assertEqual([at for at, _ in etcs.items(SHORT * 4, "short")], [0, 27, 54, 81])

@@ -229,7 +229,7 @@ def from_fields(sent: Iterable[Field], kind: Kind) -> bytes:
 
 
 class Reader(Generic[_Read]):
-    """Reads items of a kind from pieces of any length.
+    """Reads items of a kind from pieces of any length, single bytes too.
 
         reader = etcs.Reader("radio")
         for piece in pieces:
@@ -237,8 +237,11 @@ class Reader(Generic[_Read]):
                 ...
         reader.close()
 
-    It refuses in the piece with the first bit after which no item continues. It keeps the bytes of the item that isn't
-    whole, at most 1,023, and reads them again with each piece, so for speed feed larger pieces, not single bytes.
+    An item comes with the piece that completes it. The bytes of an item that isn't whole are kept, and read anew when all are
+    there (27, 104, or as many as L_MESSAGE gives), and before that when 1, 2, 3, 6, 12, 24 and so on up to 768 of them are. So
+    the time for an item is proportional to its bytes, and a refused bit may be reported late: if it is in byte n of the item,
+    counted from 1, then with the piece that brings byte n or one of the n - 1 bytes after it, at the latest with the item's
+    last byte, or by `close`. Bit and variable are those that `check` reports.
     """
 
     @overload
@@ -253,15 +256,32 @@ class Reader(Generic[_Read]):
         self.kind: Kind = kind
         #: how many items were read
         self.count = 0
-        self._held = b""
+        self._held = bytearray()
         self._fault: Optional[Refused] = None
+
+    def _due(self) -> int:
+        """At how many bytes of an item, more than are held, it is read next."""
+        held = len(self._held)
+        if held < 3:
+            return held + 1
+        whole = _LONGEST[self.kind] if self.kind in ("long", "short") else self._held[1] << 2 | self._held[2] >> 6  # L_MESSAGE
+        return min(whole, 3 << (held // 3).bit_length())
+
+    def _refuse(self, fault: Refused, found: List[_Read]) -> None:
+        """Notes a fault, which each later call raises, with the items of the piece before it."""
+        self.count += len(found)
+        fault.items, fault.item, self._fault = found, self.count + 1, fault
 
     def feed(self, piece: Data) -> List[_Read]:
         """The items that become whole with this piece. Raises Refused, now and in each later call; its `items` are the items
         before the refused one, and its `item` is the number of that one, from 1."""
         if self._fault:
             raise self._fault
-        data = self._held + bytes_of(piece)
+        data = bytes_of(piece)
+        if len(self._held) + len(data) < self._due():
+            self._held += data
+            return []
+        data = bytes(self._held) + data
         found: List[_Read] = []
         at = 0
         while at < len(data):
@@ -270,20 +290,24 @@ class Reader(Generic[_Read]):
             except Truncated:
                 break
             except Refused as fault:
-                fault.items, fault.item, self._fault = found, self.count + 1, fault
+                self._refuse(fault, found)
                 raise
             found.append(item)
-            self.count += 1
             at += taken
-        self._held = data[at:]
+        self.count += len(found)
+        self._held = bytearray(data[at:])
         return found
 
     def close(self) -> None:
-        """Ends the input. Raises Truncated inside an item."""
+        """Ends the input. Raises Truncated inside an item, or Refused, as `feed` does, if the item is refused."""
         if self._fault:
             raise self._fault
         if self._held:
-            raise Truncated(8 * len(self._held))
+            try:
+                _library.check(bytes(self._held), self.kind)
+            except Refused as fault:
+                self._refuse(fault, [])
+                raise
 
     def __enter__(self) -> Reader[_Read]:
         return self

@@ -45,7 +45,7 @@ Says Memory s a = s ≡ 4
 abbrev pub NoKind : ℕ → ℕ → Type 0
 NoKind n s = (s ≡ 5) × ((kind : Kind) → kind_number kind ≡ n → ⊥)
 
--- the status and the numbers of an outcome: an item of so many whole bytes, the beginning of one, or a refused bit
+-- the status and the numbers of an outcome: an item and how many bytes it has, the beginning of one, or a refused bit
 abbrev pub SaysOutcome : Outcome EntryValue → ℕ → EtcsAnswer → Type 0
 SaysOutcome (done e n) s a = (s ≡ 0) × (n ≡ 8 * a.taken)
 SaysOutcome more s a = s ≡ 1

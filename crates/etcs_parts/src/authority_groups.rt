@@ -43,6 +43,7 @@ pub(crate) fn check_end_timer(end_timer: Option<(u16, u16)>) -> Result<(), Build
 }
 
 /// Sends the timer of the end section, after its flag.
+#[inline(always)]
 pub(crate) fn send_end_timer<S: VarSink>(
     end_timer: Option<(u16, u16)>,
     out: &mut S,
@@ -54,6 +55,7 @@ pub(crate) fn send_end_timer<S: VarSink>(
 }
 
 /// The timer of the end section that the numbers begin with, after its flag.
+#[inline(always)]
 pub(crate) fn take_end_timer<L: Numbers>(numbers: &mut L) -> Option<Option<(u16, u16)>>
     ensures part { IfSome result (λ t. Is end_timer_format t) }
     ensures from { IfSome result (λ t. from end_timer_format (L.left numbers.old) ≡ Some (t, L.left numbers.new)) }
@@ -72,6 +74,7 @@ pub(crate) fn check_danger_point(danger_point: Option<(u16, u8)>) -> Result<(), 
 }
 
 /// Sends the danger point, after its flag.
+#[inline(always)]
 pub(crate) fn send_danger_point<S: VarSink>(
     danger_point: Option<(u16, u8)>,
     out: &mut S,
@@ -83,6 +86,7 @@ pub(crate) fn send_danger_point<S: VarSink>(
 }
 
 /// The danger point that the numbers begin with, after its flag.
+#[inline(always)]
 pub(crate) fn take_danger_point<L: Numbers>(numbers: &mut L) -> Option<Option<(u16, u8)>>
     ensures part { IfSome result (λ p. Is danger_format p) }
     ensures from { IfSome result (λ p. from danger_format (L.left numbers.old) ≡ Some (p, L.left numbers.new)) }
@@ -101,6 +105,7 @@ pub(crate) fn check_overlap(overlap: Option<(u16, u16, u16, u8)>) -> Result<(), 
 }
 
 /// Sends the overlap, after its flag.
+#[inline(always)]
 pub(crate) fn send_overlap<S: VarSink>(
     overlap: Option<(u16, u16, u16, u8)>,
     out: &mut S,
@@ -112,6 +117,7 @@ pub(crate) fn send_overlap<S: VarSink>(
 }
 
 /// The overlap that the numbers begin with, after its flag.
+#[inline(always)]
 pub(crate) fn take_overlap<L: Numbers>(numbers: &mut L) -> Option<Option<(u16, u16, u16, u8)>>
     ensures part { IfSome result (λ o. Is overlap_format o) }
     ensures from { IfSome result (λ o. from overlap_format (L.left numbers.old) ≡ Some (o, L.left numbers.new)) }

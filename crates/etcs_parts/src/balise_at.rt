@@ -85,6 +85,7 @@ impl Variables for BaliseAt {
         15 + 10 * usize::from(self.nid_c.is_some())
     }
 
+    #[inline(always)]
     fn send<S: VarSink>(&self, out: &mut S) -> Result<(), AllocError> {
         match self.nid_c {
             None => out.send(&[

@@ -90,6 +90,7 @@ impl Variables for Condition {
         34
     }
 
+    #[inline(always)]
     fn send<S: VarSink>(&self, out: &mut S) -> Result<(), AllocError> {
         fields!(send_fields: self, out)
     }

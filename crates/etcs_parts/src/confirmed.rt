@@ -65,6 +65,7 @@ impl Confirmed {
     }
 
     /// Sends its variables.
+    #[inline(always)]
     pub(crate) fn send<S: VarSink>(&self, out: &mut S) -> Result<(), AllocError>
         ensures ok { OnOk result (out.new ≡ S.with out.old (reading confirmed_format (self.now.q_textconfirm, self.now.confirm))) }
         ensures err { OnErr result (S.failed out.old out.new) }
@@ -101,6 +102,7 @@ impl Confirmed {
 }
 
 /// The report that the numbers begin with.
+#[inline(always)]
 fn next_report<L: Numbers>(numbers: &mut L) -> Option<(u8, u16, u16)>
     ensures part { IfSome result (λ r. Is report_format r) }
     ensures from { IfSome result (λ r. from report_format (L.left numbers.old) ≡ Some (r, L.left numbers.new)) }
@@ -114,6 +116,7 @@ fn next_report<L: Numbers>(numbers: &mut L) -> Option<(u8, u16, u16)>
 }
 
 /// The confirmation that the numbers begin with.
+#[inline(always)]
 fn next_confirm<L: Numbers>(numbers: &mut L) -> Option<(bool, Option<(u8, u16, u16)>)>
     ensures part { IfSome result (λ c. Is confirm_format c) }
     ensures from { IfSome result (λ c. from confirm_format (L.left numbers.old) ≡ Some (c, L.left numbers.new)) }

@@ -83,6 +83,7 @@ impl Differing {
 }
 
 /// The variable of the category after Q_DIFF.
+#[inline(always)]
 fn category_var(q_diff: u8) -> Var
     ensures { result ≡ category_of q_diff }
 {
@@ -104,6 +105,7 @@ impl Variables for Differing {
         13
     }
 
+    #[inline(always)]
     fn send<S: VarSink>(&self, out: &mut S) -> Result<(), AllocError> {
         out.send(&[
             (Var::Q_DIFF, u64::from(self.q_diff)),

@@ -82,6 +82,7 @@ impl Variables for Level {
         3 + 8 * usize::from(self.nid_ntc.is_some())
     }
 
+    #[inline(always)]
     fn send<S: VarSink>(&self, out: &mut S) -> Result<(), AllocError> {
         match self.nid_ntc {
             None => out.send(&[(Var::M_LEVELTR, u64::from(self.m_leveltr))]),

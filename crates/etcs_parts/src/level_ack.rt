@@ -99,6 +99,7 @@ impl Variables for LevelAck {
         self.level.bits() + 15
     }
 
+    #[inline(always)]
     fn send<S: VarSink>(&self, out: &mut S) -> Result<(), AllocError> {
         fields!(send_fields: self, out)
     }

@@ -124,6 +124,7 @@ impl Variables for Link {
         24 + self.balise.bits()
     }
 
+    #[inline(always)]
     fn send<S: VarSink>(&self, out: &mut S) -> Result<(), AllocError> {
         fields!(send_fields: self, out)
     }

@@ -125,6 +125,7 @@ impl Variables for ModeSection {
         55
     }
 
+    #[inline(always)]
     fn send<S: VarSink>(&self, out: &mut S) -> Result<(), AllocError> {
         fields!(send_fields: self, out)
     }

@@ -77,6 +77,7 @@ impl Variables for ReportAt {
         16
     }
 
+    #[inline(always)]
     fn send<S: VarSink>(&self, out: &mut S) -> Result<(), AllocError> {
         fields!(send_fields: self, out)
     }

@@ -88,6 +88,7 @@ impl Section {
 
     /// The end section that the numbers begin with.
     #[tactic(auto, using(etcs_bodies::specs::laws::Formats::same_number))]
+    #[inline(always)]
     pub(crate) fn end_from_numbers<L: Numbers>(numbers: &mut L) -> Option<Section>
         ensures part { IfSome result (λ s. Is section_format s) }
         ensures from { IfSome result (λ s. from end_format (L.left numbers.old) ≡ Some (s, L.left numbers.new)) }
@@ -102,6 +103,7 @@ impl Section {
     }
 
     /// Sends its variables as those of the end section.
+    #[inline(always)]
     pub(crate) fn send_end<S: VarSink>(&self, out: &mut S) -> Result<(), AllocError>
         ensures ok { OnOk result (out.new ≡ S.with out.old (reading end_format self.now)) }
         ensures err { OnErr result (S.failed out.old out.new) }
@@ -121,6 +123,7 @@ fn check_timer(timer: Option<(u16, u16)>) -> Result<(), BuildFault>
 }
 
 /// Sends the timer of a section, after its flag.
+#[inline(always)]
 fn send_timer<S: VarSink>(timer: Option<(u16, u16)>, out: &mut S) -> Result<(), AllocError>
     ensures ok { OnOk result (out.new ≡ S.with out.old (reading timer_format timer)) }
     ensures err { OnErr result (S.failed out.old out.new) }
@@ -149,6 +152,7 @@ impl Variables for Section {
         16 + 25 * usize::from(self.timer.is_some())
     }
 
+    #[inline(always)]
     fn send<S: VarSink>(&self, out: &mut S) -> Result<(), AllocError> {
         out.send(&[(Var::L_SECTION, u64::from(self.length))])?;
         send_timer(self.timer, out)

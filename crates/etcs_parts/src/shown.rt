@@ -101,6 +101,7 @@ impl Variables for Shown {
         7 + 8 * usize::from(self.nid_ntc.is_some())
     }
 
+    #[inline(always)]
     fn send<S: VarSink>(&self, out: &mut S) -> Result<(), AllocError> {
         match self.nid_ntc {
             None => out.send(&[

@@ -89,6 +89,7 @@ impl Variables for Slope {
         24
     }
 
+    #[inline(always)]
     fn send<S: VarSink>(&self, out: &mut S) -> Result<(), AllocError> {
         fields!(send_fields: self, out)
     }

@@ -178,6 +178,7 @@ impl Variables for TextFrame {
         45 + self.start.bits() + self.end.bits() + self.confirmed.bits()
     }
 
+    #[inline(always)]
     fn send<S: VarSink>(&self, out: &mut S) -> Result<(), AllocError> {
         fields!(send_fields: self, out)
     }

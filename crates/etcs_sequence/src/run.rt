@@ -277,6 +277,7 @@ pub enum Run {
 ///
 /// Requires that the store's packets go the carrier's way, that it holds nothing, that the piece holds the room,
 /// that the room has at most 8,191 bits, and that a word counts the bits of the piece.
+#[inline(always)]
 pub fn take_run<S: PacketSink>(
     store: &mut S,
     carrier: Carrier,
@@ -316,6 +317,7 @@ pub fn take_run<S: PacketSink>(
 /// [`take_run`] returns if it takes all of them. `None` if the lengths don't fit the room, which begins at bit `at` of a piece.
 ///
 /// Requires that the piece holds the room, and that a word counts the bits of the piece.
+#[inline(always)]
 pub fn left_by_lengths(carrier: Carrier, room: usize, piece: &[u8], at: usize) -> Option<usize>
     requires inside { at + room ≤ length (bits piece.now) }
     requires small { length (bits piece.now) < 2 ^ 64 }

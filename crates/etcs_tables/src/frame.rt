@@ -24,6 +24,7 @@ pub const CLOSING_BITS: usize = 8;
 
 /// How many bits are before a packet's row, at most 23: those of NID_PACKET, Q_DIR to the train, and L_PACKET
 /// (SUBSET-026, 7.4).
+#[inline(always)]
 pub fn frame_bits(way: Way) -> usize
     ensures bits { result ≡ frame_bits way }
     ensures most { result ≤ 23 }
@@ -52,6 +53,7 @@ pub fn kept_limit(way: Way) -> usize
 }
 
 /// Whether packets of this number have a frame: to the train the numbers 1 to 254, to the track all.
+#[inline(always)]
 pub fn is_framed(way: Way, nid: u8) -> bool
     ensures { result ≡ is_framed way nid }
 {

@@ -237,6 +237,7 @@ fn check_level(m_level: u8, nid_ntc: Option<u8>) -> Result<(), BuildFault>
 
 /// Q_LENGTH, and the length if it is 1 or 2, that the numbers begin with.
 #[tactic(auto, using(etcs_bodies::specs::laws::Guards::guard_ok), unfolding(etcs_bodies::specs::Guards::guard_fault))]
+#[inline(always)]
 fn take_integrity<L: Numbers>(numbers: &mut L) -> Option<(u8, Option<u16>)>
     ensures part { IfSome result (λ p. Is integrity_format (p.0, p.1)) }
     ensures from { IfSome result (λ p. from integrity_format (L.left numbers.old) ≡ Some ((p.0, p.1), L.left numbers.new)) }
@@ -253,6 +254,7 @@ fn take_integrity<L: Numbers>(numbers: &mut L) -> Option<(u8, Option<u16>)>
 
 /// M_LEVEL, and the national system if it is 1, that the numbers begin with.
 #[tactic(auto, using(etcs_bodies::specs::laws::Guards::guard_ok), unfolding(etcs_bodies::specs::Guards::guard_fault))]
+#[inline(always)]
 fn take_level<L: Numbers>(numbers: &mut L) -> Option<(u8, Option<u8>)>
     ensures part { IfSome result (λ p. Is level_format (p.0, p.1)) }
     ensures from { IfSome result (λ p. from level_format (L.left numbers.old) ≡ Some ((p.0, p.1), L.left numbers.new)) }
@@ -268,6 +270,7 @@ fn take_level<L: Numbers>(numbers: &mut L) -> Option<(u8, Option<u8>)>
 }
 
 /// Sends Q_LENGTH and the length.
+#[inline(always)]
 fn send_integrity<S: VarSink>(
     q_length: u8,
     l_trainint: Option<u16>,
@@ -286,6 +289,7 @@ fn send_integrity<S: VarSink>(
 }
 
 /// Sends M_LEVEL and the national system.
+#[inline(always)]
 fn send_level<S: VarSink>(m_level: u8, nid_ntc: Option<u8>, out: &mut S) -> Result<(), AllocError>
     ensures ok { OnOk result (out.new ≡ S.with out.old (reading level_format (m_level, nid_ntc))) }
     ensures err { OnErr result (S.failed out.old out.new) }
@@ -310,6 +314,7 @@ impl Variables for Located {
         67 + 15 * usize::from(self.l_trainint.is_some()) + 8 * usize::from(self.nid_ntc.is_some())
     }
 
+    #[inline(always)]
     fn send<S: VarSink>(&self, out: &mut S) -> Result<(), AllocError> {
         send_run!(self out d_lrbg: D_LRBG u16, q_dirlrbg: Q_DIRLRBG u8, q_dlrbg: Q_DLRBG u8,
             l_doubtover: L_DOUBTOVER u16, l_doubtunder: L_DOUBTUNDER u16)?;

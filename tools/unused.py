@@ -22,8 +22,6 @@ TOP = os.path.dirname(os.path.dirname(os.path.realpath(__file__)))
 NEWLINE = "\n"
 # What stays though nothing uses it, as `crates/etcs_bits/specs/Bits.antt: name`, each with the reason.
 EXCEPTIONS: dict[str, str] = {
-    "crates/etcs_sequence/src/inner.rt: etcs_sequence::inner::left_by_lengths": "writing JSON from bits needs it",
-    "crates/etcs_sequence/src/inner.rt: etcs_sequence::inner::pass_whole": "writing text and JSON from bits needs it",
 }
 
 

@@ -21,15 +21,17 @@ use Rattle.etcs_sequence.specs.Labels.{labelled}
 use Rattle.etcs_sequence.specs.laws.BitLaws.{bits_spelled}
 use Rattle.etcs_messages.specs.declared.message.Content.{Content}
 use Rattle.etcs_messages.specs.declared.message.Content.TheVariants.{Typed, Kept}
+use Rattle.etcs_messages.specs.declared.whole.Outline.TheVariants as outline
 use Rattle.etcs_messages.specs.Kinds.{HeadOf, OwnOf, HeadLaws, OwnLaws, IsFrontBy}
 use Rattle.etcs_tables.specs.Headers.{head_row}
 use Rattle.etcs_messages.specs.Lefts.{front_row, front_vars, front_bits, some_row, headed, AfterMessageLength}
-use Rattle.etcs_messages.specs.Messages.{MessageValue, kept_message, KeptReads, MessageReads, MessageLanguage, message_value, IsMessage}
+use Rattle.etcs_messages.specs.Messages.{MessageValue, kept_message, TypedReads, KeptReads, MessageReads, MessageLanguage, message_value, IsMessage}
+use Rattle.etcs_messages.specs.Outlines.{IsOutline}
 use Rattle.etcs_messages.specs.Readings.{bytes_of}
 use Rattle.etcs_messages.proofs.Bytes.{bits_counted}
 use Rattle.etcs_messages.proofs.Faults.{no_kept_fault}
 use Rattle.etcs_messages.proofs.RestStart.{new_left}
-use Rattle.etcs_messages.proofs.Wholes.{row_none, typed_is}
+use Rattle.etcs_messages.proofs.Wholes.{row_none, made_reads, front_reads, typed_is}
 
 -- a message of this many bytes, whose bits are the first of these
 pub record ReadAtOnce {H B P : Type 0} (way : Way) (hd : HeadOf H) (bd : OwnOf B) (form : P → Form) (m : Content H B P) (len : ℕ) (xs : List Bool) : Type 0 where
@@ -89,6 +91,12 @@ typed_front (Some vars) n e = (vars, refl, cc)
 pub untyped_front : (o : Option (List Var)) → None ≡ option_map front_bits o → o ≡ None
 untyped_front None e = refl
 untyped_front (Some vars) e = absurd cc
+
+-- and these bits, where they lie among the message's, are as many as its variables have
+pub front_long : (o : Option (List Var)) (front len : ℕ) (b xs : List Bool) → Some front ≡ option_map front_bits o → front ≤ 8 * len → 8 * len ≤ length xs → b ≡ part 0 front xs → (vars : List Var) × (o ≡ Some vars) × (length b ≡ front_bits vars)
+front_long o front len b xs e within inside is =
+    let (vars, typed, wide) = typed_front o front e in
+    (vars, typed, ap length is ∙ length-part 0 front xs (omega (arith, within, inside)) ∙ wide)
 
 -- its front, its packets and PADDING, and the bits that they are
 record TypedAtOnce (way : Way) (nid len : ℕ) (vars : List Var) (f : List ℕ) (vs : List PacketValue) (pad xs : List Bool) : Type 0 where
@@ -175,3 +183,30 @@ typed_at_once {H} {B} {P} way hd bd form hl ol nid len front left number vars f 
     let with_head = subst (λ (h : H). ReadAtOnce way hd bd form (Typed h (bd.made nid (drop n f)) list.packets.items number) len xs) (sym made.0) read in
     let with_body = subst (λ (b : B). ReadAtOnce way hd bd form (Typed head b list.packets.items number) len xs) (sym made.1) with_head in
     subst (λ (l : List P). ReadAtOnce way hd bd form (Typed head body l number) len xs) (sym same) with_body
+
+-- ---- The outline of a message.
+
+pub kept_outline : {H B : Type 0} (way : Way) (head_of : H → Reading) (body_of : B → Reading) (bd : OwnOf B) (nid len : ℕ) (b xs : List Bool) → front_row way nid ≡ None → nid < 2 ^ 8 → 3 ≤ len → len < 2 ^ 10 → 8 * len ≤ length xs → num 8 nid ≡ part 0 8 xs → num 10 len ≡ part 8 10 xs → b ≡ part 18 (8 * len - 18) xs → IsOutline way head_of body_of bd xs len (outline.Kept nid b)
+kept_outline way head_of body_of bd nid len b xs untyped small least most inside first second e =
+    let (k, is) = kept_parts way nid len b xs untyped small least most inside first second e in
+    (headed nid len (kept OTHER_DATA b), k, is)
+
+pub typed_outline : {H B : Type 0} (way : Way) (hd : HeadOf H) (bd : OwnOf B) {sent_head : H → Reading} {sent_own : B → Reading} (hl : HeadLaws way H sent_head hd) (ol : OwnLaws way B sent_own bd) (nid len front : ℕ) (vars : List Var) (f : List ℕ) (head : H) (body : B) (xs : List Bool) → front_row way nid ≡ Some vars → nid < 2 ^ 8 → len < 2 ^ 10 → front ≡ front_bits vars → front ≤ 8 * len → 8 * len ≤ length xs → num 8 nid ≡ part 0 8 xs → num 10 len ≡ part 8 10 xs → FrontAt (front_vars way nid) (part 0 front xs) 18 f (length (part 0 front xs)) → IsFrontBy way hd bd nid f head body → IsOutline way sent_head sent_own bd xs len (outline.Typed head body front)
+typed_outline {H} {B} way hd bd {sent_head} {sent_own} hl ol nid len front vars f head body xs typed small most wide within inside first second there made = (
+  within,
+  inside,
+  λ vs left run.
+      (let pad = part (8 * len - left) left xs in
+      let whole = typed_parts way nid len front left vars f (λ us g k. us ≡ vs) pad xs typed small most wide within inside first second there run refl in
+      let q = headed nid len (labelled vars f ++ (readings_to way run.packets ++ kept PADDING pad)) in
+      let few = padding_few way (8 * len - front) left (λ us g k. us ≡ vs) xs front run in
+      let short : length pad ≤ 7 = (let size = length-part (8 * len - left) left xs (omega (arith, inside, few.1)) in omega (arith, size, few.0)) in
+      let n = length (head_row way) in
+      let (h, own, reads, firsts, others) = front_reads way nid len vars f run.packets pad q typed whole.count run.run.carried short refl whole.lang in
+      let by = made_reads way hd bd hl ol nid h own (take n f) (drop n f) run.packets pad q reads firsts others in
+      let with_head = subst (λ (x : H). TypedReads way (bd.nid (bd.made nid (drop n f))) (hd.reading x) (bd.reading (bd.made nid (drop n f))) run.packets pad q) (sym made.0) by in
+      let with_body = subst (λ (x : B). TypedReads way (bd.nid x) (hd.reading head) (bd.reading x) run.packets pad q) (sym made.1) with_head in
+      let with_packets = subst (λ (x : List PacketValue). TypedReads way (bd.nid body) (hd.reading head) (bd.reading body) x pad q) run.held with_body in
+      let sent = subst (λ (x : Reading). TypedReads way (bd.nid body) x (bd.reading body) vs pad q) (sym (hl.is_sent head)) with_packets in
+      (q, subst (λ (x : Reading). TypedReads way (bd.nid body) (sent_head head) x vs pad q) (sym (ol.is_sent body)) sent, whole.bits)),
+)

@@ -22,6 +22,10 @@ use Rattle.etcs_messages.proofs.Ways.{header_is}
 use Rattle.etcs_messages.proofs.Fields.{fields_append, fields_split, fields_admitted, fields_length, widths_append}
 use Rattle.etcs_messages.proofs.Fronts.{as_row, row_fields, fields_row, rows_alike, typed_own, kept_own}
 
+-- a front has as many bits as its variables
+front_wide : (way : Way) (own : List Var) (body : Reading) → ReadsFields own body → front_bits (front_after way own) ≡ front_of way body
+front_wide way own body reads = let a = fields_length own body reads in let b = header_is way in let d = widths_append (head_row way) own in omega (arith, a, b, d)
+
 -- ---- From a message.
 
 typed_left : (way : Way) (nid : ℕ) (head body : Reading) (vs : List PacketValue) (padding : List Bool) (r : Reading) → TypedReads way nid head body vs padding r → NumberLeft way r
@@ -32,7 +36,7 @@ typed_left way nid head body vs padding r t =
     let row = front_after way own in
     let front : Reading = head ++ body in
     let fields : ReadsFields row front = fields_append (head_row way) own head body t.head_reads reads in
-    let bits : front_bits row ≡ front_of way body = (let a = fields_length own body reads in let b = header_is way in let d = widths_append (head_row way) own in omega (arith, a, b, d)) in
+    let bits : front_bits row ≡ front_of way body = front_wide way own body reads in
     let p = readings_to way vs in
     let room : 8 * len - front_of way body ≡ 8 * len - front_bits row = omega (arith, bits) in
     let run : PacketsIn (Message way) (8 * len - front_bits row) p = (vs, subst (λ n. ReadsPackets (Message way) n vs p) room t.run) in
@@ -80,7 +84,7 @@ from_left way None nid len r rest is small e (least, most, (b, l, f)) = (
 )
 from_left way (Some own) nid len r rest is small e (fits, most, (front, beyond, f, front_reads, (p, q, e4, (vs, run), (padding, wide, e5)))) =
     let (head, body, cut, head_reads, reads) = fields_split (head_row way) own front front_reads in
-    let bits : front_bits (front_after way own) ≡ front_of way body = (let a = fields_length own body reads in let b = header_is way in let d = widths_append (head_row way) own in omega (arith, a, b, d)) in
+    let bits : front_bits (front_after way own) ≡ front_of way body = front_wide way own body reads in
     let packets : p ≡ readings_to way vs = run.reading_is ∙ append-nil (readings_to way vs) in
     let long = ap (λ (x : Reading). length (spelled x)) packets in
     let room : 8 * len - front_bits (front_after way own) ≡ 8 * len - front_of way body = omega (arith, bits) in

@@ -78,6 +78,16 @@ with_packets way nid h body vs ws padding bits q t carried short same =
       reading_is = is;
     }
 
+-- the same reading as one of the head and the body that its numbers make
+pub made_reads : {H B : Type 0} (way : Way) (hd : HeadOf H) (bd : OwnOf B) {sent_head : H → Reading} {sent_own : B → Reading} (hl : HeadLaws way H sent_head hd) (ol : OwnLaws way B sent_own bd) (nid : ℕ) (h body : Reading) (f g : List ℕ) (ws : List PacketValue) (bits : List Bool) (q : Reading) → TypedReads way nid h body ws bits q → numbers h ≡ f → numbers body ≡ g → TypedReads way (bd.nid (bd.made nid g)) (hd.reading (hd.made f)) (bd.reading (bd.made nid g)) ws bits q
+made_reads {H} {B} way hd bd hl ol nid h body f g ws bits q r firsts nums =
+    let b = bd.made nid g in
+    let is : IsMadeOf bd nid body b = subst (λ (x : List ℕ). IsMadeOf bd nid body (bd.made nid x)) nums (ol.back nid r.row body r.typed_number r.body_reads) in
+    let head : hd.reading (hd.made f) ≡ h = subst (λ (x : List ℕ). hd.reading (hd.made x) ≡ h) firsts (hl.back h r.head_reads).1 in
+    let r1 = subst (λ (n : ℕ). TypedReads way n h body ws bits q) (sym is.number) r in
+    let r2 = subst (λ (x : Reading). TypedReads way (bd.nid b) x body ws bits q) (sym head) r1 in
+    subst (λ (x : Reading). TypedReads way (bd.nid b) (hd.reading (hd.made f)) x ws bits q) (sym is.back) r2
+
 -- by the numbers of its front
 typed_of : {H B P : Type 0} (way : Way) (hd : HeadOf H) (bd : OwnOf B) (form : P → Form) {sent_head : H → Reading} {sent_own : B → Reading} (hl : HeadLaws way H sent_head hd) (ol : OwnLaws way B sent_own bd) (nid : ℕ) (h body : Reading) (f g : List ℕ) (ps : List P) (bits : List Bool) (number : ℕ) (q : Reading) → TypedReads way nid h body (values_of form ps) bits q → numbers h ≡ f → numbers body ≡ g → All (λ p. (form p).made) ps → All (Carries (Message way)) (values_of form ps) → length bits ≤ 7 → number < 2 ^ length bits → bits ≡ num (length bits) number → TypedParts way hd bd form nid f g ps number q
 typed_of way hd bd form hl ol nid h body f g ps bits number q r firsts nums made carried short small bits_are =
@@ -90,10 +100,8 @@ typed_of way hd bd form hl ol nid h body f g ps bits number q r firsts nums made
     let most = reads_length way (typed_message nid h body (values_of form ps) bits) q r in
     let few : all_bits way bd form b ps ≤ 8184 = omega (arith, r.bytes, long, most.1, most.2, ap (λ (x : Reading). length (spelled x)) r.reading_is ∙ typed_length way nid r.len h body (values_of form ps) bits r.head_reads) in
     let pad : bits ≡ num (padding_room (all_bits way bd form b ps)) number = bits_are ∙ ap (λ (n : ℕ). num n number) (sym room) in
-    let r1 = subst (λ (n : ℕ). TypedReads way n h body (values_of form ps) bits q) (sym is.number) r in
-    let r2 = subst (λ (x : Reading). TypedReads way (bd.nid b) x body (values_of form ps) bits q) (sym m.1) r1 in
-    let r3 = subst (λ (x : Reading). TypedReads way (bd.nid b) (hd.reading (hd.made f)) x (values_of form ps) bits q) (sym is.back) r2 in
-    let r4 = subst (λ (x : List Bool). TypedReads way (bd.nid b) (hd.reading (hd.made f)) (bd.reading b) (values_of form ps) x q) pad r3 in
+    let reads = made_reads way hd bd hl ol nid h body f g (values_of form ps) bits q r firsts nums in
+    let padded = subst (λ (x : List Bool). TypedReads way (bd.nid b) (hd.reading (hd.made f)) (bd.reading b) (values_of form ps) x q) pad reads in
     record {
       message = record {
         no_fault = no_typed_fault way hd bd form (hd.made f) b ps number m.0.variables is.own carried few (rw room small);
@@ -102,16 +110,19 @@ typed_of way hd bd form hl ol nid h body f g ps bits number q r firsts nums made
         made = made;
         packets = carried_packets way (values_of form ps) carried;
       };
-      reads = r4;
+      reads = padded;
       head = (h, r.head_reads, firsts);
       body = own;
     }
 
+-- the head and the body of a reading of these packets and this PADDING have these numbers
+abbrev pub FrontReads : Way → ℕ → List ℕ → List ℕ → List PacketValue → List Bool → Reading → Type 0
+FrontReads way nid f g ws bits q = (h : Reading) × (body : Reading) × TypedReads way nid h body ws bits q × (numbers h ≡ f) × (numbers body ≡ g)
+
 -- the front of the message's reading is that of these numbers
-front_is : {H B P : Type 0} (way : Way) (hd : HeadOf H) (bd : OwnOf B) (form : P → Form) {sent_head : H → Reading} {sent_own : B → Reading} (hl : HeadLaws way H sent_head hd) (ol : OwnLaws way B sent_own bd) (nid len : ℕ) (own : List Var) (f g : List ℕ) (ps : List P) (bits : List Bool) (number : ℕ) (q : Reading) → own_row way nid ≡ Some own → length f ≡ length (head_row way) → length g ≡ length own → All (λ p. (form p).made) ps → All (Carries (Message way)) (values_of form ps) → length bits ≤ 7 → number < 2 ^ length bits → bits ≡ num (length bits) number
-    → q ≡ headed nid len (labelled (head_row way) f ++ (labelled own g ++ (readings_to way (values_of form ps) ++ kept PADDING bits))) → MessageLanguage way q → TypedParts way hd bd form nid f g ps number q
-front_is way hd bd form hl ol nid len own f g ps bits number q found firsts count made carried short small bits_are e (typed_message nid' h body vs padding, r) =
-    let beyond = readings_to way (values_of form ps) ++ kept PADDING bits in
+front_is : (way : Way) (nid len : ℕ) (own : List Var) (f g : List ℕ) (ws : List PacketValue) (bits : List Bool) (q : Reading) → own_row way nid ≡ Some own → length f ≡ length (head_row way) → length g ≡ length own → All (Carries (Message way)) ws → length bits ≤ 7 → q ≡ headed nid len (labelled (head_row way) f ++ (labelled own g ++ (readings_to way ws ++ kept PADDING bits))) → MessageLanguage way q → FrontReads way nid f g ws bits q
+front_is way nid len own f g ws bits q found firsts count carried short e (typed_message nid' h body vs padding, r) =
+    let beyond = readings_to way ws ++ kept PADDING bits in
     let rest' = readings_to way vs ++ kept PADDING padding in
     let far : headed nid len (labelled (head_row way) f ++ (labelled own g ++ beyond)) ≡ headed nid' r.len (h ++ (body ++ rest')) =
     sym e ∙ r.reading_is ∙ append_assoc (head_reading nid' r.len h ++ body) (readings_to way vs) (kept PADDING padding) ∙ ap (headed nid' r.len) (append_assoc h body rest') in
@@ -125,28 +136,37 @@ front_is way hd bd form hl ol nid len own f g ps bits number q found firsts coun
     let rest = cut (labelled own g) body beyond rest' (labelled_count own g count ∙ sym (fields_count own body reads)) heads.1 in
     let nums : numbers body ≡ g = ap numbers (sym rest.0) ∙ numbers_labelled own g count in
     let head_nums : numbers h ≡ f = ap numbers (sym heads.0) ∙ numbers_labelled (head_row way) f firsts in
-    typed_of way hd bd form hl ol nid h body f g ps bits number q (with_packets way nid h body vs (values_of form ps) padding bits q r' carried short rest.1) head_nums nums made carried short small bits_are
-front_is way hd bd form hl ol nid len own f g ps bits number q found firsts count made carried short small bits_are e (kept_message nid' b, r) =
+    (h, body, with_packets way nid h body vs ws padding bits q r' carried short rest.1, head_nums, nums)
+front_is way nid len own f g ws bits q found firsts count carried short e (kept_message nid' b, r) =
     let same : nid ≡ nid' = ap first_number (sym e ∙ r.reading_is) in
     let typed : message_row_to way nid ≡ Some (as_row own) = rows_alike way nid ∙ ap (option_map as_row) found in
     let untyped : message_row_to way nid ≡ None = ap (message_row_to way) same ∙ r.untyped in
     absurd (let both : ◌≡◌ {A = Option Layout} (Some (as_row own)) None = sym typed ∙ untyped in cc)
 
-pub typed_is : {H B P : Type 0} (way : Way) (hd : HeadOf H) (bd : OwnOf B) (form : P → Form) {sent_head : H → Reading} {sent_own : B → Reading} (hl : HeadLaws way H sent_head hd) (ol : OwnLaws way B sent_own bd) (nid : ℕ) (front : List ℕ) (ps : List P) (f : List ℕ) (k : List Bool) (number : ℕ) (q : Reading) → MessageLanguage way q → PaddingHeld way nid front (list_holds form ps f k) number 0 q → TypedParts way hd bd form nid (take (length (head_row way)) front) (drop (length (head_row way)) front) ps number q
-typed_is way hd bd form hl ol nid front ps f k number q lang h =
+-- the same of the variables before the packets, all in one list
+pub front_reads : (way : Way) (nid len : ℕ) (vars : List Var) (front : List ℕ) (ws : List PacketValue) (bits : List Bool) (q : Reading) → front_row way nid ≡ Some vars → length front ≡ length vars → All (Carries (Message way)) ws → length bits ≤ 7 → q ≡ headed nid len (labelled vars front ++ (readings_to way ws ++ kept PADDING bits)) → MessageLanguage way q → FrontReads way nid (take (length (head_row way)) front) (drop (length (head_row way)) front) ws bits q
+front_reads way nid len vars front ws bits q typed long carried short e lang =
     let row = head_row way in
     let n = length row in
-    let (vs_is, (made, rest)) = h.held in
-    let (own, found, vars) = own_of way (own_row way nid) h.vars h.typed in
-    let carried = subst (All (Carries (Message way))) vs_is h.carried in
-    let count : length front ≡ n + length own = h.count ∙ ap (λ (v : List Var). length v) (sym vars) ∙ length-append row own in
+    let (own, found, same) = own_of way (own_row way nid) vars typed in
+    let count : length front ≡ n + length own = long ∙ ap (λ (v : List Var). length v) (sym same) ∙ length-append row own in
     let firsts : length (take n front) ≡ n = length-take n front ∙ omega (arith, count) in
     let others : length (drop n front) ≡ length own = length-drop n front ∙ omega (arith, count) in
-    let tail : Reading = readings_to way (values_of form ps) ++ kept PADDING h.bits in
-    let is : q ≡ headed nid h.len (labelled row (take n front) ++ (labelled own (drop n front) ++ tail)) =
-    h.reading_is ∙ ap (λ (v : List Var). headed nid h.len (labelled v front ++ (readings_to way h.packets ++ kept PADDING h.bits))) (sym vars) ∙ ap (λ (v : List PacketValue). headed nid h.len (labelled (front_after way own) front ++ (readings_to way v ++ kept PADDING h.bits))) vs_is
-    ∙ ap (λ (x : Reading). headed nid h.len (x ++ tail)) (labelled_cut row own front) ∙ ap (headed nid h.len) (append_assoc (labelled row (take n front)) (labelled own (drop n front)) tail) in
-    front_is way hd bd form hl ol nid h.len own (take n front) (drop n front) ps h.bits number q found firsts others made carried (omega (arith, h.short)) h.small h.padding_is is lang
+    let tail : Reading = readings_to way ws ++ kept PADDING bits in
+    let is : q ≡ headed nid len (labelled row (take n front) ++ (labelled own (drop n front) ++ tail)) =
+    e ∙ ap (λ (v : List Var). headed nid len (labelled v front ++ tail)) (sym same) ∙ ap (λ (x : Reading). headed nid len (x ++ tail)) (labelled_cut row own front)
+    ∙ ap (headed nid len) (append_assoc (labelled row (take n front)) (labelled own (drop n front)) tail) in
+    front_is way nid len own (take n front) (drop n front) ws bits q found firsts others carried short is lang
+
+pub typed_is : {H B P : Type 0} (way : Way) (hd : HeadOf H) (bd : OwnOf B) (form : P → Form) {sent_head : H → Reading} {sent_own : B → Reading} (hl : HeadLaws way H sent_head hd) (ol : OwnLaws way B sent_own bd) (nid : ℕ) (front : List ℕ) (ps : List P) (f : List ℕ) (k : List Bool) (number : ℕ) (q : Reading) → MessageLanguage way q → PaddingHeld way nid front (list_holds form ps f k) number 0 q → TypedParts way hd bd form nid (take (length (head_row way)) front) (drop (length (head_row way)) front) ps number q
+typed_is way hd bd form hl ol nid front ps f k number q lang h =
+    let n = length (head_row way) in
+    let (vs_is, (made, rest)) = h.held in
+    let carried = subst (All (Carries (Message way))) vs_is h.carried in
+    let short : length h.bits ≤ 7 = omega (arith, h.short) in
+    let is = h.reading_is ∙ ap (λ (v : List PacketValue). headed nid h.len (labelled h.vars front ++ (readings_to way v ++ kept PADDING h.bits))) vs_is in
+    let (head, body, reads, firsts, others) = front_reads way nid h.len h.vars front (values_of form ps) h.bits q h.typed h.count carried short is lang in
+    typed_of way hd bd form hl ol nid head body (take n front) (drop n front) ps h.bits number q reads firsts others made carried short h.small h.padding_is
 
 -- ---- A message that is kept.
 

@@ -4,5 +4,6 @@ pub mod Readings
 pub mod Promises
 pub mod Lefts
 pub mod Fronts
+pub mod Outlines
 pub mod Readers
 pub mod laws

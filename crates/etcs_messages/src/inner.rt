@@ -7,8 +7,7 @@ ghost use Rattle.etcs_messages.specs.Readings.{message_reading};
 use crate::kind::{Head, Own};
 use crate::message::MessageOf;
 pub use crate::rest::MessageRest;
-pub use crate::variables::send_front;
-pub use crate::whole::message_seen;
+pub use crate::whole::{Outline, message_seen, outline_of};
 
 /// For proofs: each message has a reading, which is `message_reading` of it. Does nothing.
 pub fn reads<H: Head, B: Own<Front = H>>(message: &MessageOf<H, B>)

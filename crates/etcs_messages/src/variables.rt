@@ -71,7 +71,7 @@ impl<H: Head, B: Own<Front = H>> MessageOf<H, B> {
 /// # Errors
 ///
 /// That of the sink, of which its `failed` then holds.
-pub fn send_front<H: Head, B: Own<Front = H>, S: VarSink>(
+fn send_front<H: Head, B: Own<Front = H>, S: VarSink>(
     message: &MessageOf<H, B>,
     out: &mut S,
 ) -> Result<(), AllocError>

@@ -13,6 +13,7 @@ ghost use Rattle.etcs_sequence.specs.Fronts.{FrontAt};
 ghost use Rattle.etcs_messages.specs.Messages.{MessageReads, MessageValue, message_value, IsMessage};
 ghost use Rattle.etcs_messages.specs.Kinds.{IsFrontBy};
 ghost use Rattle.etcs_messages.specs.Fronts.{WholeFront};
+ghost use Rattle.etcs_messages.specs.Outlines.{IsOutline};
 ghost use Rattle.etcs_messages.specs.Lefts.{front_row, front_vars, front_bits};
 ghost use Rattle.etcs_messages.specs.Readers.{IsMessagePart};
 
@@ -90,6 +91,38 @@ pub fn message_seen<H: Head, B: Own<Front = H>>(piece: &[u8]) -> Option<usize>
         Run::All(_) => Some(bytes),
         Run::First(_) => None,
     }
+}
+
+/// What a message is but for its packets and PADDING.
+#[derive(Drop)]
+pub enum Outline<'a, H, B> {
+    /// A typed message of this head and body, which take this many bits with what comes before them.
+    Typed { head: H, body: B, front: usize },
+    /// A message of this number, whose bits after L_MESSAGE are kept.
+    Kept { nid: u8, bits: BitSlice<'a> },
+}
+
+/// The outline of the message of this way that a piece begins with, if the bits before its packets are admitted, and how
+/// many bytes it has, which lie in the piece. It may always return `None`. Takes no memory.
+#[inline(always)]
+pub fn outline_of<H: Head, B: Own<Front = H>>(piece: &[u8]) -> Option<(Outline<'_, H, B>, usize)>
+    requires small { length (bits piece.now) < 2 ^ 64 }
+    ensures most { IfSome result (λ t. t.1 < 1024) }
+    ensures within { IfSome result (λ t. t.1 ≤ length piece.now) }
+    ensures outline { IfSome result (λ t. IsOutline H.Packet.WAY H.reading_of B.reading_of B.own (bits piece.now) t.1 t.0) }
+{
+    let (nid, bytes) = frame_at(piece)?;
+    let end = 8 * bytes;
+    let Some(front) = front_bits(H::Packet::WAY, nid) else {
+        let begin = NUMBER_BITS + LENGTH_BITS;
+        let bits = bits_at(piece, begin, end - begin);
+        return Some((Outline::Kept { nid, bits }, bytes));
+    };
+    if front > end {
+        return None;
+    }
+    let (head, body) = front_at(nid, bits_at(piece, 0, front))?;
+    Some((Outline::Typed { head, body, front }, bytes))
 }
 
 /// NID_MESSAGE and L_MESSAGE of the message that a piece begins with, if as many bytes lie in it.

@@ -1,13 +1,14 @@
 pub mod ByteDigits
 pub mod Decimals
-pub mod FrameLines
 pub mod HexDigits
 pub mod JsonExamples
+pub mod JsonPackets
 pub mod NumberTexts
 pub mod PairSinks
 pub mod Places
 pub mod PlainTexts
-pub mod Refusals
+pub mod Rooms
 pub mod TextLengths
 pub mod Texts
 pub mod TreeTexts
+pub mod Writings

@@ -1,22 +1,11 @@
 -- Lemmas about specs/PairSinks.antt.
-use Rattle.std.proofs.Common.{◌≡◌, ℕ, ◌-◌, ◌≤◌, Bool, true, List, [], ◌∷◌, ◌++◌, drop, flat_map, get_or, length, map, refl, sym, take, ap, ◌∙◌, append-nil, append_assoc, arith}
+use Rattle.std.proofs.Common.{◌≡◌, ℕ, ◌-◌, ◌≤◌, Bool, true, List, [], ◌∷◌, ◌++◌, drop, flat_map, get_or, length, sym, take, ap, ◌∙◌, append-nil, append_assoc, arith}
 use Rattle.std.proofs.lemmas.List.{take_all}
-use Rattle.serde_json.specs.Data.{Data}
-use Rattle.serde_json.specs.View.{items_of}
-use Rattle.serde_json.specs.Written.{comma_if, compact_text, items_text}
+use Rattle.serde_json.specs.Written.{comma_if, compact_text}
 use Rattle.etcs_vars.specs.Reading.{Reading, Sent}
-use Rattle.etcs_packet_text.specs.PairSinks.{later_pair, with_each, with_pairs}
+use Rattle.etcs_packet_text.specs.PairSinks.{later_pair, with_pairs}
+pub use Rattle.etcs_packet_text.specs.laws.PairSinks.{list_text}
 use Rattle.etcs_packet_text.specs.Trees.{pair_tree}
-
--- ---- Its laws.
-
--- with the end of the list
-pub list_text : {A : Type 0} (f : A → Data) (old : List ℕ) (later : Bool) (xs : List A) → (with_each f (old, later) xs).0 ++ 93 ∷ [] ≡ old ++ items_text later (items_of (map f xs))
-list_text f old later [] = refl
-list_text f old later (x ∷ xs) =
-    list_text f (old ++ (comma_if later ++ compact_text (f x))) true xs
-    ∙ append_assoc old (comma_if later ++ compact_text (f x)) (items_text true (items_of (map f xs)))
-    ∙ ap (λ (z : List ℕ). old ++ z) (append_assoc (comma_if later) (compact_text (f x)) (items_text true (items_of (map f xs))))
 
 -- pairs after another
 later_pairs : (old : List ℕ) (r : Reading) → old ++ flat_map later_pair r ≡ (with_pairs (old, true) r).0

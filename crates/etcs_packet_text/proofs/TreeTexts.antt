@@ -1,5 +1,5 @@
 -- The text of trees of packets, part by part.
-use Rattle.std.proofs.Common.{◌≡◌, ℕ, length, take, Bool, false, List, [], ◌∷◌, ◌++◌, map, refl, sym, ap, ◌∙◌, arith, append_assoc, subst, Result, Ok, Err, Some, None}
+use Rattle.std.proofs.Common.{◌≡◌, ℕ, length, take, Bool, false, List, [], ◌∷◌, ◌++◌, map, refl, sym, ap, ◌∙◌, arith, append_assoc, subst, Result, Ok, Err, Some}
 use Rattle.std.specs.Prelude.{OnOk, OnErr, codes, decimal}
 use Rattle.std.proofs.lemmas.List.{take_all}
 use Rattle.json.specs.Print.{escape_byte}
@@ -12,13 +12,13 @@ use Rattle.etcs_packets.specs.PacketValues.{PacketValue, marker, typed, kept}
 use Rattle.etcs_packets.specs.PacketValues as packet
 use Rattle.etcs_packet_text.specs.Fronts.{Begins}
 use Rattle.etcs_packet_text.specs.laws.Fronts.{begins_more}
-use Rattle.etcs_packet_text.specs.JsonParts.{data_text, fields_text}
+use Rattle.etcs_packet_text.specs.JsonParts.{data_text}
 use Rattle.etcs_packet_text.specs.PairSinks.{Listed, with_each}
-use Rattle.etcs_packet_text.specs.laws.PairSinks.{each_begins}
-use Rattle.etcs_packet_text.proofs.PairSinks.{list_text}
+use Rattle.etcs_packet_text.specs.laws.PairSinks.{each_begins, list_text}
+pub use Rattle.etcs_packet_text.specs.laws.PairSinks.{sent_packet}
 use Rattle.etcs_packet_text.proofs.PlainTexts.{quoted_bits}
 use Rattle.etcs_packet_text.specs.Show.{bit_digit}
-use Rattle.etcs_packet_text.specs.Trees.{packet_tree, pairs_tree}
+use Rattle.etcs_packet_text.specs.Trees.{packet_tree}
 
 -- ---- Lists.
 
@@ -58,14 +58,3 @@ kept_packet ToTrack (kept nid dir b) bits e =
     let rest = decimal nid ++ codes "}" in
     ap (λ (z : List Bool). codes "{\"data\":\"" ++ (map bit_digit z ++ (codes "\",\"nid\":" ++ rest))) same
     ∙ ap (λ (z : List ℕ). codes "{\"data\":" ++ z) (sym (quoted_bits b (codes ",\"nid\":" ++ rest)))
-
--- a packet with fields
-pub sent_packet : (way : Way) (v : PacketValue) → None ≡ packet.kept_of v → fields_text way v ≡ compact_text (packet_tree way v)
-unfolding escape_byte
-sent_packet ToTrain (marker n) h = refl
-sent_packet ToTrack (marker n) h = refl
-sent_packet ToTrain (typed nid dir r) h =
-    let rest = compact_text (pairs_tree r) ++ (codes ",\"nid\":" ++ (decimal nid ++ codes "}")) in
-    ap (λ (z : List ℕ). codes "{\"dir\":" ++ z) (append_assoc (decimal dir) (codes ",\"fields\":") rest)
-sent_packet ToTrack (typed nid dir r) h = refl
-sent_packet way (kept nid dir b) h = absurd cc

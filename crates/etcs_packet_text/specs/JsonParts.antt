@@ -14,10 +14,14 @@ use Rattle.etcs_packet_text.specs.Trees.{pairs_tree}
 abbrev pub pair_front : Var → List ℕ
 pair_front v = 91 ∷ (quoted (name v) ++ 44 ∷ [])
 
--- the direction of a packet, if it is sent: to the train alone
+-- a direction, if it is sent: to the train alone
+abbrev pub sent_of : Way → Option ℕ → Option ℕ
+sent_of ToTrain dir = dir
+sent_of ToTrack dir = None
+
+-- that of a packet
 abbrev pub sent_dir : Way → PacketValue → Option ℕ
-sent_dir ToTrain v = dir_of v
-sent_dir ToTrack v = None
+sent_dir way v = sent_of way (dir_of v)
 
 -- what is in a packet before its fields
 abbrev pub fields_front : Option ℕ → List ℕ

@@ -3,6 +3,8 @@ pub mod JsonParts
 pub mod LineSinks
 pub mod Packets
 pub mod PairSinks
+pub mod Rooms
 pub mod Show
 pub mod Trees
+pub mod Writings
 pub mod laws

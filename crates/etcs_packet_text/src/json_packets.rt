@@ -1,112 +1,151 @@
 //! Packets as JSON.
 
-ghost use Rattle.std.specs.Prelude.{◌≡◌, ◌++◌, OnErr, OnOk, false, map};
+ghost use Rattle.std.specs.Prelude.{◌≡◌, ◌++◌, ◌∷◌, ℕ, List, OnErr, OnOk};
 ghost use Rattle.serde_json.specs.Written.{comma_if, compact_text};
+ghost use Rattle.etcs_packets.specs.PacketValues.{kept};
 ghost use Rattle.etcs_packet_text.specs.Fronts.{Begins};
-ghost use Rattle.etcs_packet_text.specs.JsonParts.{data_after, data_text, fields_front, fields_text, sent_dir};
-ghost use Rattle.etcs_packet_text.specs.Trees.{packet_tree, packets_tree};
+ghost use Rattle.etcs_packet_text.specs.JsonParts.{data_after, fields_front, sent_of};
+ghost use Rattle.etcs_packet_text.specs.Trees.{packet_tree};
 
 use crate::json_page::JsonPage;
-use crate::pairs::write_fields;
+use crate::packet_page::{PacketPage, Place};
 use etcs_bits::BitSlice;
-use etcs_packets::inner::AnyPacket;
 use etcs_tables::Way;
 use std::alloc::AllocError;
 
 /// The direction, if it is sent.
 #[inline(always)]
-fn sent_dir<P: AnyPacket>(packet: &P) -> Option<u8>
-    ensures { result ≡ sent_dir P.WAY (P.form packet.now).value }
+fn sent_dir(way: Way, dir: Option<u8>) -> Option<u8>
+    ensures { result ≡ sent_of way dir }
 {
-    match P::WAY {
-        Way::ToTrain => packet.dir(),
+    match way {
+        Way::ToTrain => dir,
         Way::ToTrack => None,
     }
 }
 
-/// Appends what comes before a packet's fields.
-fn write_front<P: AnyPacket>(packet: &P, page: &mut JsonPage) -> Result<(), AllocError>
-    ensures ok { OnOk result (page.new.0 ≡ page.old.0 ++ fields_front (sent_dir P.WAY (P.form packet.now).value)) }
-    ensures err { OnErr result (Begins page.old.0 page.new.0) }
+/// What a packet begins with: a comma and these bytes, or these without the comma if it is the first of its list.
+#[inline(always)]
+fn front(later: bool, bytes: &'static [u8]) -> &'static [u8]
+    requires { (rest : List ℕ) × (bytes.now ≡ 44 ∷ rest) }
+    ensures { (rest : List ℕ) → bytes.now ≡ 44 ∷ rest → result.now ≡ comma_if later ++ rest }
 {
-    match sent_dir(packet) {
-        Some(dir) => { page.put_between(b"{\"dir\":", u64::from(dir), b",\"fields\":") }
-        None => page.put(b"{\"fields\":"),
+    if later { bytes } else { &bytes[1..] }
+}
+
+/// Appends what comes before a packet's fields, after a comma if an item of the list is before it.
+#[inline(always)]
+fn write_front(later: bool, dir: Option<u8>, page: &mut JsonPage) -> Result<(), AllocError>
+    ensures ok { OnOk result (page.new.0 ≡ page.old.0 ++ (comma_if later ++ fields_front dir)) }
+    ensures err { OnErr result (page.new.0 ≡ page.old.0) }
+{
+    match dir {
+        Some(dir) => {
+            page.put_between(front(later, b",{\"dir\":"), u64::from(dir), b",\"fields\":")
+        }
+        None => page.put(front(later, b",{\"fields\":")),
     }
 }
 
-/// Appends a packet with its fields.
-fn write_sent<P: AnyPacket>(packet: &P, page: &mut JsonPage) -> Result<(), AllocError>
-    ensures ok { OnOk result (page.new.0 ≡ page.old.0 ++ fields_text P.WAY (P.form packet.now).value) }
-    ensures err { OnErr result (Begins page.old.0 page.new.0) }
-{
-    write_front(packet, page)?;
-    write_fields(packet, page)?;
-    page.put_between(b",\"nid\":", u64::from(packet.nid()), b"}")
-}
-
 /// Appends what is after a packet's bits, up to its number.
-fn write_after<P: AnyPacket>(packet: &P, page: &mut JsonPage) -> Result<(), AllocError>
-    ensures ok { OnOk result (page.new.0 ≡ page.old.0 ++ data_after (sent_dir P.WAY (P.form packet.now).value)) }
-    ensures err { OnErr result (Begins page.old.0 page.new.0) }
+#[inline(always)]
+fn write_after(dir: Option<u8>, page: &mut JsonPage) -> Result<(), AllocError>
+    ensures ok { OnOk result (page.new.0 ≡ page.old.0 ++ data_after dir) }
+    ensures err { OnErr result (page.new.0 ≡ page.old.0) }
 {
-    match sent_dir(packet) {
-        Some(dir) => { page.put_between(b"\",\"dir\":", u64::from(dir), b",\"nid\":") }
+    match dir {
+        Some(dir) => page.put_between(b"\",\"dir\":", u64::from(dir), b",\"nid\":"),
         None => page.put(b"\",\"nid\":"),
     }
 }
 
-/// Appends a packet that is kept as these bits.
-fn write_kept<P: AnyPacket>(
-    packet: &P,
-    bits: &BitSlice<'_>,
+/// Appends a packet that is kept as these bits, after a comma if an item of the list is before it.
+#[inline(always)]
+fn write_kept(
+    later: bool,
+    way: Way,
+    nid: u8,
+    dir: u8,
+    body: &BitSlice<'_>,
     page: &mut JsonPage,
 ) -> Result<(), AllocError>
-    ensures ok { OnOk result (page.new.0 ≡ page.old.0 ++ data_text P.WAY (P.form packet.now).value bits.now) }
+    ensures ok { OnOk result (page.new.0 ≡ page.old.0 ++ (comma_if later ++ compact_text (packet_tree way (kept nid dir body.now)))) }
     ensures err { OnErr result (Begins page.old.0 page.new.0) }
 {
-    page.put(b"{\"data\":\"")?;
-    page.put_slice(bits)?;
-    write_after(packet, page)?;
-    page.put_decimal_and(u64::from(packet.nid()), b'}')
+    page.put(front(later, b",{\"data\":\""))?;
+    page.put_slice(body)?;
+    write_after(sent_dir(way, Some(dir)), page)?;
+    page.put_decimal_and(u64::from(nid), b'}')
 }
 
-/// Appends a packet.
-fn write_packet<P: AnyPacket>(packet: &P, page: &mut JsonPage) -> Result<(), AllocError>
-    ensures ok { OnOk result (page.new.0 ≡ page.old.0 ++ compact_text (packet_tree P.WAY (P.form packet.now).value)) }
-    ensures err { OnErr result (Begins page.old.0 page.new.0) }
-{
-    match packet.kept_bits() {
-        Some(bits) => write_kept(packet, &bits, page),
-        None => write_sent(packet, page),
-    }
-}
+/// Packets are items of the list that was opened last: the first of them without a comma before it.
+impl PacketPage for JsonPage {
+    ghost use Rattle.std.specs.Prelude.{◌≡◌, length};
+    ghost use Rattle.etcs_packet_text.specs.PairSinks.{and_packet, begun_fields, ended_fields};
+    ghost use Rattle.etcs_packet_text.specs.laws.PairSinks.{pairs_sent, fields_typed, fields_marker, same_listed};
 
-/// Appends a packet, after a comma unless it is the first of its list.
-fn write_item<P: AnyPacket>(later: bool, packet: &P, page: &mut JsonPage) -> Result<(), AllocError>
-    ensures ok { OnOk result (page.new.0 ≡ page.old.0 ++ (comma_if later ++ compact_text (packet_tree P.WAY (P.form packet.now).value))) }
-    ensures err { OnErr result (Begins page.old.0 page.new.0) }
-{
-    if later {
-        page.put(b",")?;
-    }
-    write_packet(packet, page)
-}
+    ghost text = { λ page. page.0 };
 
-/// Appends packets as a list: the compact text of their JSON tree.
-///
-/// # Errors
-///
-/// `AllocError` if out of memory. The page then begins with what was there; what else it has isn't promised.
-pub fn write_packets<P: AnyPacket>(packets: &[P], page: &mut JsonPage) -> Result<(), AllocError>
-    ensures ok { OnOk result (page.new.0 ≡ page.old.0 ++ compact_text (packets_tree P.WAY (map (λ p. (P.form p).value) packets.now))) }
-    ensures err { OnErr result (Begins page.old.0 page.new.0) }
-{
-    page.put(b"[")?;
-    let mut later = false;
-    for packet in packets {
-        write_item(later, packet, page)?;
-        later = true;
+    ghost ends = { λ page place. (place.len ≡ length page.0) × (place.later ≡ page.1) };
+
+    ghost and_packet = { and_packet };
+
+    ghost begun = { begun_fields };
+
+    ghost ended = { ended_fields };
+
+    #[inline(always)]
+    fn take(&mut self) -> JsonPage {
+        self.take_all()
     }
-    page.put(b"]")
+
+    #[inline(always)]
+    fn place(&self) -> Place {
+        Place {
+            len: self.len(),
+            later: self.is_later(),
+        }
+    }
+
+    #[inline(always)]
+    fn back(&mut self, place: Place) {
+        self.cut(place.len, place.later);
+    }
+
+    #[inline(always)]
+    fn begin(
+        &mut self,
+        way: Way,
+        _nid: u8,
+        dir: Option<u8>,
+        _bits: usize,
+    ) -> Result<(), AllocError> {
+        write_front(self.is_later(), sent_dir(way, dir), self)?;
+        self.open_list()
+    }
+
+    #[inline(always)]
+    fn end(&mut self, nid: u8) -> Result<(), AllocError> {
+        self.put_between(b"],\"nid\":", u64::from(nid), b"}")?;
+        self.go_on();
+        Ok(())
+    }
+
+    fn keep(&mut self, way: Way, nid: u8, dir: u8, body: &BitSlice<'_>) -> Result<(), AllocError> {
+        write_kept(self.is_later(), way, nid, dir, body, self)?;
+        self.go_on();
+        Ok(())
+    }
+
+    ghost ends_len = { λ page place is. is.0 };
+
+    ghost ends_one = { same_listed };
+
+    ghost sent_begins = { pairs_sent };
+
+    ghost failed_begins = { λ page other h. h };
+
+    ghost typed_is = { fields_typed };
+
+    ghost marker_is = { fields_marker };
 }

@@ -1,6 +1,6 @@
 //! A page of JSON.
 
-ghost use Rattle.std.specs.Prelude.{◌≡◌, ◌≤◌, ◌++◌, ◌∷◌, [], false, map, OnErr, OnOk};
+ghost use Rattle.std.specs.Prelude.{◌≡◌, ◌≤◌, ◌++◌, ◌∷◌, [], false, length, map, take, true, OnErr, OnOk};
 ghost use Rattle.std.specs.Fmt.{decimal};
 ghost use Rattle.etcs_bits.specs.Bits.{num};
 ghost use Rattle.etcs_packet_text.specs.Show.{bit_digit};
@@ -116,13 +116,60 @@ impl JsonPage {
         self.page.put_slice(bits)
     }
 
-    /// Begins a list of pairs.
+    /// How many bytes the text has.
+    #[inline(always)]
+    pub(crate) fn len(&self) -> usize
+        ensures { result ≡ length self.now.0 }
+    {
+        self.page.len()
+    }
+
+    /// Whether an item of the list that was opened last is at the end.
+    #[inline(always)]
+    pub(crate) fn is_later(&self) -> bool
+        ensures { result ≡ self.now.1 }
+    {
+        self.later
+    }
+
+    /// Leaves the first `len` bytes of the text, with an item of the list at the end if `later` is true.
+    ///
+    /// Requires that the text has at least that many bytes.
+    #[inline(always)]
+    pub(crate) fn cut(&mut self, len: usize, later: bool)
+        requires { len ≤ length self.old.0 }
+        ensures { self.new ≡ (take len self.old.0, later) }
+    {
+        self.page.cut(len);
+        self.later = later;
+    }
+
+    /// An item of a list is at the end.
+    #[inline(always)]
+    pub(crate) fn go_on(&mut self)
+        ensures { self.new ≡ (self.old.0, true) }
+    {
+        self.later = true;
+    }
+
+    /// The page. An empty one is left in its place.
+    #[inline(always)]
+    pub(crate) fn take_all(&mut self) -> JsonPage
+        ensures { result ≡ self.old }
+    {
+        JsonPage {
+            page: self.page.take_all(),
+            later: self.later,
+        }
+    }
+
+    /// Begins a list of items.
     ///
     /// # Errors
     ///
     /// `AllocError` if out of memory. The page then stays as it was.
     #[inline(always)]
-    pub(crate) fn open_list(&mut self) -> Result<(), AllocError>
+    pub fn open_list(&mut self) -> Result<(), AllocError>
         ensures ok { OnOk result (self.new ≡ (self.old.0 ++ 91 ∷ [], false)) }
         ensures err { OnErr result (self.new.0 ≡ self.old.0) }
     {

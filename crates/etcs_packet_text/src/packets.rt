@@ -3,14 +3,15 @@
 ghost use Rattle.std.specs.Prelude.{◌≡◌, ◌++◌, ◌∷◌, [], OnErr, OnOk, flat_map, map};
 ghost use Rattle.etcs_vars.specs.declared.var.Var.TheVariants.{L_PACKET};
 ghost use Rattle.etcs_tables.specs.Frames.{directed};
-ghost use Rattle.etcs_packets.specs.PacketValues.{nid_of, variables_of};
-ghost use Rattle.etcs_packet_text.specs.Fronts.{Begins};
 ghost use Rattle.etcs_packet_text.specs.Show.{variable_line};
-ghost use Rattle.etcs_packet_text.specs.Packets.{body_lines, frame_lines, packet_line, packet_text, packets_text};
+ghost use Rattle.etcs_packet_text.specs.Fronts.{Begins};
+ghost use Rattle.etcs_packet_text.specs.Packets.{packet_line, packets_text};
 
+use crate::packet_page::{self, PacketPage, Place};
 use crate::page::Page;
+use etcs_bits::BitSlice;
 use etcs_packets::inner::AnyPacket;
-use etcs_tables::Way;
+use etcs_tables::{Way, frame_bits};
 use etcs_vars::Var;
 use std::alloc::AllocError;
 
@@ -28,44 +29,69 @@ fn write_framed(way: Way, nid: u8, dir: u8, bits: u64, page: &mut Page) -> Resul
     }
 }
 
-/// Appends the lines of a packet's number and of its frame, which packet 0 without a frame doesn't have.
-#[inline(always)]
-fn write_frame<P: AnyPacket>(packet: &P, page: &mut Page) -> Result<(), AllocError>
-    ensures ok { OnOk result (page.new ≡ page.old ++ (packet_line (nid_of (P.form packet.now).value) ++ frame_lines P.WAY (P.form packet.now).value)) }
-    ensures err { OnErr result (page.new ≡ page.old) }
-{
-    match packet.dir() {
-        Some(dir) => write_framed(P::WAY, packet.nid(), dir, packet.bit_len() as u64, page),
-        None => page.put_packet(packet.nid(), &[]),
+impl PacketPage for Page {
+    ghost use Rattle.std.specs.Prelude.{◌≡◌, ◌++◌, length};
+    ghost use Rattle.etcs_packet_text.specs.LineSinks.{and_lines, begun_lines};
+    ghost use Rattle.etcs_packet_text.specs.laws.LineSinks.{lines_sent, lines_typed, lines_marker};
+
+    ghost text = { λ page. page };
+
+    ghost ends = { λ page place. place.len ≡ length page };
+
+    ghost and_packet = { and_lines };
+
+    ghost begun = { begun_lines };
+
+    ghost ended = { λ nid page. page };
+
+    #[inline(always)]
+    fn take(&mut self) -> Page {
+        self.take_all()
     }
-}
 
-/// Appends the lines of the variables after a packet's frame.
-fn write_sent<P: AnyPacket>(packet: &P, page: &mut Page) -> Result<(), AllocError>
-    ensures ok { OnOk result (page.new ≡ page.old ++ flat_map variable_line (variables_of (P.form packet.now).value)) }
-    ensures err { OnErr result (Begins page.old page.new) }
-{
-    packet.send_body(page)
-}
-
-/// Appends the lines of what follows a packet's frame.
-fn write_body<P: AnyPacket>(packet: &P, page: &mut Page) -> Result<(), AllocError>
-    ensures ok { OnOk result (page.new ≡ page.old ++ body_lines (P.form packet.now).value) }
-    ensures err { OnErr result (Begins page.old page.new) }
-{
-    match packet.kept_bits() {
-        Some(bits) => page.put_bits_line(Var::OTHER_DATA, &bits),
-        None => write_sent(packet, page),
+    #[inline(always)]
+    fn place(&self) -> Place {
+        Place {
+            len: self.len(),
+            later: false,
+        }
     }
-}
 
-/// Appends the text of a packet.
-fn write_packet<P: AnyPacket>(packet: &P, page: &mut Page) -> Result<(), AllocError>
-    ensures ok { OnOk result (page.new ≡ page.old ++ packet_text P.WAY (P.form packet.now).value) }
-    ensures err { OnErr result (Begins page.old page.new) }
-{
-    write_frame(packet, page)?;
-    write_body(packet, page)
+    #[inline(always)]
+    fn back(&mut self, place: Place) {
+        self.cut(place.len);
+    }
+
+    #[inline(always)]
+    fn begin(&mut self, way: Way, nid: u8, dir: Option<u8>, bits: usize) -> Result<(), AllocError> {
+        match dir {
+            Some(dir) => write_framed(way, nid, dir, bits as u64, self),
+            None => self.put_packet(nid, &[]),
+        }
+    }
+
+    #[inline(always)]
+    fn end(&mut self, _nid: u8) -> Result<(), AllocError> {
+        Ok(())
+    }
+
+    fn keep(&mut self, way: Way, nid: u8, dir: u8, body: &BitSlice<'_>) -> Result<(), AllocError> {
+        let bits = frame_bits(way).checked_add(body.len()).ok_or(AllocError)?;
+        write_framed(way, nid, dir, bits as u64, self)?;
+        self.put_bits_line(Var::OTHER_DATA, body)
+    }
+
+    ghost ends_len = { λ page place is. is };
+
+    ghost ends_one = { λ page other place is same text. text };
+
+    ghost sent_begins = { lines_sent };
+
+    ghost failed_begins = { λ page other h. h };
+
+    ghost typed_is = { lines_typed };
+
+    ghost marker_is = { lines_marker };
 }
 
 /// Appends the texts of packets of either way, one after another: of each a line `packet` with its number, and a line for
@@ -79,8 +105,6 @@ pub fn write_packets<P: AnyPacket>(packets: &[P], page: &mut Page) -> Result<(),
     ensures ok { OnOk result (page.new ≡ page.old ++ packets_text P.WAY (map (λ p. (P.form p).value) packets.now)) }
     ensures err { OnErr result (Begins page.old page.new) }
 {
-    for packet in packets {
-        write_packet(packet, page)?;
-    }
+    packet_page::write_packets(packets, page)?;
     Ok(())
 }

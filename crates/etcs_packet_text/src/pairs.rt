@@ -3,11 +3,9 @@
 ghost use Rattle.std.specs.Prelude.{◌≡◌, ◌++◌, OnErr, OnOk};
 ghost use Rattle.serde_json.specs.Written.{compact_text};
 ghost use Rattle.etcs_packet_text.specs.Fronts.{Begins};
-ghost use Rattle.etcs_packets.specs.PacketValues.{variables_of};
 ghost use Rattle.etcs_packet_text.specs.Trees.{pairs_tree};
 
 use crate::json_page::JsonPage;
-use etcs_packets::inner::AnyPacket;
 use etcs_vars::inner::Variables;
 use std::alloc::AllocError;
 
@@ -22,15 +20,5 @@ pub fn write_variables<V: Variables>(variables: &V, page: &mut JsonPage) -> Resu
 {
     page.open_list()?;
     variables.send(page)?;
-    page.put(b"]")
-}
-
-/// Appends the pairs of a packet's variables after its frame, as a list.
-pub(crate) fn write_fields<P: AnyPacket>(packet: &P, page: &mut JsonPage) -> Result<(), AllocError>
-    ensures ok { OnOk result (page.new.0 ≡ page.old.0 ++ compact_text (pairs_tree (variables_of (P.form packet.now).value))) }
-    ensures err { OnErr result (Begins page.old.0 page.new.0) }
-{
-    page.open_list()?;
-    packet.send_body(page)?;
     page.put(b"]")
 }

@@ -19,7 +19,7 @@ use etcs_group::{Added, Assembly, Clash};
 use etcs_packet_text::inner::{Page, to_digits};
 use etcs_runs::Form;
 use etcs_telegram::Telegram;
-use etcs_text::inner::{check_on, item_bits, json_on, seen, show_on};
+use etcs_text::inner::{check_on, item_bits, json_on, json_seen, seen, show_on, show_seen};
 use etcs_text::{Entry, Kind, encoded, hex_line};
 use std::alloc::AllocError;
 use std::marker::Model;
@@ -242,7 +242,8 @@ fn write_seen(
     match command {
         Command::Check => check_seen(kind, item, bytes, page),
         Command::Convert(form) => convert_seen(form, kind, bytes, page),
-        Command::Show | Command::Group => Ok(None),
+        Command::Show => show_seen(kind, item, bytes, page),
+        Command::Group => Ok(None),
     }
 }
 
@@ -261,7 +262,7 @@ fn convert_seen(
     match form {
         Form::Hex => hex_seen(kind, bytes, page),
         Form::Bin => bytes_seen(kind, bytes, page),
-        Form::Json => Ok(None),
+        Form::Json => json_seen(kind, bytes, page),
     }
 }
 

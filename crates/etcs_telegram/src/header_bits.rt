@@ -15,7 +15,7 @@ use etcs_sequence::inner::number_at;
 use etcs_vars::Var;
 
 /// How many bits the header's variables take.
-pub(crate) const HEADER_BITS: usize = 50;
+pub const HEADER_BITS: usize = 50;
 
 /// The number of a variable in a word, with this many bits after it. `None` if the variable doesn't admit it.
 #[inline(always)]

@@ -1,4 +1,5 @@
-//! For the crates above: the header's variables with their numbers, and what is left of a telegram.
+//! For the crates above: the header's variables with their numbers, the header that a piece begins with, and what is left
+//! of a telegram.
 
 ghost use Rattle.std.specs.Prelude.{◌≡◌, map};
 ghost use Rattle.etcs_telegram.specs.Telegrams.{header_reading, telegram_value, IsAdmitted, TelegramReads};
@@ -6,9 +7,11 @@ ghost use Rattle.etcs_telegram.specs.Writing.{telegram_reading};
 
 use crate::header::Header;
 pub use crate::header::header_by;
+pub use crate::header_bits::HEADER_BITS;
 pub use crate::rest::TelegramRest;
 pub use crate::store::TelegramStore;
 use crate::telegram::Telegram;
+pub use crate::whole::front_of;
 
 /// The numbers of the header's ten variables in the order of sending, fixed ones included. Each variable admits its
 /// number.

@@ -65,7 +65,7 @@ pub(crate) fn telegram_at(
 /// The header that a piece begins with, if the piece has all bytes of a telegram of this size, whose bits of PAD are
 /// zeros. `None` if it doesn't, or if one of the header's variables doesn't admit its number.
 #[inline(always)]
-fn front_of(size: Size, piece: &[u8]) -> Option<Header>
+pub fn front_of(size: Size, piece: &[u8]) -> Option<Header>
     ensures within { IfSome result (λ h. container_bytes size ≤ length piece.now) }
     ensures pad { IfSome result (λ h. bit_lists.part (user_bits size) (pad_bits size) (bits piece.now) ≡ num (pad_bits size) 0) }
     ensures admitted { IfSome result (λ h. IsAdmitted (header_reading h)) }

@@ -9,3 +9,4 @@ pub mod TextLengths
 pub mod TreeTexts
 pub mod ItemFeeds
 pub mod Verdicts
+pub mod WrittenItems

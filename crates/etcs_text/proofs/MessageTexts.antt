@@ -1,48 +1,54 @@
 -- The text of a message, part by part.
-use Rattle.std.proofs.Common.{◌≡◌, ℕ, ◌+◌, List, ◌++◌, flat_map, Result, Ok, Err, refl, ap, ◌∙◌, arith, append_assoc}
-use Rattle.std.specs.Prelude.{OnOk}
-use Rattle.etcs_bits.proofs.Numbers.{length-num}
+use Rattle.std.proofs.Common.{◌≡◌, ℕ, ◌*◌, Bool, List, [], ◌∷◌, ◌++◌, flat_map, fold, sym, ap, ◌∙◌, arith, append_assoc}
+use Rattle.std.specs.Prelude.{codes}
+use Rattle.std.proofs.lemmas.Grind.{flat_map-append}
+use Rattle.etcs_vars.specs.declared.var.Var.TheVariants.{L_MESSAGE, NID_MESSAGE}
 use Rattle.etcs_vars.specs.Reading.{Reading}
 use Rattle.etcs_tables.specs.declared.row.Way.{Way}
-use Rattle.etcs_packets.specs.PacketValues.{Form}
-use Rattle.etcs_messages.specs.declared.message.Content.{Content}
-use Rattle.etcs_messages.specs.declared.message.Content.TheVariants.{Typed, Kept}
-use Rattle.etcs_messages.specs.Kinds.{HeadOf, OwnOf}
-use Rattle.etcs_messages.specs.Messages.{all_bits, head_reading, message_value, padding_room}
-use Rattle.etcs_messages.specs.Readings.{bytes_of, front_reading}
-use Rattle.etcs_text.specs.Messages.{message_bits, message_bytes, message_line, front_variables, after_lines, message_text}
-use Rattle.etcs_packet_text.specs.Show.{variable_line}
+use Rattle.etcs_packets.specs.PacketValues.{PacketValue}
+use Rattle.etcs_messages.specs.Messages.{head_reading, kept_message, typed_message}
+use Rattle.etcs_packet_text.specs.LineSinks.{and_lines, with_lines}
+use Rattle.etcs_packet_text.specs.Packets.{packets_text}
+use Rattle.etcs_packet_text.specs.Show.{bits_line, variable_line}
+use Rattle.etcs_text.specs.Messages.{message_bits, message_bytes, message_line, message_text}
+use Rattle.etcs_packet_text.specs.laws.LineSinks.{packets_lines}
 
-module _ {H B P : Type 0} (way : Way) (k : HeadOf H) (o : OwnOf B) (form : P → Form) where
-  -- ---- How many bits there are.
+-- the lines of NID_MESSAGE and L_MESSAGE
+abbrev pub number_lines : ℕ → ℕ → List ℕ
+number_lines nid bytes = flat_map variable_line ((NID_MESSAGE, nid) ∷ (L_MESSAGE, bytes) ∷ [])
 
-  bytes_are : (m : Content H B P) → bytes_of way o form m ≡ message_bytes way (message_value way k o form m)
-  bytes_are (Typed head body ps padding) = omega (arith, length-num (padding_room (all_bits way o form body ps)) padding)
-  bytes_are (Kept nid b) = refl
+-- those of all variables before the packets
+front_lines : (nid bytes : ℕ) (head body : Reading) → flat_map variable_line (head_reading nid bytes head ++ body) ≡ (number_lines nid bytes ++ flat_map variable_line head) ++ flat_map variable_line body
+front_lines nid bytes head body =
+    flat_map-append variable_line (head_reading nid bytes head) body
+    ∙ ap (λ (z : List ℕ). z ++ flat_map variable_line body) (flat_map-append variable_line ((NID_MESSAGE, nid) ∷ (L_MESSAGE, bytes) ∷ []) head)
 
-  -- ---- The variables before the packets.
+regroup : (old l f h b p e d : List ℕ) → (((((old ++ (l ++ f)) ++ h) ++ b) ++ p) ++ e) ++ d ≡ old ++ ((l ++ ((f ++ h) ++ b)) ++ ((p ++ e) ++ d))
+regroup old l f h b p e d = simp append_assoc
 
-  front_is : (m : Content H B P) → front_reading way k o form m ≡ front_variables way (message_value way k o form m)
-  front_is (Typed head body ps padding) = ap (λ (len : ℕ). head_reading (o.nid body) len (k.reading head) ++ o.reading body) (bytes_are (Typed head body ps padding))
-  front_is (Kept nid b) = refl
+-- texts one after another
+six_more : (old l f h b p e d one two three four five six : List ℕ) → one ≡ old ++ (l ++ f) → two ≡ one ++ h → three ≡ two ++ b → four ≡ three ++ p → five ≡ four ++ e → six ≡ five ++ d → six ≡ old ++ ((l ++ ((f ++ h) ++ b)) ++ ((p ++ e) ++ d))
+six_more old l f h b p e d one two three four five six q r s t u v =
+    v
+    ∙ ap (λ (z : List ℕ). z ++ d) (u ∙ ap (λ (z : List ℕ). z ++ e) (t ∙ ap (λ (z : List ℕ). z ++ p) (s ∙ ap (λ (z : List ℕ). z ++ b) (r ∙ ap (λ (z : List ℕ). z ++ h) q))))
+    ∙ regroup old l f h b p e d
 
--- three texts one after another
-pub three_more : (old a b c one two three : List ℕ) → one ≡ old ++ a → two ≡ one ++ b → three ≡ two ++ c → three ≡ old ++ (a ++ b ++ c)
-three_more old a b c one two three e f g =
-    g
-    ∙ ap (λ (z : List ℕ). z ++ c) (f ∙ ap (λ (z : List ℕ). z ++ b) e ∙ append_assoc old a b)
-    ∙ append_assoc old (a ++ b) c
-
-module _ {H B P : Type 0} (way : Way) (k : HeadOf H) (o : OwnOf B) (form : P → Form) where
-  text_is : (m : Content H B P) (item bits : ℕ) (old one two three : List ℕ) → bits ≡ message_bits way (message_value way k o form m) → one ≡ old ++ message_line way bits item → two ≡ one ++ flat_map variable_line (front_reading way k o form m) → three ≡ two ++ after_lines way (message_value way k o form m) → three ≡ old ++ message_text way (message_value way k o form m) item
+module _ (way : Way) (nid bytes item : ℕ) where
+  pub typed_lines : (head body : Reading) (vs : List PacketValue) (padding : List Bool) (old one two three four five six : List ℕ) → 8 * bytes ≡ message_bits way (typed_message nid head body vs padding) → one ≡ old ++ (message_line way (8 * bytes) item ++ number_lines nid bytes) → two ≡ with_lines one head → three ≡ with_lines two body → four ≡ fold (and_lines way) three vs → five ≡ four ++ codes "end\n" → six ≡ five ++ bits_line (codes "PADDING") padding → six ≡ old ++ message_text way (typed_message nid head body vs padding) item
   unfolding message_text
-  text_is m item bits old one two three long e f g =
-      let v = message_value way k o form m in
-      three_more old (message_line way (message_bits way v) item) (flat_map variable_line (front_variables way v)) (after_lines way v) one two three
-      (e ∙ ap (λ (n : ℕ). old ++ message_line way n item) long)
-      (f ∙ ap (λ (r : Reading). one ++ flat_map variable_line r) (front_is way k o form m))
-      g
+  typed_lines head body vs padding old one two three four five six long q r s t u v =
+      let all : bytes ≡ message_bytes way (typed_message nid head body vs padding) = omega (arith, long) in
+      let beyond = (packets_text way vs ++ codes "end\n") ++ bits_line (codes "PADDING") padding in
+      six_more old (message_line way (8 * bytes) item) (number_lines nid bytes) (flat_map variable_line head) (flat_map variable_line body) (packets_text way vs) (codes "end\n") (bits_line (codes "PADDING") padding) one two three four five six q r s (t ∙ packets_lines way three vs) u v
+      ∙ ap (λ (z : List ℕ). old ++ ((message_line way (8 * bytes) item ++ z) ++ beyond)) (sym (front_lines nid bytes head body))
+      ∙ (λ i. old ++ ((message_line way (long i) item ++ flat_map variable_line (head_reading nid (all i) head ++ body)) ++ beyond))
 
-  pub text_ok : {T E : Type 0} (r : Result T E) (m : Content H B P) (item bits : ℕ) (old one two three : List ℕ) → bits ≡ message_bits way (message_value way k o form m) → one ≡ old ++ message_line way bits item → two ≡ one ++ flat_map variable_line (front_reading way k o form m) → OnOk r (three ≡ two ++ after_lines way (message_value way k o form m)) → OnOk r (three ≡ old ++ message_text way (message_value way k o form m) item)
-  text_ok (Ok x) m item bits old one two three long e f g = text_is m item bits old one two three long e f g
-  text_ok (Err x) m item bits old one two three long e f g = tt
+  pub kept_lines : (b : List Bool) (old one two : List ℕ) → 8 * bytes ≡ message_bits way (kept_message nid b) → one ≡ old ++ (message_line way (8 * bytes) item ++ number_lines nid bytes) → two ≡ one ++ bits_line (codes "OTHER_DATA") b → two ≡ old ++ message_text way (kept_message nid b) item
+  unfolding message_text
+  kept_lines b old one two long q r =
+      let all : bytes ≡ message_bytes way (kept_message nid b) = omega (arith, long) in
+      let line = bits_line (codes "OTHER_DATA") b in
+      r
+      ∙ ap (λ (z : List ℕ). z ++ line) q
+      ∙ append_assoc old (message_line way (8 * bytes) item ++ number_lines nid bytes) line
+      ∙ (λ i. old ++ ((message_line way (long i) item ++ number_lines nid (all i)) ++ line))

@@ -1,25 +1,22 @@
 //! Items as JSON, a line for each.
 
-ghost use Rattle.std.specs.Prelude.{◌≡◌, ◌++◌, ◌∷◌, [], OnErr, OnOk, Some, map};
+ghost use Rattle.std.specs.Prelude.{◌≡◌, ◌*◌, ◌≤◌, ◌++◌, ◌∷◌, [], IfOk, IfSome, IsNone, OnErr, OnOk, length};
 ghost use Rattle.serde_json.specs.Written.{compact_text};
-ghost use Rattle.etcs_bits.specs.Bits.{num};
-ghost use Rattle.etcs_messages.specs.Messages.{message_value, values_of};
-ghost use Rattle.etcs_messages.specs.Readings.{body_of, head_of, kept_of, packets_of, padding_bits_of, padding_of};
-ghost use Rattle.etcs_telegram.specs.Telegrams.{telegram_value};
-ghost use Rattle.etcs_packet_text.specs.Fronts.{Begins};
-ghost use Rattle.etcs_packet_text.specs.Show.{bit_digit};
-ghost use Rattle.etcs_text.specs.Entries.{entry_value};
-ghost use Rattle.etcs_text.specs.JsonParts.{kind_member, message_after, message_front, way_member};
-ghost use Rattle.etcs_text.specs.Trees.{json_tree, message_tree, telegram_tree};
+ghost use Rattle.etcs_bits.specs.Bits.{bits};
+ghost use Rattle.etcs_vars.specs.Reading.{IsOutcome, done};
+ghost use Rattle.etcs_text.specs.Entries.{EntryReads, EntryValue, entry_value};
+ghost use Rattle.etcs_text.specs.JsonParts.{kind_member, way_member};
+ghost use Rattle.etcs_text.specs.Trees.{json_tree};
 
-use crate::entry::Entry;
+use crate::entry::{Entry, Kind};
+use crate::writer::{ItemWriter, write_entry, write_seen};
 use etcs_bits::BitSlice;
-use etcs_messages::{Head, MessageOf, Own};
-use etcs_packet_text::inner::Page;
-use etcs_packet_text::inner::json_text::{JsonPage, write_packets, write_variables};
+use etcs_messages::{Head, Own};
+use etcs_packet_text::inner::json_text::{JsonPage, write_variables};
+use etcs_packet_text::inner::{PacketSource, Page};
 use etcs_packets::inner::AnyPacket;
 use etcs_tables::Way;
-use etcs_telegram::{Size, Telegram};
+use etcs_telegram::{Header, Size};
 use std::alloc::AllocError;
 
 /// What is between the header and the packets of a telegram of this size in its JSON: the kind, and the name `packets`.
@@ -33,20 +30,6 @@ pub fn kind_member(size: Size) -> &'static [u8]
     }
 }
 
-/// Appends a telegram.
-fn write_telegram(telegram: &Telegram, page: &mut JsonPage) -> Result<(), AllocError>
-    ensures ok { OnOk result (page.new.0 ≡ page.old.0 ++ compact_text (telegram_tree (telegram_value telegram.now))) }
-    ensures err { OnErr result (Begins page.old.0 page.new.0) }
-{
-    page.put(b"{\"fill\":\"")?;
-    page.put_slice(&telegram.fill())?;
-    page.put(b"\",\"header\":")?;
-    write_variables(telegram.header(), page)?;
-    page.put(kind_member(telegram.size()))?;
-    write_packets(telegram.packets(), page)?;
-    page.put(b"}")
-}
-
 /// What is just before the number of a message of this way in its JSON: the kind, and the name `nid`.
 #[inline(always)]
 pub fn way_member(way: Way) -> &'static [u8]
@@ -58,118 +41,81 @@ pub fn way_member(way: Way) -> &'static [u8]
     }
 }
 
-/// Appends the digits of PADDING.
-fn write_padding<H: Head, B: Own<Front = H>>(
-    message: &MessageOf<H, B>,
-    page: &mut JsonPage,
-) -> Result<(), AllocError>
-    ensures ok { OnOk result (page.new.0 ≡ page.old.0 ++ map bit_digit (num (padding_bits_of H.Packet.WAY B.own H.Packet.form message.now) (padding_of message.now))) }
-    ensures err { OnErr result (Begins page.old.0 page.new.0) }
-{
-    let (count, number) = message.padding();
-    page.put_bits(u64::from(number), count)
-}
+/// Writes an item as a line of JSON.
+#[derive(Drop)]
+pub(crate) struct Json;
 
-/// Appends the variables of a typed message.
-fn write_front<H: Head, B: Own<Front = H>>(
-    head: &H,
-    body: &B,
-    page: &mut JsonPage,
-) -> Result<(), AllocError>
-    ensures ok { OnOk result (page.new.0 ≡ page.old.0 ++ message_front (B.reading_of body.now) (H.reading_of head.now)) }
-    ensures err { OnErr result (Begins page.old.0 page.new.0) }
-{
-    page.put(b"{\"fields\":")?;
-    write_variables(body, page)?;
-    page.put(b",\"header\":")?;
-    write_variables(head, page)
-}
+impl ItemWriter for Json {
+    ghost use Rattle.std.specs.Prelude.{◌++◌, ◌∷◌, []};
+    ghost use Rattle.serde_json.specs.Written.{compact_text};
+    ghost use Rattle.etcs_text.specs.Trees.{json_tree};
 
-/// Appends the packets of a typed message and what is after them.
-fn write_after<H: Head, B: Own<Front = H>>(
-    message: &MessageOf<H, B>,
-    page: &mut JsonPage,
-) -> Result<(), AllocError>
-    ensures ok { OnOk result (page.new.0 ≡ page.old.0 ++ message_after H.Packet.WAY (values_of H.Packet.form (packets_of message.now)) (num (padding_bits_of H.Packet.WAY B.own H.Packet.form message.now) (padding_of message.now))) }
-    ensures err { OnErr result (Begins page.old.0 page.new.0) }
-{
-    write_packets(message.packets(), page)?;
-    page.put(b",\"padding\":\"")?;
-    write_padding(message, page)?;
-    page.put(b"\"}")
-}
+    type Page = JsonPage;
 
-/// Appends a typed message, whose head and body these are.
-fn write_typed<H: Head, B: Own<Front = H>>(
-    message: &MessageOf<H, B>,
-    head: &H,
-    body: &B,
-    page: &mut JsonPage,
-) -> Result<(), AllocError>
-    requires head { head_of message.now ≡ Some head.now }
-    requires body { body_of message.now ≡ Some body.now }
-    ensures ok { OnOk result (page.new.0 ≡ page.old.0 ++ compact_text (message_tree H.Packet.WAY (message_value H.Packet.WAY H.head B.own H.Packet.form message.now))) }
-    ensures err { OnErr result (Begins page.old.0 page.new.0) }
-{
-    write_front(head, body, page)?;
-    page.put_between(
-        way_member(H::Packet::WAY),
-        u64::from(message.nid()),
-        b",\"packets\":",
-    )?;
-    write_after(message, page)
-}
+    ghost written = { λ s e. compact_text (json_tree e) ++ 10 ∷ [] };
 
-/// Appends a message that is kept as these bits.
-fn write_kept<H: Head, B: Own<Front = H>>(
-    message: &MessageOf<H, B>,
-    bits: &BitSlice<'_>,
-    page: &mut JsonPage,
-) -> Result<(), AllocError>
-    requires { kept_of message.now ≡ Some bits.now }
-    ensures ok { OnOk result (page.new.0 ≡ page.old.0 ++ compact_text (message_tree H.Packet.WAY (message_value H.Packet.WAY H.head B.own H.Packet.form message.now))) }
-    ensures err { OnErr result (Begins page.old.0 page.new.0) }
-{
-    page.put(b"{\"data\":\"")?;
-    page.put_slice(bits)?;
-    page.put(b"\"")?;
-    page.put_between(way_member(H::Packet::WAY), u64::from(message.nid()), b"}")
-}
-
-/// Appends a message.
-fn write_message<H: Head, B: Own<Front = H>>(
-    message: &MessageOf<H, B>,
-    page: &mut JsonPage,
-) -> Result<(), AllocError>
-    ensures ok { OnOk result (page.new.0 ≡ page.old.0 ++ compact_text (message_tree H.Packet.WAY (message_value H.Packet.WAY H.head B.own H.Packet.form message.now))) }
-    ensures err { OnErr result (Begins page.old.0 page.new.0) }
-{
-    match (message.head(), message.body(), message.kept_bits()) {
-        (Some(head), Some(body), _) => write_typed(message, head, body, page),
-        (_, _, Some(bits)) => write_kept(message, &bits, page),
-        _ => unreachable!(),
+    #[inline(always)]
+    fn telegram<Q: PacketSource>(
+        &self,
+        size: Size,
+        header: &Header,
+        packets: &Q,
+        page: &mut JsonPage,
+    ) -> Result<bool, AllocError> {
+        let Some(fill) = packets.after() else {
+            return Ok(false);
+        };
+        page.put(b"{\"fill\":\"")?;
+        page.put_slice(&fill)?;
+        page.put(b"\",\"header\":")?;
+        write_variables(header, page)?;
+        page.put(kind_member(size))?;
+        page.open_list()?;
+        let Some(after) = packets.write(page)? else {
+            return Ok(false);
+        };
+        page.put(b"]}\n")?;
+        Ok(after.len() == fill.len())
     }
-}
 
-/// Appends an entry.
-fn write_entry(entry: &Entry, page: &mut JsonPage) -> Result<(), AllocError>
-    ensures ok { OnOk result (page.new.0 ≡ page.old.0 ++ compact_text (json_tree (entry_value entry.now))) }
-    ensures err { OnErr result (Begins page.old.0 page.new.0) }
-{
-    match entry {
-        Entry::Telegram(telegram) => write_telegram(telegram, page),
-        Entry::Message(message) => write_message(message, page),
-        Entry::Train(message) => write_message(message, page),
+    #[inline(always)]
+    fn typed<H: Head, B: Own<Front = H>, Q: PacketSource>(
+        &self,
+        _bytes: usize,
+        head: &H,
+        body: &B,
+        packets: &Q,
+        page: &mut JsonPage,
+    ) -> Result<bool, AllocError> {
+        page.put(b"{\"fields\":")?;
+        write_variables(body, page)?;
+        page.put(b",\"header\":")?;
+        write_variables(head, page)?;
+        let number = u64::from(body.nid());
+        page.put_between(way_member(H::Packet::WAY), number, b",\"packets\":")?;
+        page.open_list()?;
+        let Some(padding) = packets.write(page)? else {
+            return Ok(false);
+        };
+        page.put(b"],\"padding\":\"")?;
+        page.put_slice(&padding)?;
+        page.put(b"\"}\n")?;
+        Ok(true)
     }
-}
 
-/// Appends an entry and a LF.
-fn write_line(entry: &Entry, page: &mut JsonPage) -> Result<(), AllocError>
-    ensures ok { OnOk result (page.new.0 ≡ page.old.0 ++ (compact_text (json_tree (entry_value entry.now)) ++ 10 ∷ [])) }
-    ensures err { OnErr result (Begins page.old.0 page.new.0) }
-{
-    write_entry(entry, page)?;
-    page.put(b"\n")
+    fn kept(
+        &self,
+        way: Way,
+        nid: u8,
+        _bytes: usize,
+        bits: &BitSlice<'_>,
+        page: &mut JsonPage,
+    ) -> Result<(), AllocError> {
+        page.put(b"{\"data\":\"")?;
+        page.put_slice(bits)?;
+        page.put(b"\"")?;
+        page.put_between(way_member(way), u64::from(nid), b"}\n")
+    }
 }
 
 /// Appends the entry's JSON and a LF to a page, as [`json_line`] does.
@@ -181,13 +127,27 @@ pub fn json_on(entry: &Entry, page: &mut Page) -> Result<(), AllocError>
     ensures ok { OnOk result (page.new ≡ page.old ++ (compact_text (json_tree (entry_value entry.now)) ++ 10 ∷ [])) }
     ensures err { OnErr result (page.new ≡ page.old) }
 {
-    let len = page.len();
     let mut json = JsonPage::open(page);
-    let written = write_line(entry, &mut json);
+    let written = write_entry(&Json, entry, &mut json);
     *page = json.into_page();
-    if written.is_err() {
-        page.cut(len);
-    }
+    written
+}
+
+/// Appends the JSON and a LF of the item that bytes begin with to a page, without a value of the item, and returns how many
+/// bytes it has. It may always return `None`, also if they begin with an item; the page then stays as it was.
+///
+/// # Errors
+///
+/// `AllocError` if out of memory. The page then stays as it was.
+#[inline(always)]
+pub fn json_seen(kind: Kind, bytes: &[u8], page: &mut Page) -> Result<Option<usize>, AllocError>
+    ensures some { IfOk result (λ o. IfSome o (λ n. (n ≤ length bytes.now) × (e : EntryValue) × IsOutcome (EntryReads kind) (bits bytes.now) (done e (8 * n)) × (page.new ≡ page.old ++ (compact_text (json_tree e) ++ 10 ∷ [])))) }
+    ensures none { IfOk result (λ o. IsNone o → page.new ≡ page.old) }
+    ensures err { OnErr result (page.new ≡ page.old) }
+{
+    let mut json = JsonPage::open(page);
+    let written = write_seen(&Json, kind, bytes, &mut json);
+    *page = json.into_page();
     written
 }
 

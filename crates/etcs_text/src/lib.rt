@@ -18,6 +18,7 @@ mod messages;
 mod seen;
 mod show;
 mod verdict;
+mod writer;
 
 pub use encodings::{check_line, encoded, hex_line};
 pub use entries::EntryReader;

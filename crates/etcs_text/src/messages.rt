@@ -1,22 +1,20 @@
 //! The text of messages of either way.
 
-ghost use Rattle.std.specs.Prelude.{◌≡◌, ◌++◌, OnErr, OnOk, codes, flat_map};
-ghost use Rattle.etcs_bits.specs.Bits.{num};
-ghost use Rattle.etcs_messages.specs.Messages.{message_value, values_of};
-ghost use Rattle.etcs_messages.specs.Readings.{front_reading, packets_of, padding_bits_of, padding_of};
+ghost use Rattle.std.specs.Prelude.{◌≡◌, ◌*◌, ◌<◌, ◌++◌, ◌∷◌, [], OnErr, OnOk, codes, flat_map};
+ghost use Rattle.etcs_vars.specs.declared.var.Var.TheVariants.{L_MESSAGE, NID_MESSAGE};
+ghost use Rattle.etcs_messages.specs.Messages.{message_value};
 ghost use Rattle.etcs_packet_text.specs.Fronts.{Begins};
-ghost use Rattle.etcs_packet_text.specs.Packets.{packets_text};
-ghost use Rattle.etcs_packet_text.specs.Show.{bits_line, variable_line};
-ghost use Rattle.etcs_text.specs.Messages.{after_lines, message_bits, message_line, message_text};
+ghost use Rattle.etcs_packet_text.specs.Show.{variable_line};
+ghost use Rattle.etcs_text.specs.Messages.{message_bits, message_line};
 ghost use Rattle.etcs_text.specs.Show.{way_word};
 
-use etcs_bits::BitSlice;
-use etcs_messages::inner::{reads, send_front};
+use etcs_messages::inner::reads;
 use etcs_messages::{Head, MessageOf, Own};
-use etcs_packet_text::inner::{Page, write_packets};
+use etcs_packet_text::inner::Page;
 use etcs_packets::inner::AnyPacket;
 use etcs_tables::Way;
 use etcs_vars::Var;
+use etcs_vars::inner::VarSink;
 use std::alloc::AllocError;
 
 /// The kind of messages of a way, between blanks.
@@ -49,70 +47,32 @@ pub(crate) fn message_bits<H: Head, B: Own<Front = H>>(message: &MessageOf<H, B>
     message.bit_len()
 }
 
-/// Appends the lines of the variables before the packets or of the bits that are kept.
-fn write_front<H: Head, B: Own<Front = H>>(
-    message: &MessageOf<H, B>,
-    page: &mut Page,
-) -> Result<(), AllocError>
-    ensures ok { OnOk result (page.new ≡ page.old ++ flat_map variable_line (front_reading H.Packet.WAY H.head B.own H.Packet.form message.now)) }
-    ensures err { OnErr result (Begins page.old page.new) }
+/// How many bytes a message has.
+#[inline(always)]
+pub(crate) fn message_bytes<H: Head, B: Own<Front = H>>(message: &MessageOf<H, B>) -> usize
+    ensures small { result < 1024 }
+    ensures bits { 8 * result ≡ message_bits H.Packet.WAY (message_value H.Packet.WAY H.head B.own H.Packet.form message.now) }
 {
-    send_front(message, page)
+    reads(message);
+    message.bit_len() / 8
 }
 
-/// Appends the line of PADDING.
-fn write_padding<H: Head, B: Own<Front = H>>(
-    message: &MessageOf<H, B>,
-    page: &mut Page,
-) -> Result<(), AllocError>
-    ensures ok { OnOk result (page.new ≡ page.old ++ bits_line (codes "PADDING") (num (padding_bits_of H.Packet.WAY B.own H.Packet.form message.now) (padding_of message.now))) }
-    ensures err { OnErr result (Begins page.old page.new) }
-{
-    let (count, number) = message.padding();
-    let byte = [number];
-    match BitSlice::new(&byte, 8 - count, count) {
-        Some(bits) => page.put_bits_line(Var::PADDING, &bits),
-        None => unreachable!(),
-    }
-}
-
-/// Appends the texts of the packets, the end and the line of PADDING.
-fn write_closed<H: Head, B: Own<Front = H>>(
-    message: &MessageOf<H, B>,
-    page: &mut Page,
-) -> Result<(), AllocError>
-    ensures ok { OnOk result (page.new ≡ page.old ++ (packets_text H.Packet.WAY (values_of H.Packet.form (packets_of message.now)) ++ codes "end\n" ++ bits_line (codes "PADDING") (num (padding_bits_of H.Packet.WAY B.own H.Packet.form message.now) (padding_of message.now)))) }
-    ensures err { OnErr result (Begins page.old page.new) }
-{
-    write_packets(message.packets(), page)?;
-    page.put(b"end\n")?;
-    write_padding(message, page)
-}
-
-/// Appends the lines of what follows the variables.
-fn write_after<H: Head, B: Own<Front = H>>(
-    message: &MessageOf<H, B>,
-    page: &mut Page,
-) -> Result<(), AllocError>
-    ensures ok { OnOk result (page.new ≡ page.old ++ after_lines H.Packet.WAY (message_value H.Packet.WAY H.head B.own H.Packet.form message.now)) }
-    ensures err { OnErr result (Begins page.old page.new) }
-{
-    match message.kept_bits() {
-        Some(bits) => page.put_bits_line(Var::OTHER_DATA, &bits),
-        None => write_closed(message, page),
-    }
-}
-
-/// Appends the text of a message.
-pub(crate) fn write_message<H: Head, B: Own<Front = H>>(
-    message: &MessageOf<H, B>,
+/// Appends the first line of a message of this many bytes, and the lines of NID_MESSAGE and L_MESSAGE.
+#[inline(always)]
+pub(crate) fn write_front(
+    way: Way,
+    nid: u8,
+    bytes: usize,
     item: u64,
     page: &mut Page,
 ) -> Result<(), AllocError>
-    ensures ok { OnOk result (page.new ≡ page.old ++ message_text H.Packet.WAY (message_value H.Packet.WAY H.head B.own H.Packet.form message.now) item) }
-    ensures err { OnErr result (Begins page.old page.new) }
+    requires { bytes < 1024 }
+    ensures ok { OnOk result (page.new ≡ page.old ++ (message_line way (8 * bytes) item ++ flat_map variable_line ((NID_MESSAGE, nid) ∷ (L_MESSAGE, bytes) ∷ []))) }
+    ensures begins { Begins page.old page.new }
 {
-    write_item(H::Packet::WAY, message_bits(message), item, page)?;
-    write_front(message, page)?;
-    write_after(message, page)
+    write_item(way, 8 * bytes, item, page)?;
+    page.send(&[
+        (Var::NID_MESSAGE, u64::from(nid)),
+        (Var::L_MESSAGE, bytes as u64),
+    ])
 }

@@ -12,8 +12,9 @@ use crate::encodings::are_bytes;
 use etcs_messages::inner::message_seen;
 use etcs_telegram::Size;
 
-/// The most bytes of an item.
-const MOST_BYTES: usize = 1023;
+/// The most bytes of an item that is seen. Longer messages are left to the exact reader: one that is refused near its end
+/// would be read twice, and cost more than any other.
+pub(crate) const MOST_SEEN: usize = 900;
 
 /// How many bytes an item of the kind has with which these bytes begin, if it lies whole in them. It may always return
 /// `None`, also if they begin with an item. Takes no memory.
@@ -25,7 +26,7 @@ pub fn seen(kind: Kind, bytes: &[u8]) -> Option<usize>
     ensures item { IfSome result (λ n. (e : EntryValue) × IsOutcome (EntryReads kind) (bits bytes.now) (done e (8 * n)) × IsEncoded e (take n bytes.now)) }
 {
     are_bytes(bytes);
-    seen_first(kind, &bytes[..bytes.len().min(MOST_BYTES)])
+    seen_first(kind, &bytes[..bytes.len().min(MOST_SEEN)])
 }
 
 /// How many bits an item of the kind with this many bytes has; a telegram its user bits.

@@ -1,19 +1,26 @@
 //! The text of an item.
 
 ghost use Rattle.std.specs.Fmt.{decimal};
-ghost use Rattle.std.specs.Prelude.{◌≡◌, ◌++◌, OnErr, OnOk, codes, flat_map};
+ghost use Rattle.std.specs.Prelude.{◌≡◌, ◌*◌, ◌≤◌, ◌++◌, IfOk, IfSome, IsNone, OnErr, OnOk, codes, flat_map, length};
+ghost use Rattle.etcs_bits.specs.Bits.{bits};
+ghost use Rattle.etcs_vars.specs.Reading.{IsOutcome, done};
 ghost use Rattle.etcs_telegram.specs.Telegrams.{header_reading, user_bits};
 ghost use Rattle.etcs_packet_text.specs.Fronts.{Begins};
 ghost use Rattle.etcs_packet_text.specs.Show.{variable_line};
-ghost use Rattle.etcs_text.specs.Entries.{entry_text, entry_value};
+ghost use Rattle.etcs_text.specs.Entries.{EntryReads, EntryValue, entry_text, entry_value};
 ghost use Rattle.etcs_text.specs.Show.{item_line, kind_word};
 ghost use Rattle.etcs_text.specs.Telegrams.{show_text};
 ghost use Rattle.etcs_telegram.specs.Telegrams.{telegram_value};
 
-use crate::entry::Entry;
-use crate::messages::write_message;
-use etcs_packet_text::inner::{Page, write_packets};
-use etcs_telegram::{Header, Size, Telegram};
+use crate::entry::{Entry, Kind};
+use crate::messages::write_front;
+use crate::writer::{ItemWriter, write_entry, write_seen};
+use etcs_bits::BitSlice;
+use etcs_messages::{Head, Own};
+use etcs_packet_text::inner::{PacketSource, Page};
+use etcs_packets::inner::AnyPacket;
+use etcs_tables::Way;
+use etcs_telegram::{Header, Size};
 use etcs_vars::Var;
 use etcs_vars::inner::Variables;
 use std::alloc::AllocError;
@@ -44,27 +51,67 @@ fn write_header(header: &Header, page: &mut Page) -> Result<(), AllocError>
     header.send(page)
 }
 
-/// Appends the text of a telegram.
-fn write_telegram(telegram: &Telegram, item: u64, page: &mut Page) -> Result<(), AllocError>
-    ensures ok { OnOk result (page.new ≡ page.old ++ show_text (telegram_value telegram.now) item) }
-    ensures err { OnErr result (Begins page.old page.new) }
-{
-    write_item(telegram.size(), item, page)?;
-    write_header(telegram.header(), page)?;
-    write_packets(telegram.packets(), page)?;
-    page.put(b"packet 255\n")?;
-    page.put_bits_line(Var::FILL, &telegram.fill())
+/// Writes an item of this number as lines.
+#[derive(Drop)]
+pub(crate) struct Lines {
+    pub(crate) item: u64,
 }
 
-/// Appends the text of an entry.
-fn write_entry(entry: &Entry, item: u64, page: &mut Page) -> Result<(), AllocError>
-    ensures ok { OnOk result (page.new ≡ page.old ++ entry_text (entry_value entry.now) item) }
-    ensures err { OnErr result (Begins page.old page.new) }
-{
-    match entry {
-        Entry::Telegram(telegram) => write_telegram(telegram, item, page),
-        Entry::Message(message) => write_message(message, item, page),
-        Entry::Train(message) => write_message(message, item, page),
+impl ItemWriter for Lines {
+    ghost use Rattle.etcs_text.specs.Entries.{entry_text};
+
+    type Page = Page;
+
+    ghost written = { λ s e. entry_text e s.item };
+
+    #[inline(always)]
+    fn telegram<Q: PacketSource>(
+        &self,
+        size: Size,
+        header: &Header,
+        packets: &Q,
+        page: &mut Page,
+    ) -> Result<bool, AllocError> {
+        write_item(size, self.item, page)?;
+        write_header(header, page)?;
+        let Some(fill) = packets.write(page)? else {
+            return Ok(false);
+        };
+        page.put(b"packet 255\n")?;
+        page.put_bits_line(Var::FILL, &fill)?;
+        Ok(true)
+    }
+
+    #[inline(always)]
+    fn typed<H: Head, B: Own<Front = H>, Q: PacketSource>(
+        &self,
+        bytes: usize,
+        head: &H,
+        body: &B,
+        packets: &Q,
+        page: &mut Page,
+    ) -> Result<bool, AllocError> {
+        write_front(H::Packet::WAY, body.nid(), bytes, self.item, page)?;
+        head.send(page)?;
+        body.send(page)?;
+        let Some(padding) = packets.write(page)? else {
+            return Ok(false);
+        };
+        page.put(b"end\n")?;
+        page.put_bits_line(Var::PADDING, &padding)?;
+        Ok(true)
+    }
+
+    fn kept(
+        &self,
+        way: Way,
+        nid: u8,
+        bytes: usize,
+        bits: &BitSlice<'_>,
+        page: &mut Page,
+    ) -> Result<(), AllocError> {
+        write_front(way, nid, bytes, self.item, page)?;
+        page.put_bits_line(Var::OTHER_DATA, bits)
     }
 }
 
@@ -77,12 +124,27 @@ pub fn show_on(entry: &Entry, item: u64, page: &mut Page) -> Result<(), AllocErr
     ensures ok { OnOk result (page.new ≡ page.old ++ entry_text (entry_value entry.now) item) }
     ensures err { OnErr result (page.new ≡ page.old) }
 {
-    let len = page.len();
-    let shown = write_entry(entry, item, page);
-    if shown.is_err() {
-        page.cut(len);
-    }
-    shown
+    write_entry(&Lines { item }, entry, page)
+}
+
+/// Appends the text of the item, numbered `item`, that bytes begin with to a page, without a value of the item, and returns
+/// how many bytes it has. It may always return `None`, also if they begin with an item; the page then stays as it was.
+///
+/// # Errors
+///
+/// `AllocError` if out of memory. The page then stays as it was.
+#[inline(always)]
+pub fn show_seen(
+    kind: Kind,
+    item: u64,
+    bytes: &[u8],
+    page: &mut Page,
+) -> Result<Option<usize>, AllocError>
+    ensures some { IfOk result (λ o. IfSome o (λ n. (n ≤ length bytes.now) × (e : EntryValue) × IsOutcome (EntryReads kind) (bits bytes.now) (done e (8 * n)) × (page.new ≡ page.old ++ entry_text e item))) }
+    ensures none { IfOk result (λ o. IsNone o → page.new ≡ page.old) }
+    ensures err { OnErr result (page.new ≡ page.old) }
+{
+    write_seen(&Lines { item }, kind, bytes, page)
 }
 
 /// Appends the text of an entry, numbered `item`: a line with the number, the kind and the count of bits (of a telegram

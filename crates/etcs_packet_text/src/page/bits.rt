@@ -323,7 +323,7 @@ pub(crate) fn put_slice(place: &mut [u8], at: usize, bits: &BitSlice<'_>) -> usi
     let mut end = at;
     let mut from = 0;
     while from < count {
-        let width = (count - from).min(64);
+        let width = (count - from).min(56);
         match bits.number(from, width) {
             Some(number) => end = put_bits(place, end, number, width),
             None => unreachable!(),

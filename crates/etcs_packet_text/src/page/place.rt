@@ -84,7 +84,7 @@ pub(crate) fn put_decimal(place: &mut [u8], at: usize, number: u64) -> usize
 
 /// Writes the digits of a number that has more than one.
 #[cycle(decimal)]
-#[inline(never)]
+#[inline(always)]
 fn put_more(place: &mut [u8], at: usize, number: u64) -> usize
     requires room { at + length (decimal number) ≤ length place.old }
     requires least { 10 ≤ number }

@@ -39,8 +39,8 @@ pub(crate) struct First<Others> {
     others: PhantomData<Others>,
 }
 
-/// The first eight without a loop.
-pub(crate) type Eight = First<First<First<First<First<First<First<First<Loop>>>>>>>>;
+/// The first ten, as many as a telegram's header has, without a loop.
+pub(crate) type Ten = First<First<First<First<First<First<First<First<First<First<Loop>>>>>>>>>>;
 
 impl<P: Put> PutEach<P> for Loop {
     #[inline(never)]

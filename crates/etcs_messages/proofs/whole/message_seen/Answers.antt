@@ -1,10 +1,9 @@
-use Rattle.std.proofs.Common.{Bool, List, length, ap, subst, ◌∙◌, arith}
+use Rattle.std.proofs.Common.{Bool, List, ap, subst, ◌∙◌}
 use Rattle.etcs_bits.specs.Bits.{bits}
-use Rattle.etcs_bits.proofs.Lists.{length-part}
 use Rattle.etcs_tables.specs.declared.row.Way.{Way}
 use Rattle.etcs_messages.specs.Lefts.{front_row}
 use Rattle.etcs_messages.specs.Fronts.{WholeFront}
-use Rattle.etcs_messages.proofs.MessagesAtOnce.{kept_seen, typed_front, untyped_front, typed_seen}
+use Rattle.etcs_messages.proofs.MessagesAtOnce.{kept_seen, typed_front, untyped_front, front_long, typed_seen}
 use Rattle.etcs_messages.proofs.whole.message_seen.Goals as goal
 
 pub returns-in_default-clause-reads : goal.returns-in_default-clause-reads
@@ -16,9 +15,8 @@ returns-in_default-clause-reads g c =
 pub front_numbers-requires : goal.front_numbers-requires
 front_numbers-requires g c =
     let nid = c.in_ok-nid.nid in
-    let (vars, typed, wide) = typed_front (front_row g.H.Packet.AnyPacket.WAY nid) c.in-Some.front (rw c.WAY.ensures at c.in-Some.ensures) in
-    let long = length-part 0 c.in-Some.front (bits c.args.piece.now) (omega (arith, c.if-front-end.false, c.in_ok-nid.ensures.inside)) in
-    record { typed = (vars, ap (λ (w : Way). front_row w nid) c.WAY-2.ensures ∙ typed, ap length c.bits_at.ensures ∙ long ∙ wide) }
+    let (vars, typed, long) = front_long (front_row g.H.Packet.AnyPacket.WAY nid) c.in-Some.front c.in_ok-nid.bytes c.bits_at.result (bits c.args.piece.now) (rw c.WAY.ensures at c.in-Some.ensures) c.if-front-end.false c.in_ok-nid.ensures.inside c.bits_at.ensures in
+    record { typed = (vars, ap (λ (w : Way). front_row w nid) c.WAY-2.ensures ∙ typed, long) }
 
 pub returns-in-All-clause-reads : goal.returns-in-All-clause-reads
 returns-in-All-clause-reads g c =

@@ -1,6 +1,6 @@
-use Rattle.etcs_packet_text.specs.laws.Fronts.{begins_more}
-use Rattle.etcs_packet_text.proofs.Refusals.{on_err}
+use Rattle.std.proofs.Common.{◌∙◌, map}
+use Rattle.etcs_packet_text.specs.laws.LineSinks.{packets_lines}
 use Rattle.etcs_packet_text.proofs.packets.write_packets.Goals as goal
 
-pub returns-in_err-write_packet-clause-err : goal.returns-in_err-write_packet-clause-err
-returns-in_err-write_packet-clause-err g c = on_err _ (begins_more _ _ _ _ c.loop-packet.invariant c.in_err-write_packet.ensures.err)
+pub returns-clause-ok : goal.returns-clause-ok
+returns-clause-ok g c = c.in_ok-write_packets.ensures.ok ∙ packets_lines g.P.AnyPacket.WAY c.args.page.now (map (λ p. (g.P.AnyPacket.form p).value) c.args.packets.now)

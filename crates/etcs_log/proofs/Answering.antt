@@ -1,8 +1,10 @@
 -- What is written about a line, by what its digits say.
-use Rattle.std.proofs.Common.{◌≡◌, ℕ, ◌+◌, ◌-◌, ◌*◌, ◌≤◌, ◌%◌, ◌==◌, Bool, true, false, ◌&&◌, ◌||◌, cond, IsTrue, List, [], ◌∷◌, ◌++◌, length, take, drop, Result, Ok, Err, inl, inr, refl, sym, ap, subst, ◌∙◌, arith}
+use Rattle.std.proofs.Common.{◌≡◌, ℕ, ◌+◌, ◌-◌, ◌*◌, ◌<◌, ◌≤◌, ◌%◌, ◌==◌, Bool, true, false, ◌&&◌, ◌||◌, cond, IsTrue, List, [], ◌∷◌, ◌++◌, eqb, length, take, drop, Option, Some, None, Result, Ok, Err, inl, inr, refl, sym, ap, subst, ◌∙◌, arith}
+use Rattle.std.proofs.lemmas.Bool.{eqb-true}
 use Rattle.std.proofs.lemmas.List.{append-nil, length-drop, map-append}
 use Rattle.std.proofs.Math.Seq.{take-length}
-use Rattle.std.specs.Prelude.{◌⊎◌, IfOk, OnOk, not}
+use Rattle.std.specs.Option.{option_eq}
+use Rattle.std.specs.Prelude.{◌⊎◌, All, IfOk, IfSome, OnOk, not}
 use Rattle.etcs_text.specs.declared.entry.Entry.{Entry}
 use Rattle.etcs_text.specs.declared.entry.Entry.TheVariants.{Telegram}
 use Rattle.etcs_text.specs.declared.entry.Kind.{Kind}
@@ -13,7 +15,7 @@ use Rattle.hex.specs.Hex.{decode_of, encode_upper}
 use Rattle.hex.proofs.HexLemmas.{decode_of-odd, decode_of-ok, decode_of-same}
 use Rattle.etcs_bits.specs.Bits.{bits}
 use Rattle.etcs_bits.proofs.Positions.{length-bits}
-use Rattle.etcs_vars.specs.Reading.{spelled}
+use Rattle.etcs_vars.specs.Reading.{IsOutcome, done, spelled}
 use Rattle.etcs_vars.specs.declared.var.Var.{Var}
 use Rattle.etcs_telegram.specs.declared.size.Size.{Size}
 use Rattle.etcs_telegram.specs.declared.size.Size.TheVariants as size
@@ -26,7 +28,7 @@ use Rattle.etcs_runs.specs.declared.digits.NoBytes.TheVariants.{Empty, NoDigits,
 use Rattle.etcs_group.specs.declared.groups.Group.{Group}
 use Rattle.etcs_group.specs.GroupLines.{AreGroupLines}
 use Rattle.etcs_group.specs.ManyGroups.{AreGroupsOf}
-use Rattle.etcs_text.specs.Entries.{EntryValue, entry_value, kind_of}
+use Rattle.etcs_text.specs.Entries.{EntryReads, EntryValue, entry_value, kind_of}
 use Rattle.etcs_text.specs.Encodings.{IsEncoded}
 use Rattle.etcs_text.specs.Verdicts.{IsItem, IsVerdict}
 use Rattle.etcs_text.proofs.ItemKinds.{item_bits, same_telegrams}
@@ -41,6 +43,7 @@ use Rattle.etcs_log.specs.Logs.{Answer, passed, item, other, bad, GoodText, IsAn
 use Rattle.etcs_log.specs.declared.seen.Seen.{Seen}
 use Rattle.etcs_log.specs.JsonLines.{IsJsonItem}
 use Rattle.etcs_log.specs.LogGroups.{AreGroups, Holds, telegram_of}
+use Rattle.etcs_log.specs.Values.{bytes_text, is_json, needs_values, one_more}
 
 read_by : (b : Bool) (r : Result ℕ NoBytes) → (IsTrue b → r ≡ Err Empty) → (r ≡ Err Empty → ⊥) → b ≡ false
 read_by true r f differs = absurd (differs (f refl))
@@ -151,23 +154,40 @@ counted_other_if (Err e) job n count before after text text' silent i b o h = tt
 counted_item : (job : LogJob) (n : ℕ) (kind : Kind) (front : List ℕ) (e : EntryValue) (before after : LogTally) (text text' said : List ℕ) → GoodText job.good job.kinds n kind front e said → after.items ≡ before.items + 1 → after.bad ≡ before.bad → after.other ≡ before.other → text' ≡ text ++ said → Counted job n (item kind front e) before after text text'
 counted_item job n kind front e before after text text' said good i b o t = (said, good, t, omega (arith, i), omega (arith, b), omega (arith, o))
 
--- whose line isn't asked for
-pub counted_silently : (job : LogJob) (n : ℕ) (kind : Kind) (front : List ℕ) (e : EntryValue) (before after : LogTally) (text : List ℕ) → job.good ≡ Left → after.items ≡ before.items + 1 → after.bad ≡ before.bad → after.other ≡ before.other → Counted job n (item kind front e) before after text text
-counted_silently job n kind front e before after text left i b o = counted_item job n kind front e before after text text [] (subst (λ (z : Good). GoodText z job.kinds n kind front e []) (sym left) refl) i b o (sym (append-nil text))
+-- neither of two is
+neither : (a b : Bool) → a || b ≡ false → (a ≡ false) × (b ≡ false)
+neither true b h = cc h
+neither false b h = (refl, h)
 
--- whose digits are
-pub counted_digits : {T E : Type 0} (r : Result T E) (job : LogJob) (n : ℕ) (kind : Kind) (front : List ℕ) (e : EntryValue) (before after : LogTally) (text text' bytes : List ℕ) → job.good ≡ Digits → after.items ≡ before.items + 1 → after.bad ≡ before.bad → after.other ≡ before.other → IsEncoded e bytes → OnOk r (text' ≡ text ++ (named job.kinds kind ++ (encode_upper bytes ++ 10 ∷ []))) → OnOk r (Counted job n (item kind front e) before after text text')
-counted_digits (Ok x) job n kind front e before after text text' bytes digits i b o is t =
-    let said : List ℕ = named job.kinds kind ++ (encode_upper bytes ++ 10 ∷ []) in
-    counted_item job n kind front e before after text text' said (subst (λ (z : Good). GoodText z job.kinds n kind front e said) (sym digits) (bytes, is, refl)) i b o t
-counted_digits (Err x) job n kind front e before after text text' bytes digits i b o is t = tt
+-- no value of an item is needed
+without_values : (job : LogJob) → needs_values job ≡ false → (job.groups ≡ false) × (is_json job.good ≡ false)
+without_values job h =
+    let (further, plain) = neither (job.summary || job.groups) (is_json job.good) h in
+    ((neither job.summary job.groups further).1, plain)
 
--- whose JSON is
-pub counted_json : {T E : Type 0} (r : Result T E) (job : LogJob) (n : ℕ) (kind : Kind) (front front' : List ℕ) (e : EntryValue) (before after : LogTally) (text text' : List ℕ) → job.good ≡ Json → after.items ≡ before.items + 1 → after.bad ≡ before.bad → after.other ≡ before.other → front' ≡ front → OnOk r ((said : List ℕ) × IsJsonItem n front' e said × (text' ≡ text ++ said)) → OnOk r (Counted job n (item kind front e) before after text text')
-counted_json (Ok x) job n kind front front' e before after text text' json i b o same (said, is, t) =
-    let good = subst (λ (z : List ℕ). GoodText Json job.kinds n kind z e said) same is in
-    counted_item job n kind front e before after text text' said (subst (λ (z : Good). GoodText z job.kinds n kind front e said) (sym json) good) i b o t
-counted_json (Err x) job n kind front front' e before after text text' json i b o same h = tt
+pub not_json : (good good' : Good) → good' ≡ good → (good' ≡ Left) ⊎ (good' ≡ Digits) → is_json good ≡ false
+not_json good good' same (inl is) = ap is_json (sym same ∙ is)
+not_json good good' same (inr is) = ap is_json (sym same ∙ is)
+
+good_bytes : (good : Good) (kinds : Kinds) (n : ℕ) (kind : Kind) (front bytes : List ℕ) (e : EntryValue) → is_json good ≡ false → IsEncoded e bytes → GoodText good kinds n kind front e (bytes_text good kinds kind bytes)
+good_bytes Left kinds n kind front bytes e plain is = refl
+good_bytes Digits kinds n kind front bytes e plain is = (bytes, is, refl)
+good_bytes Json kinds n kind front bytes e plain is = cc plain
+
+-- whose digits are written, or nothing
+pub counted_bytes : (job : LogJob) (n : ℕ) (kind : Kind) (front bytes : List ℕ) (e : EntryValue) (before after : LogTally) (text text' : List ℕ) → is_json job.good ≡ false → IsEncoded e bytes → after ≡ one_more before → text' ≡ text ++ bytes_text job.good job.kinds kind bytes → Counted job n (item kind front e) before after text text'
+counted_bytes job n kind front bytes e before after text text' plain is counted t =
+    counted_item job n kind front e before after text text' (bytes_text job.good job.kinds kind bytes) (good_bytes job.good job.kinds n kind front bytes e plain is) (ap (λ (z : LogTally). z.items) counted) (ap (λ (z : LogTally). z.bad) counted) (ap (λ (z : LogTally). z.other) counted) t
+
+-- whose JSON is written
+pub json_alone : (good : Good) (kinds : Kinds) (kind : Kind) (bytes text text' : List ℕ) → good ≡ Json → text' ≡ text ++ bytes_text good kinds kind bytes → text' ≡ text
+json_alone good kinds kind bytes text text' json t = t ∙ ap (λ (z : Good). text ++ bytes_text z kinds kind bytes) json ∙ append-nil text
+
+pub counted_json : {T E : Type 0} (r : Result T E) (job : LogJob) (n n' : ℕ) (kind : Kind) (front front' : List ℕ) (e : EntryValue) (before after : LogTally) (text mid text' : List ℕ) → job.good ≡ Json → after ≡ one_more before → mid ≡ text → n' ≡ n → front' ≡ front → OnOk r ((said : List ℕ) × IsJsonItem n' front' e said × (text' ≡ mid ++ said)) → OnOk r (Counted job n (item kind front e) before after text text')
+counted_json (Ok x) job n n' kind front front' e before after text mid text' json counted m number same (said, is, t) =
+    let good = subst (λ (k : ℕ). GoodText Json job.kinds k kind front e said) number (subst (λ (z : List ℕ). GoodText Json job.kinds n' kind z e said) same is) in
+    counted_item job n kind front e before after text text' said (subst (λ (z : Good). GoodText z job.kinds n kind front e said) (sym json) good) (ap (λ (z : LogTally). z.items) counted) (ap (λ (z : LogTally). z.bad) counted) (ap (λ (z : LogTally). z.other) counted) (t ∙ ap (λ (z : List ℕ). z ++ said) m)
+counted_json (Err x) job n n' kind front front' e before after text mid text' json counted m number same h = tt
 
 -- ---- How lines are counted.
 
@@ -329,10 +349,29 @@ no_fit Train bytes unfit e is = cc unfit
 pub tried_wrong : (kind : Kind) (bytes : List ℕ) (job : LogJob) (n : ℕ) (front : List ℕ) (seen : Seen) (text : List ℕ) → may_have kind (length bytes) ≡ false → Tried (record { kind = kind; bytes = bytes } ∷ []) false job n front seen seen text text
 tried_wrong kind bytes job n front seen text unfit = ((no_fit kind bytes unfit, tt), refl, refl)
 
+tried_one : (job : LogJob) (n : ℕ) (front : List ℕ) (kind : Kind) (bytes : List ℕ) (e : EntryValue) (before after : Seen) (text text' : List ℕ) → IsItem kind bytes e → Noted job n (item kind front e) before after text text' → Tried (record { kind = kind; bytes = bytes } ∷ []) true job n front before after text text'
+tried_one job n front kind bytes e before after text text' is counted = (kind, e, inl (refl, is), counted)
+
+-- it was read
 pub tried_item : (job : LogJob) (n : ℕ) (front : List ℕ) (kind : Kind) (bytes : List ℕ) (v : Verdict) (e : Entry) (before after : Seen) (text text' : List ℕ) → IsVerdict kind bytes v → v ≡ Item e → Noted job n (item kind front (entry_value e)) before after text text' → Tried (record { kind = kind; bytes = bytes } ∷ []) true job n front before after text text'
 tried_item job n front kind bytes v e before after text text' says is counted =
     let here : IsVerdict kind bytes (Item e) = subst (λ (z : Verdict). IsVerdict kind bytes z) is says in
-    (kind, entry_value e, inl (refl, here), counted)
+    tried_one job n front kind bytes (entry_value e) before after text text' here counted
+
+-- or seen, and no value of it is needed
+pub item_seen : (kind : Kind) (bytes : List ℕ) (r : Option ℕ) → IfSome r (λ n. (e : EntryValue) × IsOutcome (EntryReads kind) (bits bytes) (done e (8 * n)) × IsEncoded e (take n bytes)) → option_eq eqb r (Some (length bytes)) ≡ true → (e : EntryValue) × IsItem kind bytes e
+item_seen kind bytes (Some n) (e, (within, reading, reads, same), encoded) is =
+    let whole : 8 * n ≡ length (bits bytes) = omega (arith, length-bits bytes, eqb-true n (length bytes) is) in
+    (e, (reading, reads, same ∙ ap (λ (k : ℕ). take k (bits bytes)) whole ∙ take-length (bits bytes)))
+item_seen kind bytes None h is = cc is
+
+encoded_of : (kind : Kind) (bytes : List ℕ) (e : EntryValue) → All (λ b. b < 256) bytes → IsItem kind bytes e → IsEncoded e bytes
+encoded_of kind bytes e small (r, reads, is) = record { reading = r; reads = reads.1; small = small; bits_are = sym is }
+
+pub tried_seen : (job : LogJob) (n : ℕ) (front : List ℕ) (kind : Kind) (bytes : List ℕ) (before after : Seen) (text text' : List ℕ) → All (λ b. b < 256) bytes → needs_values job ≡ false → (e : EntryValue) × IsItem kind bytes e → after.tally ≡ one_more before.tally → text' ≡ text ++ bytes_text job.good job.kinds kind bytes → Tried (record { kind = kind; bytes = bytes } ∷ []) true job n front before after text text'
+tried_seen job n front kind bytes before after text text' small alone (e, is) counted t =
+    let (ungrouped, plain) = without_values job alone in
+    tried_one job n front kind bytes e before after text text' is (noted_alone job n (item kind front e) before after text text' ungrouped (counted_bytes job n kind front bytes e before.tally after.tally text text' plain (encoded_of kind bytes e small is) counted t))
 
 abbrev pub IsNoItem : Verdict → Type 0
 IsNoItem (Item e) = ⊥

@@ -3,6 +3,7 @@ pub mod JsonLines
 pub mod LogGroups
 pub mod Logs
 pub mod Tries
+pub mod Values
 pub mod Stands
 pub mod Promised
 pub mod Visible

@@ -2,6 +2,7 @@
 
 ghost use Rattle.std.specs.Prelude.{◌≡◌};
 ghost use Rattle.etcs_log.specs.Logs.{is_written};
+ghost use Rattle.etcs_log.specs.Values.{needs_values};
 
 use crate::kinds::Kinds;
 
@@ -40,6 +41,16 @@ pub struct LogJob {
     pub summary: bool,
     /// Whether a line for each balise group is written after that.
     pub groups: bool,
+}
+
+impl LogJob {
+    /// Whether it needs the values of items, and not only their bytes: for counts, groups or JSON.
+    #[inline]
+    pub(crate) fn needs_values(self) -> bool
+        ensures { result ≡ needs_values self }
+    {
+        self.summary || self.groups || self.good == Good::Json
+    }
 }
 
 /// How many lines of a whole log are what. All other lines are blank or comments.

@@ -1,15 +1,17 @@
 //! What is reported of each line.
 
-ghost use Rattle.std.specs.Prelude.{◌≡◌, ◌+◌, ◌*◌, ◌<◌, ◌≤◌, ◌^◌, ◌++◌, ◌∷◌, ℕ, List, [], All, IfOk, OnErr, OnOk, length};
+ghost use Rattle.std.specs.Prelude.{◌≡◌, ◌+◌, ◌*◌, ◌<◌, ◌≤◌, ◌^◌, ◌++◌, ◌∷◌, ℕ, List, [], All, IfOk, IsTrue, OnErr, OnOk, false, length};
 ghost use Rattle.hex.specs.Hex.{encode_upper};
 ghost use Rattle.etcs_text.specs.Encodings.{IsEncoded};
-ghost use Rattle.etcs_text.specs.Entries.{entry_value};
+ghost use Rattle.etcs_text.specs.Entries.{EntryValue, entry_value};
+ghost use Rattle.etcs_text.specs.Verdicts.{IsItem};
 ghost use Rattle.etcs_runs.specs.Digits.{line_front};
 ghost use Rattle.etcs_packet_text.specs.Fronts.{Begins};
 ghost use Rattle.etcs_log.specs.Candidates.{AreNone, candidates, last_candidate, last_candidates, may_have, message_candidate, named, whole_candidate, whole_candidates};
 ghost use Rattle.etcs_log.specs.LogGroups.{Holds};
 ghost use Rattle.etcs_log.specs.Logs.{Answered, BytesAnswered, Counted, CountsText, EndText, GroupsText, Noted, bad, item, other};
 ghost use Rattle.etcs_log.specs.Tries.{Tries};
+ghost use Rattle.etcs_log.specs.Values.{bytes_text, needs_values, one_more};
 
 use crate::counts::{Counts, append_counts};
 use crate::job::{Good, LogJob, LogTally};
@@ -22,6 +24,7 @@ use etcs_group::Groups;
 use etcs_packet_text::inner::to_digits;
 use etcs_reasons::inner::{are_bits, packed};
 use etcs_runs::{NoBytes, line_bytes, line_front};
+use etcs_text::inner::seen;
 use etcs_text::{Entry, Kind, Verdict};
 use std::alloc::{AllocError, Global};
 
@@ -351,6 +354,41 @@ impl Answers {
             return Ok(false);
         }
         are_bytes(bytes);
+        if self.sees(kind, bytes) {
+            self.add_bytes(kind, bytes, text)?;
+            return Ok(true);
+        }
+        self.read_item(kind, line, bytes, text)
+    }
+
+    /// If true, these bytes are an item of the kind, and no value of it is needed. If false, a reader decides what they are.
+    #[inline]
+    fn sees(&self, kind: Kind, bytes: &[u8]) -> bool
+        ensures alone { IsTrue result → needs_values self.now.job ≡ false }
+        ensures item { IsTrue result → (e : EntryValue) × IsItem kind bytes.now e }
+    {
+        !self.job.needs_values() && seen(kind, bytes) == Some(bytes.len())
+    }
+
+    /// Takes these bytes as an item of the kind, of which a reader makes a value, and returns whether they are one.
+    ///
+    /// # Errors
+    ///
+    /// If memory runs out. Nothing was appended.
+    fn read_item(
+        &mut self,
+        kind: Kind,
+        line: &[u8],
+        bytes: &[u8],
+        text: &mut Vec<u8>,
+    ) -> Result<bool, AllocError>
+        requires small { All (λ b. b < 256) bytes.now }
+        requires items { self.old.seen.tally.items < 2 ^ 63 }
+        ensures job { self.new.job ≡ self.old.job }
+        ensures line { self.new.line ≡ self.old.line }
+        ensures ok { IfOk result (Tries self.old self.new line.now text.old.items text.new.items (record { kind = kind; bytes = bytes.now } ∷ [])) }
+        ensures err { OnErr result (text.new.items ≡ text.old.items) }
+    {
         match self.readers.read(kind, bytes)? {
             Verdict::Item(entry) => {
                 let start = text.len();
@@ -371,7 +409,7 @@ impl Answers {
         }
     }
 
-    /// Counts an item of these bytes, and writes its line if that is asked for.
+    /// Counts an item of these bytes and what is in it, and writes its line if that is asked for.
     ///
     /// # Errors
     ///
@@ -392,12 +430,32 @@ impl Answers {
         ensures ok { OnOk result (Counted self.old.job self.old.line (item kind (line_front line.now) (entry_value entry.now)) self.old.seen.tally self.new.seen.tally text.old.items text.new.items) }
         ensures err { OnErr result (text.new.items ≡ text.old.items) }
     {
-        self.seen.tally.items += 1;
         self.counts.add_item(kind, entry);
+        self.add_bytes(kind, bytes, text)?;
         match self.job.good {
-            Good::Left => Ok(()),
-            Good::Digits => write_good(self.job.kinds, kind, bytes, text),
+            Good::Left | Good::Digits => Ok(()),
             Good::Json => append_json_item(self.line, line_front(line), entry, text),
+        }
+    }
+
+    /// Counts an item of these bytes, and writes its digits if they are asked for.
+    ///
+    /// # Errors
+    ///
+    /// If memory runs out. Nothing was appended.
+    fn add_bytes(&mut self, kind: Kind, bytes: &[u8], text: &mut Vec<u8>) -> Result<(), AllocError>
+        requires items { self.old.seen.tally.items < 2 ^ 63 }
+        ensures job { self.new.job ≡ self.old.job }
+        ensures line { self.new.line ≡ self.old.line }
+        ensures groups { self.new.seen.groups ≡ self.old.seen.groups }
+        ensures tally { self.new.seen.tally ≡ one_more self.old.seen.tally }
+        ensures ok { OnOk result (text.new.items ≡ text.old.items ++ bytes_text self.old.job.good self.old.job.kinds kind bytes.now) }
+        ensures err { OnErr result (text.new.items ≡ text.old.items) }
+    {
+        self.seen.tally.items += 1;
+        match self.job.good {
+            Good::Left | Good::Json => Ok(()),
+            Good::Digits => write_good(self.job.kinds, kind, bytes, text),
         }
     }
 

@@ -1,25 +1,26 @@
 #!/usr/bin/env python3
-"""Counts the instructions that the program takes for an item of bench/mix.py's mix, beside a plain decoder.
+"""Counts the instructions that the program, a plain decoder and a bare one take for an item of bench/mix.py's mix.
 
     bench/measure.py [--kinds short,long,radio,train] [--forms bin,hex,json,C,Python]
                      [--commands check,show,bin,hex,json] [--items N] [--edits N] [--seed N] [--jobs N]
                      [--bindings FOLDER] [--write | --check] [PROGRAM]
 
 PROGRAM is `etcs`, by default the one that `./etcs build` has built. The plain decoder is
-bench/plain/plain.rs, which rustc builds here. The commands are `check`, `show` and `convert` to a form. A
-count is callgrind's over N items (2,000) less that over an empty input, divided by N: it hardly varies from
-run to run.
+bench/plain/plain.rs, which rustc builds here; with `--no-values` it is the bare one, which makes no values.
+The commands are `check`, `show` and `convert` to a form. A count is callgrind's over N items (2,000) less that
+over an empty input, divided by N: it hardly varies from run to run.
 
 The forms C and Python are the bindings of the library, each of which checks items in memory beside a walker of
-bench/walkers.py. FOLDER has libetcs.a and libetcs.so.1, and is by default that of `bindings/build`. If they
-aren't there and no form is named, the bindings are left out. A count is that of checking all items twice less
-that of checking them once, divided by N.
+bench/walkers.py, whose counts are with those of the bare decoder. FOLDER has libetcs.a and libetcs.so.1, and is
+by default that of `bindings/build`. If they aren't there and no form is named, the bindings are left out. A count
+is that of checking all items twice less that of checking them once, divided by N.
 
-Every answer of both is compared with the mix's own bytes, digits, JSON and lines of `check`, and the
-program's text of `show` with the plain decoder's. An answer that differs is named, and isn't counted. If JSON
-is measured, both read N lines of each kind (1,000) that bench/edits.py has changed: if the plain decoder
-accepts a line, the program has to give the same answer, and if it refuses one, the program has to refuse
-it too or to write another line. A binding and its walker have to answer alike to N changed items.
+Every answer is compared with the mix's own bytes, digits, JSON and lines of `check`, and every text of `show`
+with the plain decoder's. An answer that differs is named, and isn't counted. If JSON is measured, all read N
+lines of each kind (1,000) that bench/edits.py has changed: if the plain decoder accepts a line, the others have
+to give the same answer, and if it refuses one, the bare one has to refuse it too, and the program as well or to
+write another line. The plain and the bare decoder have to answer alike to N changed items, and so have a binding
+and its walker.
 
 The table is written a row at a time. With --write it is put into bench/README.md as well, unless an answer
 differs, with the commit and the versions of rustc and the kit. With --check nothing is put there: a row
@@ -60,7 +61,9 @@ COMMANDS = {
 USER_BITS = {"short": 210, "long": 830}
 COLLECTED = re.compile(r"Collected : (\d+)")
 PART = re.compile(r"(<!-- made by bench/measure.py -->\n)(.*?)(<!-- end -->)", re.S)
-COLUMNS = {"kind": 5, "from": 6, "to": 5, "program": 9, "plain": 9, "ratio": 5}
+COLUMNS = ["kind", "from", "to", "program", "plain", "ratio", "bare", "ratio"]
+WIDTHS = [5, 6, 5, 9, 9, 5, 9, 5]
+COUNTS = [3, 4, 6]
 
 
 class Unrunnable(Exception):
@@ -140,7 +143,8 @@ def built():
 
 
 def call(program, command, kind, form):
-    return [program, *COMMANDS[command], "--kind", kind, "--from", form]
+    """A call of a program, which is its words."""
+    return [*program, *COMMANDS[command], "--kind", kind, "--from", form]
 
 
 def answer(words, given):
@@ -173,13 +177,13 @@ class Kind:
 
     def __init__(self, name, words, plain):
         self.name = name
-        self.program = words.program
-        self.plain = plain
+        self.programs = [[words.program], [plain], [plain, "--no-values"]]
         self.drawn = mix.items(name, words.items, words.seed)
         self.edited = edits.lines(name, words.edits, words.seed) if "json" in words.forms else []
         self.given = {form: mix.written(form, self.drawn) for form in mix.FORMS}
         self.given["items"] = bindings.records([item for item, _ in self.drawn])
-        self.given["changed"] = bindings.records(edits.items(name, words.edits, words.seed))
+        self.changed = edits.items(name, words.edits, words.seed)
+        self.given["changed"] = bindings.records(self.changed)
         self.sources = {part: os.path.join(FOLDER, f"{name}.{part}") for part in self.given}
         for part, source in self.sources.items():
             with open(source, "wb") as file:
@@ -194,14 +198,14 @@ class Kind:
             sizes = (USER_BITS.get(self.name, 8 * len(item)) for item, _ in self.drawn)
             return "".join(f"item {number} ok {bits} bits\n" for number, bits in enumerate(sizes, 1)).encode()
         if self.shown is None:
-            self.shown = answer(call(self.plain, "show", self.name, "bin"), self.given["bin"])[1]
+            self.shown = answer(call(self.programs[1], "show", self.name, "bin"), self.given["bin"])[1]
         return self.shown
 
     def count(self, command, form):
-        """The instructions that both programs take for an item; nothing for a program whose answer differs."""
+        """The instructions that each program takes for an item; nothing for a program whose answer differs."""
         source = self.sources[form]
         counts = []
-        for program in (self.program, self.plain):
+        for program in self.programs:
             words = call(program, command, self.name, form)
             if answer(words, self.given[form]) != (0, self.expected(command)):
                 print(f"the answer differs: {' '.join(words)} < {source}", file=sys.stderr)
@@ -212,7 +216,7 @@ class Kind:
         return counts
 
     def count_in_memory(self, programs):
-        """The instructions that programs take to check an item in memory; nothing for a program whose answer differs."""
+        """The instructions that a binding and its walker take for an item; nothing for one whose answer differs."""
         expected = (0, "".join(f"{len(item)}\n" for item, _ in self.drawn).encode())
         changed = [answer([*program, self.name, self.sources["changed"], "1"], b"") for program in programs]
         counts = []
@@ -227,13 +231,13 @@ class Kind:
         return counts
 
     def answers(self, command, lines):
-        """What the program and the plain decoder answer to lines of JSON."""
-        return [answer(call(program, command, self.name, "json"), lines) for program in (self.program, self.plain)]
+        """What the program, the plain decoder and the bare one answer to lines of JSON."""
+        return [answer(call(program, command, self.name, "json"), lines) for program in self.programs]
 
     def is_accepted(self, line):
         """Whether the plain decoder accepts a changed line; nothing if the program ought to have answered otherwise."""
-        program, plain = self.answers("json", line)
-        if plain != program if plain[0] == 0 else program == (0, line):
+        program, plain, bare = self.answers("json", line)
+        if bare != plain or (plain != program if plain[0] == 0 else program == (0, line)):
             print(f"the answers to a changed line differ, {self.name}: {line.decode().rstrip()}", file=sys.stderr)
             return None
         return plain[0] == 0
@@ -248,12 +252,19 @@ class Kind:
         print(f"{len(self.edited)} changed lines of {self.name}, of which {accepted.count(True)} are accepted")
         return accepted.count(None) + len(differing)
 
+    def is_same_item(self, item):
+        """Whether the plain decoder and the bare one answer alike to a changed item."""
+        plain, bare = (answer(call(program, "json", self.name, "bin"), item) for program in self.programs[1:])
+        if plain != bare:
+            print(f"the answers to a changed item differ, {self.name}: {item.hex()}", file=sys.stderr)
+        return plain == bare
+
 
 # ---- The table.
 
 
 def measured(words, kinds, pool):
-    """Yields the rows with both counts, each of which is nothing if an answer differs."""
+    """Yields the rows: names, and each count by its column, which is nothing if an answer differs."""
     rows, at_bindings = [], {}
     if set(BINDINGS) & set(words.forms):
         try:
@@ -268,19 +279,26 @@ def measured(words, kinds, pool):
                 elif command == "check":
                     rows.append(([kind.name, form, command], pool.submit(kind.count_in_memory, at_bindings[form])))
     for names, counts in rows:
-        yield [*names, *counts.result()]
+        columns = ["program", "bare"] if names[1] in BINDINGS else ["program", "plain", "bare"]
+        yield names, dict(zip(columns, counts.result()))
 
 
 def cells(row):
     """What is in the columns of a row."""
-    *names, program, plain = row
-    counts = ["differs" if count is None else f"{count:,.0f}" for count in (program, plain)]
-    return [*names, *counts, "" if None in (program, plain) else f"{program / plain:.2f}"]
+    names, counts = row
+    program = counts["program"]
+    texts = [*names, "differs" if program is None else f"{program:,.0f}"]
+    for column in ("plain", "bare"):
+        count = counts.get(column)
+        differs = "differs" if column in counts else ""
+        texts.append(differs if count is None else f"{count:,.0f}")
+        texts.append("" if None in (program, count) else f"{program / count:.2f}")
+    return texts
 
 
 def line(row):
     """A line of the table."""
-    return "| " + " | ".join(f"{cell:<{width}}" for cell, width in zip(row, COLUMNS.values())) + " |"
+    return "| " + " | ".join(f"{cell:<{width}}" for cell, width in zip(row, WIDTHS)) + " |"
 
 
 HEAD = [line(COLUMNS), "|---" * len(COLUMNS) + "|"]
@@ -322,6 +340,16 @@ def write(words, rows):
         file.write(text[: found.start(2)] + "\n".join(lines) + text[found.end(2) :])
 
 
+def is_near(old, new):
+    """Whether two cells are the same, or counts that are at most 1 percent of the old one apart."""
+    if old == new:
+        return True
+    if not all(re.fullmatch(r"[\d,]+", count) for count in (old, new)):
+        return False
+    old, new = (int(count.replace(",", "")) for count in (old, new))
+    return abs(new - old) <= old / 100
+
+
 def differing_rows(words, rows):
     """How many rows differ from those of the document, which are named."""
     with open(README, encoding="utf-8") as file:
@@ -330,16 +358,16 @@ def differing_rows(words, rows):
         raise Unrunnable(f"{README}: its table isn't of {drawn(words)}")
     written = {}
     for text in part.splitlines():
-        names, counts = text.split("|")[1:4], text.split("|")[4:6]
-        if all(re.fullmatch(r" [\d,]+ *", count) for count in counts):
-            written[tuple(name.strip() for name in names)] = [int(count.replace(",", "")) for count in counts]
+        row = [cell.strip() for cell in text.split("|")[1:-1]]
+        if len(row) == len(COLUMNS):
+            written[tuple(row[:3])] = [row[place] for place in COUNTS]
     differing = 0
-    for *names, program, plain in rows:
-        counts, row = written.get(tuple(names)), (program, plain)
-        pairs = list(zip(counts or [], row))
-        if not pairs or any(new is None or abs(new - old) > old / 100 for old, new in pairs):
-            had = " and ".join(f"{count:,}" for count in counts) if counts else "no such row"
-            print(f"{' '.join(names)}: README.md has {had}, counted were {' and '.join(cells([*names, *row])[3:5])}")
+    for row in rows:
+        names, new = row[0], [cells(row)[place] for place in COUNTS]
+        had = written.get(tuple(names))
+        if had is None or not all(is_near(*pair) for pair in zip(had, new)):
+            was = ", ".join(count or "none" for count in had) if had else "no such row"
+            print(f"{' '.join(names)}: README.md has {was}; counted were {', '.join(count or 'none' for count in new)}")
             differing += 1
     print(f"{len(rows)} rows compared with README.md, of which {differing} differ")
     return differing
@@ -352,12 +380,14 @@ def main():
     rows = []
     with ThreadPoolExecutor(words.jobs) as pool:
         differing = sum(kind.differing_edits(pool) for kind in kinds if kind.edited)
+        differing += sum(list(pool.map(kind.is_same_item, kind.changed)).count(False) for kind in kinds)
         print("\n".join(HEAD), flush=True)
         for row in measured(words, kinds, pool):
             rows.append(row)
             print(line(cells(row)), flush=True)
-    differing += sum(row.count(None) for row in rows)
-    print(f"{2 * len(rows)} answers over {drawn(words)}, of which {differing} differ")
+    counts = [count for _, row in rows for count in row.values()]
+    differing += counts.count(None)
+    print(f"{len(counts)} answers over {drawn(words)}, of which {differing} differ")
     if words.check:
         differing += differing_rows(words, rows)
     elif words.write and not differing:

@@ -2,6 +2,7 @@
 
 use crate::values::*;
 use crate::variables::*;
+use std::arch::x86_64::*;
 use std::io::{self, Write};
 
 /// Text with room for all of one item after what is kept of those before.
@@ -110,6 +111,15 @@ impl Text {
         self.len += digits;
     }
 
+    /// Puts a number in place of the zero that is there.
+    fn put_for_zero(&mut self, number: usize, at: usize) {
+        let mut digits = [0; 32];
+        let len = write_number(number as u64, &mut digits);
+        self.bytes.copy_within(at + 1..self.len, at + len);
+        self.bytes[at..at + len].copy_from_slice(&digits[..len]);
+        self.len += len - 1;
+    }
+
     /// Appends the line of an item that is accepted.
     #[inline(always)]
     pub fn push_accepted(&mut self, number: u64, bits: usize) {
@@ -123,9 +133,9 @@ impl Text {
         self.len += len + 6;
     }
 
-    pub fn push_bits(&mut self, bits: &Kept) {
-        let end = self.len + bits.len;
-        for word in &bits.words {
+    pub fn push_bits(&mut self, bits: &impl KeptBits) {
+        let end = self.len + bits.len();
+        for word in bits.words() {
             let place = self.place();
             for (digits, byte) in place.chunks_exact_mut(8).zip(word.to_be_bytes()) {
                 digits.copy_from_slice(&BINARY[usize::from(byte)]);
@@ -141,12 +151,41 @@ impl Text {
         self.len += padding.len;
     }
 
+    #[inline(always)]
+    pub fn push_bytes(&mut self, bytes: &[u8]) {
+        self.bytes[self.len..][..bytes.len()].copy_from_slice(bytes);
+        self.len += bytes.len();
+    }
+
     pub fn push_hexadecimal(&mut self, bytes: &[u8]) {
         let digits = self.bytes[self.len..][..2 * bytes.len()].chunks_exact_mut(2);
         for (pair, byte) in digits.zip(bytes) {
             pair.copy_from_slice(&[HEXADECIMAL[usize::from(byte >> 4)], HEXADECIMAL[usize::from(byte & 15)]]);
         }
         self.len += 2 * bytes.len();
+    }
+
+    /// Appends the digits of the first bytes, as many as are said, sixteen at a time. There are 15 more after them.
+    #[inline(always)]
+    pub fn push_hexadecimal_by_sixteen(&mut self, bytes: &[u8], len: usize) {
+        for at in (0..len).step_by(16) {
+            let sixteen: &[u8; 16] = bytes[at..].first_chunk().unwrap();
+            let place: &mut [u8; 32] = self.bytes[self.len + 2 * at..].first_chunk_mut().unwrap();
+            // SAFETY: there are 16 bytes to read and 32 to write, and every x86-64 has SSE2
+            unsafe {
+                let bytes = _mm_loadu_si128(sixteen.as_ptr().cast());
+                let low = _mm_set1_epi8(15);
+                let (upper, lower) = (_mm_and_si128(_mm_srli_epi16(bytes, 4), low), _mm_and_si128(bytes, low));
+                let pairs = [_mm_unpacklo_epi8(upper, lower), _mm_unpackhi_epi8(upper, lower)];
+                for (half, pair) in place.chunks_exact_mut(16).zip(pairs) {
+                    let is_letter = _mm_cmpgt_epi8(pair, _mm_set1_epi8(9));
+                    let letter = _mm_and_si128(is_letter, _mm_set1_epi8((b'A' - b'0' - 10) as i8));
+                    let digits = _mm_add_epi8(_mm_add_epi8(pair, _mm_set1_epi8(b'0' as i8)), letter);
+                    _mm_storeu_si128(half.as_mut_ptr().cast(), digits);
+                }
+            }
+        }
+        self.len += 2 * len;
     }
 
     /// Ends a list of JSON, each item of which has its comma.
@@ -167,106 +206,133 @@ impl Text {
 
 // ---- Text of variables.
 
-/// Lines of variables.
-pub struct Lines<'a>(pub &'a mut Text);
+/// Lines of variables, and where the number is of the bits of an item, of L_MESSAGE and of the last L_PACKET.
+pub struct Lines<'a> {
+    text: &'a mut Text,
+    bits_at: usize,
+    message_at: usize,
+    packet_at: usize,
+}
 
 impl Sink for Lines<'_> {
     #[inline(always)]
     fn put<V: Variable>(&mut self, variable: V, number: impl Number) {
         let _ = variable;
         let number = number.number();
-        let place = self.0.place();
+        let place = self.text.place();
         place[..32].copy_from_slice(&V::LINE.bytes);
         let mut len = V::LINE.len + write_number_of::<V>(number, &mut place[V::LINE.len..]);
         place[len] = b'\n';
         len += 1;
-        self.0.len += len;
+        self.text.len += len;
         for (meant, meaning) in V::MEANINGS {
             if number == *meant {
-                self.0.len -= 1;
-                self.0.push(" (");
-                self.0.push(meaning);
-                self.0.push(")\n");
+                self.text.len -= 1;
+                self.text.push(" (");
+                self.text.push(meaning);
+                self.text.push(")\n");
             }
         }
     }
 }
 
 impl Lines<'_> {
-    pub fn kept(&mut self, name: &str, bits: &Kept) {
-        self.0.push(name);
-        self.0.push_number(bits.len as u64);
-        if bits.len > 0 {
-            self.0.push(" ");
-            self.0.push_bits(bits);
-        }
-        self.0.push("\n");
+    pub fn new(text: &mut Text) -> Lines<'_> {
+        Lines { text, bits_at: 0, message_at: 0, packet_at: 0 }
     }
 
+    /// Sets the bits of the item, which were written as zero.
+    pub fn set_bits(&mut self, bits: usize) {
+        self.text.put_for_zero(bits, self.bits_at);
+    }
+
+    fn kept(&mut self, name: &str, bits: &impl KeptBits) {
+        self.text.push(name);
+        self.text.push_number(bits.len() as u64);
+        if bits.len() > 0 {
+            self.text.push(" ");
+            self.text.push_bits(bits);
+        }
+        self.text.push("\n");
+    }
+
+    #[inline(always)]
     pub fn item(&mut self, number: u64, kind: Kind, bits: usize) {
-        self.0.push("item ");
-        self.0.push_number(number);
-        self.0.push(" ");
-        self.0.push(kind.name());
-        self.0.push(" ");
-        self.0.push_number(bits as u64);
-        self.0.push(" bits\n");
+        self.text.push("item ");
+        self.text.push_number(number);
+        self.text.push(" ");
+        self.text.push(kind.name());
+        self.text.push(" ");
+        self.bits_at = self.text.len;
+        self.text.push_number(bits as u64);
+        self.text.push(" bits\n");
+    }
+}
+
+impl Writer for Lines<'_> {
+    fn end_telegram(&mut self, fill: &impl KeptBits, _: Kind) {
+        self.text.push("packet 255\n");
+        self.kept("  FILL ", fill);
     }
 
-    pub fn packets(&mut self, packets: &[Packet], way: Way) {
-        for packet in packets {
-            self.0.push("packet ");
-            self.0.push_number(packet.nid.into());
-            self.0.push("\n");
-            if !matches!(packet.body, Body::Marker(_)) {
-                if way == Way::ToTrain {
-                    self.put(Q_DIR, packet.dir);
-                }
-                self.put(L_PACKET, packet.length);
+    fn begin_message(&mut self, nid: u8, length: u16, start: &Start, _: Kind) {
+        self.put(NID_MESSAGE, nid);
+        self.message_at = self.text.len + L_MESSAGE::LINE.len;
+        self.put(L_MESSAGE, length);
+        self.put(T_TRAIN, start.t_train);
+        start.head.send(self);
+        match &start.own {
+            // the one number that is printed with its sign
+            Own::Shift(q_scale, d_ref) => {
+                self.put(Q_SCALE, *q_scale);
+                self.text.push(if *d_ref < 0 { "  D_REF -" } else { "  D_REF " });
+                self.text.push_number(d_ref.unsigned_abs().into());
+                self.text.push("\n");
             }
-            match &packet.body {
-                Body::Kept(bits) => self.kept("  OTHER_DATA ", bits),
-                body => body.send(self),
-            }
+            own => own.send(self),
         }
     }
 
-    pub fn telegram(&mut self, telegram: &Telegram) {
-        telegram.header.send(self);
-        self.packets(&telegram.packets, Way::ToTrain);
-        self.0.push("packet 255\n");
-        self.kept("  FILL ", &telegram.fill);
+    fn end_message(&mut self, padding: &Padding) {
+        self.text.push("end\n");
+        self.text.push("  PADDING ");
+        self.text.push_number(padding.len as u64);
+        if padding.len > 0 {
+            self.text.push(" ");
+            self.text.push_padding(padding);
+        }
+        self.text.push("\n");
     }
 
-    pub fn message(&mut self, message: &Message, way: Way) {
-        self.put(NID_MESSAGE, message.nid);
-        self.put(L_MESSAGE, message.length);
-        match &message.content {
-            Content::Kept(bits) => self.kept("  OTHER_DATA ", bits),
-            Content::Typed { t_train, head, own, packets, padding } => {
-                self.put(T_TRAIN, *t_train);
-                head.send(self);
-                match own {
-                    // the one number that is printed with its sign
-                    Own::Shift(q_scale, d_ref) => {
-                        self.put(Q_SCALE, *q_scale);
-                        self.0.push(if *d_ref < 0 { "  D_REF -" } else { "  D_REF " });
-                        self.0.push_number(d_ref.unsigned_abs().into());
-                        self.0.push("\n");
-                    }
-                    own => own.send(self),
-                }
-                self.packets(packets, way);
-                self.0.push("end\n");
-                self.0.push("  PADDING ");
-                self.0.push_number(padding.len as u64);
-                if padding.len > 0 {
-                    self.0.push(" ");
-                    self.0.push_padding(padding);
-                }
-                self.0.push("\n");
-            }
+    fn kept_message(&mut self, nid: u8, length: u16, data: &impl KeptBits, _: Kind) {
+        self.put(NID_MESSAGE, nid);
+        self.put(L_MESSAGE, length);
+        self.kept("  OTHER_DATA ", data);
+    }
+
+    #[inline(always)]
+    fn begin_packet(&mut self, frame: &Frame) {
+        self.text.push("packet ");
+        self.text.push_number(frame.nid.into());
+        self.text.push("\n");
+        if let Some(dir) = frame.dir {
+            self.put(Q_DIR, dir);
         }
+        if let Some(length) = frame.length {
+            self.packet_at = self.text.len + L_PACKET::LINE.len;
+            self.put(L_PACKET, length);
+        }
+    }
+
+    fn kept_packet(&mut self, frame: &Frame, data: &impl KeptBits) {
+        self.begin_packet(frame);
+        self.kept("  OTHER_DATA ", data);
+    }
+
+    #[inline(always)]
+    fn set<V: Variable>(&mut self, _: usize, _: V, number: usize) {
+        let at = if V::WIDTH == L_PACKET::WIDTH { self.packet_at } else { self.message_at };
+        self.text.put_for_zero(number, at);
     }
 }
 
@@ -295,76 +361,104 @@ impl Sink for Pairs<'_> {
 }
 
 impl Pairs<'_> {
-    pub fn packets(&mut self, packets: &[Packet], way: Way) {
-        self.0.push("\"packets\":[");
-        for packet in packets {
-            self.0.push("{");
-            if let Body::Kept(bits) = &packet.body {
-                self.0.push("\"data\":\"");
-                self.0.push_bits(bits);
-                self.0.push("\",");
-            }
-            if way == Way::ToTrain && !matches!(packet.body, Body::Marker(_)) {
-                self.0.push("\"dir\":");
-                self.0.push_number(packet.dir.into());
-                self.0.push(",");
-            }
-            if !matches!(packet.body, Body::Kept(_)) {
-                self.0.push("\"fields\":[");
-                packet.body.send(self);
-                self.0.end_list();
-                self.0.push(",");
-            }
-            self.0.push("\"nid\":");
-            self.0.push_number(packet.nid.into());
-            self.0.push("},");
-        }
-        self.0.end_list();
+    /// A member whose bits are digits of a text, after its bracket.
+    fn kept(&mut self, name: &str, bits: &impl KeptBits) {
+        self.0.push(name);
+        self.0.push_bits(bits);
+        self.0.push("\",");
     }
 
-    pub fn telegram(&mut self, telegram: &Telegram, kind: Kind) {
-        self.0.push("{\"fill\":\"");
-        self.0.push_bits(&telegram.fill);
-        self.0.push("\",\"header\":[");
-        telegram.header.send(self);
-        self.0.end_list();
-        self.0.push(",\"kind\":\"");
+    #[inline(always)]
+    fn dir(&mut self, frame: &Frame) {
+        if let Some(dir) = frame.dir {
+            self.0.push("\"dir\":");
+            self.0.push_number(dir.into());
+            self.0.push(",");
+        }
+    }
+
+    #[inline(always)]
+    fn nid(&mut self, nid: u8) {
+        self.0.push("\"nid\":");
+        self.0.push_number(nid.into());
+    }
+
+    #[inline(always)]
+    fn kind(&mut self, kind: Kind) {
+        self.0.push("\"kind\":\"");
         self.0.push(kind.name());
         self.0.push("\",");
-        self.packets(&telegram.packets, Way::ToTrain);
+    }
+}
+
+impl Writer for Pairs<'_> {
+    const FILL_FIRST: bool = true;
+
+    fn begin_telegram(&mut self, fill: &impl KeptBits) {
+        self.kept("{\"fill\":\"", fill);
+        self.0.push("\"header\":[");
+    }
+
+    fn begin_packets(&mut self, kind: Kind) {
+        self.0.end_list();
+        self.0.push(",");
+        self.kind(kind);
+        self.0.push("\"packets\":[");
+    }
+
+    fn end_telegram(&mut self, _: &impl KeptBits, _: Kind) {
+        self.0.end_list();
         self.0.push("}\n");
     }
 
-    pub fn message(&mut self, message: &Message, kind: Kind, way: Way) {
-        match &message.content {
-            Content::Kept(bits) => {
-                self.0.push("{\"data\":\"");
-                self.0.push_bits(bits);
-                self.0.push("\",\"kind\":\"");
-                self.0.push(kind.name());
-                self.0.push("\",\"nid\":");
-                self.0.push_number(message.nid.into());
-            }
-            Content::Typed { t_train, head, own, packets, padding } => {
-                self.0.push("{\"fields\":[");
-                own.send(self);
-                self.0.end_list();
-                self.0.push(",\"header\":[");
-                self.put(T_TRAIN, *t_train);
-                head.send(self);
-                self.0.end_list();
-                self.0.push(",\"kind\":\"");
-                self.0.push(kind.name());
-                self.0.push("\",\"nid\":");
-                self.0.push_number(message.nid.into());
-                self.0.push(",");
-                self.packets(packets, way);
-                self.0.push(",\"padding\":\"");
-                self.0.push_padding(padding);
-                self.0.push("\"");
-            }
-        }
+    fn begin_message(&mut self, nid: u8, _: u16, start: &Start, kind: Kind) {
+        self.0.push("{\"fields\":[");
+        start.own.send(self);
+        self.0.end_list();
+        self.0.push(",\"header\":[");
+        self.put(T_TRAIN, start.t_train);
+        start.head.send(self);
+        self.0.end_list();
+        self.0.push(",");
+        self.kind(kind);
+        self.nid(nid);
+        self.0.push(",\"packets\":[");
+    }
+
+    fn end_message(&mut self, padding: &Padding) {
+        self.0.end_list();
+        self.0.push(",\"padding\":\"");
+        self.0.push_padding(padding);
+        self.0.push("\"}\n");
+    }
+
+    fn kept_message(&mut self, nid: u8, _: u16, data: &impl KeptBits, kind: Kind) {
+        self.kept("{\"data\":\"", data);
+        self.kind(kind);
+        self.nid(nid);
         self.0.push("}\n");
+    }
+
+    #[inline(always)]
+    fn begin_packet(&mut self, frame: &Frame) {
+        self.0.push("{");
+        self.dir(frame);
+        self.0.push("\"fields\":[");
+    }
+
+    #[inline(always)]
+    fn end_packet(&mut self, frame: &Frame) {
+        self.0.end_list();
+        self.0.push(",");
+        self.nid(frame.nid);
+        self.0.push("},");
+    }
+
+    fn kept_packet(&mut self, frame: &Frame, data: &impl KeptBits) {
+        self.kept("{\"data\":\"", data);
+        self.dir(frame);
+        self.nid(frame.nid);
+        self.0.push("},");
     }
 }
 
@@ -423,7 +517,224 @@ impl Spelling<'_> {
         self.taken %= 8;
     }
 
-    pub fn kept(&mut self, bits: &Kept) {
+    /// Writes bits; those after the last of them are zeros.
+    fn kept(&mut self, bits: &impl KeptBits) {
+        let mut left = bits.len();
+        for word in bits.words() {
+            if left >= 64 {
+                self.put_word(word);
+                left -= 64;
+            } else {
+                let (rest, word) = (left as u32, word >> (64 - left));
+                if rest > 32 {
+                    self.put_bits(rest - 32, word >> 32);
+                }
+                self.put_bits(rest.min(32), word & 0xFFFF_FFFF);
+            }
+        }
+    }
+}
+
+impl Writer for Spelling<'_> {
+    fn end_telegram(&mut self, fill: &impl KeptBits, kind: Kind) {
+        self.put(NID_PACKET, 255_u8);
+        self.kept(fill);
+        self.put_bits(if kind == Kind::Short { 6 } else { 2 }, 0);
+        self.write_bytes();
+    }
+
+    fn begin_message(&mut self, nid: u8, length: u16, start: &Start, _: Kind) {
+        self.put(NID_MESSAGE, nid);
+        self.put(L_MESSAGE, length);
+        self.put(T_TRAIN, start.t_train);
+        start.head.send(self);
+        start.own.send(self);
+    }
+
+    fn end_message(&mut self, padding: &Padding) {
+        self.put_bits(padding.len as u32, u64::from(padding.top) >> (8 - padding.len));
+        if self.taken > 0 {
+            self.write_bytes();
+        }
+    }
+
+    fn kept_message(&mut self, nid: u8, length: u16, data: &impl KeptBits, _: Kind) {
+        self.put(NID_MESSAGE, nid);
+        self.put(L_MESSAGE, length);
+        self.kept(data);
+        if self.taken > 0 {
+            self.write_bytes();
+        }
+    }
+
+    #[inline(always)]
+    fn begin_packet(&mut self, frame: &Frame) {
+        self.put(NID_PACKET, frame.nid);
+        if let Some(dir) = frame.dir {
+            self.put(Q_DIR, dir);
+        }
+        if let Some(length) = frame.length {
+            self.put(L_PACKET, length);
+        }
+    }
+
+    fn kept_packet(&mut self, frame: &Frame, data: &impl KeptBits) {
+        self.begin_packet(frame);
+        self.kept(data);
+    }
+
+    #[inline(always)]
+    fn set<V: Variable>(&mut self, back: usize, _: V, number: usize) {
+        if self.taken > 7 {
+            self.write_bytes();
+        }
+        // bits that aren't in the text are there too, as the first of a byte
+        let next = 8 * self.text.len + self.taken as usize;
+        self.text.place()[0] = (self.word << 8 >> self.taken) as u8;
+        let at = next - back;
+        let place: &mut [u8; 4] = self.text.bytes[at / 8..].first_chunk_mut().unwrap();
+        let number = (number as u32) << (32 - V::WIDTH) >> (at % 8);
+        *place = (u32::from_be_bytes(*place) | number).to_be_bytes();
+        self.word = u64::from(self.text.place()[0]) >> (8 - self.taken);
+    }
+}
+
+// ---- Items as values.
+
+impl Lines<'_> {
+    fn packets(&mut self, packets: &[Packet], way: Way) {
+        for packet in packets {
+            self.text.push("packet ");
+            self.text.push_number(packet.nid.into());
+            self.text.push("\n");
+            if !matches!(packet.body, Body::Marker(_)) {
+                if way == Way::ToTrain {
+                    self.put(Q_DIR, packet.dir);
+                }
+                self.put(L_PACKET, packet.length);
+            }
+            match &packet.body {
+                Body::Kept(bits) => self.kept("  OTHER_DATA ", bits),
+                body => body.send(self),
+            }
+        }
+    }
+
+    pub fn telegram(&mut self, telegram: &Telegram) {
+        telegram.header.send(self);
+        self.packets(&telegram.packets, Way::ToTrain);
+        self.text.push("packet 255\n");
+        self.kept("  FILL ", &telegram.fill);
+    }
+
+    pub fn message(&mut self, message: &Message, way: Way) {
+        self.put(NID_MESSAGE, message.nid);
+        self.put(L_MESSAGE, message.length);
+        match &message.content {
+            Content::Kept(bits) => self.kept("  OTHER_DATA ", bits),
+            Content::Typed { start: Start { t_train, head, own }, packets, padding } => {
+                self.put(T_TRAIN, *t_train);
+                head.send(self);
+                match own {
+                    // the one number that is printed with its sign
+                    Own::Shift(q_scale, d_ref) => {
+                        self.put(Q_SCALE, *q_scale);
+                        self.text.push(if *d_ref < 0 { "  D_REF -" } else { "  D_REF " });
+                        self.text.push_number(d_ref.unsigned_abs().into());
+                        self.text.push("\n");
+                    }
+                    own => own.send(self),
+                }
+                self.packets(packets, way);
+                self.text.push("end\n");
+                self.text.push("  PADDING ");
+                self.text.push_number(padding.len as u64);
+                if padding.len > 0 {
+                    self.text.push(" ");
+                    self.text.push_padding(padding);
+                }
+                self.text.push("\n");
+            }
+        }
+    }
+}
+
+impl Pairs<'_> {
+    fn packets(&mut self, packets: &[Packet], way: Way) {
+        self.0.push("\"packets\":[");
+        for packet in packets {
+            self.0.push("{");
+            if let Body::Kept(bits) = &packet.body {
+                self.0.push("\"data\":\"");
+                self.0.push_bits(bits);
+                self.0.push("\",");
+            }
+            if way == Way::ToTrain && !matches!(packet.body, Body::Marker(_)) {
+                self.0.push("\"dir\":");
+                self.0.push_number(packet.dir.into());
+                self.0.push(",");
+            }
+            if !matches!(packet.body, Body::Kept(_)) {
+                self.0.push("\"fields\":[");
+                packet.body.send(self);
+                self.0.end_list();
+                self.0.push(",");
+            }
+            self.0.push("\"nid\":");
+            self.0.push_number(packet.nid.into());
+            self.0.push("},");
+        }
+        self.0.end_list();
+    }
+
+    pub fn telegram(&mut self, telegram: &Telegram, kind: Kind) {
+        self.0.push("{\"fill\":\"");
+        self.0.push_bits(&telegram.fill);
+        self.0.push("\",\"header\":[");
+        telegram.header.send(self);
+        self.0.end_list();
+        self.0.push(",\"kind\":\"");
+        self.0.push(kind.name());
+        self.0.push("\",");
+        self.packets(&telegram.packets, Way::ToTrain);
+        self.0.push("}\n");
+    }
+
+    pub fn message(&mut self, message: &Message, kind: Kind, way: Way) {
+        match &message.content {
+            Content::Kept(bits) => {
+                self.0.push("{\"data\":\"");
+                self.0.push_bits(bits);
+                self.0.push("\",\"kind\":\"");
+                self.0.push(kind.name());
+                self.0.push("\",\"nid\":");
+                self.0.push_number(message.nid.into());
+            }
+            Content::Typed { start: Start { t_train, head, own }, packets, padding } => {
+                self.0.push("{\"fields\":[");
+                own.send(self);
+                self.0.end_list();
+                self.0.push(",\"header\":[");
+                self.put(T_TRAIN, *t_train);
+                head.send(self);
+                self.0.end_list();
+                self.0.push(",\"kind\":\"");
+                self.0.push(kind.name());
+                self.0.push("\",\"nid\":");
+                self.0.push_number(message.nid.into());
+                self.0.push(",");
+                self.packets(packets, way);
+                self.0.push(",\"padding\":\"");
+                self.0.push_padding(padding);
+                self.0.push("\"");
+            }
+        }
+        self.0.push("}\n");
+    }
+}
+
+impl Spelling<'_> {
+    fn kept_value(&mut self, bits: &Kept) {
         let rest = bits.len as u32 % 64;
         let whole = bits.len / 64;
         for word in &bits.words[..whole] {
@@ -438,7 +749,7 @@ impl Spelling<'_> {
         }
     }
 
-    pub fn packets(&mut self, packets: &[Packet], way: Way) {
+    fn packets(&mut self, packets: &[Packet], way: Way) {
         for packet in packets {
             self.put(NID_PACKET, packet.nid);
             if !matches!(packet.body, Body::Marker(_)) {
@@ -448,7 +759,7 @@ impl Spelling<'_> {
                 self.put(L_PACKET, packet.length);
             }
             match &packet.body {
-                Body::Kept(bits) => self.kept(bits),
+                Body::Kept(bits) => self.kept_value(bits),
                 body => body.send(self),
             }
         }
@@ -458,7 +769,7 @@ impl Spelling<'_> {
         telegram.header.send(self);
         self.packets(&telegram.packets, Way::ToTrain);
         self.put_bits(8, 255);
-        self.kept(&telegram.fill);
+        self.kept_value(&telegram.fill);
         self.put_bits(if kind == Kind::Short { 6 } else { 2 }, 0);
         self.write_bytes();
     }
@@ -467,8 +778,8 @@ impl Spelling<'_> {
         self.put(NID_MESSAGE, message.nid);
         self.put(L_MESSAGE, message.length);
         match &message.content {
-            Content::Kept(bits) => self.kept(bits),
-            Content::Typed { t_train, head, own, packets, padding } => {
+            Content::Kept(bits) => self.kept_value(bits),
+            Content::Typed { start: Start { t_train, head, own }, packets, padding } => {
                 self.put(T_TRAIN, *t_train);
                 head.send(self);
                 own.send(self);

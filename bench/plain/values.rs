@@ -4,13 +4,12 @@ use crate::variables::*;
 
 /// Where variables come from, one after another.
 pub trait Source: Sized {
-    type Run: Run;
+    type Run<'r>: Run
+    where
+        Self: 'r;
 
-    /// The next variables, of 57 bits at most.
-    fn run(&self) -> Option<Self::Run>;
-
-    /// Passes over the variables that a run has taken.
-    fn pass(&mut self, run: Self::Run);
+    /// The next variables, of 56 bits at most.
+    fn run(&mut self) -> Option<Self::Run<'_>>;
 
     /// The number of NID_RADIO, which is longer than a run.
     fn radio(&mut self) -> Option<u64>;
@@ -26,7 +25,7 @@ pub trait Source: Sized {
     fn take<V: Variable, N: Number>(&mut self, variable: V) -> Option<N> {
         let mut run = self.run()?;
         let number = run.take(variable)?;
-        self.pass(run);
+        run.pass();
         Some(number)
     }
 
@@ -55,8 +54,11 @@ pub trait Source: Sized {
 }
 
 /// Variables of a source that aren't passed over yet.
-pub trait Run {
+pub trait Run: Sized {
     fn take<V: Variable, N: Number>(&mut self, variable: V) -> Option<N>;
+
+    /// Passes over the variables that were taken.
+    fn pass(self);
 
     /// What follows a flag if it is 1.
     #[inline(always)]
@@ -80,19 +82,85 @@ pub trait Sink {
     fn put<V: Variable>(&mut self, variable: V, number: impl Number);
 }
 
+/// Where the parts of an item are sent to, one after another, the variables between them.
+pub trait Writer: Sink {
+    /// Whether FILL is wanted before the header.
+    const FILL_FIRST: bool = false;
+
+    #[inline(always)]
+    fn begin_telegram(&mut self, _fill: &impl KeptBits) {}
+    /// What is between the header of a telegram and its packets.
+    #[inline(always)]
+    fn begin_packets(&mut self, _kind: Kind) {}
+    #[inline(always)]
+    fn end_telegram(&mut self, _fill: &impl KeptBits, _kind: Kind) {}
+    /// A message up to its packets.
+    #[inline(always)]
+    fn begin_message(&mut self, _nid: u8, _length: u16, _start: &Start, _kind: Kind) {}
+    #[inline(always)]
+    fn end_message(&mut self, _padding: &Padding) {}
+    /// The whole of a message that is kept.
+    #[inline(always)]
+    fn kept_message(&mut self, _nid: u8, _length: u16, _data: &impl KeptBits, _kind: Kind) {}
+    #[inline(always)]
+    fn begin_packet(&mut self, _frame: &Frame) {}
+    #[inline(always)]
+    fn end_packet(&mut self, _frame: &Frame) {}
+    /// The whole of a packet that is kept.
+    #[inline(always)]
+    fn kept_packet(&mut self, _frame: &Frame, _data: &impl KeptBits) {}
+    /// Sets a variable that is so many bits back, and was sent as zero.
+    #[inline(always)]
+    fn set<V: Variable>(&mut self, _back: usize, _variable: V, _number: usize) {}
+}
+
 /// What is read and sent as variables one after another.
 pub trait Part: Sized {
     fn read(source: &mut impl Source) -> Option<Self>;
     fn send(&self, sink: &mut impl Sink);
 }
 
-/// Bits that are kept: 64 in a word, the first on top, and zeros after the last.
+/// Bits that are kept: 64 in a word, the first on top.
+pub trait KeptBits {
+    fn len(&self) -> usize;
+    fn words(&self) -> impl Iterator<Item = u64>;
+}
+
+/// Those of a value, with zeros after the last.
 pub struct Kept {
     pub words: Vec<u64>,
     pub len: usize,
 }
 
-/// A struct of variables in the order of sending, of 57 bits at most.
+impl KeptBits for Kept {
+    #[inline(always)]
+    fn len(&self) -> usize {
+        self.len
+    }
+    #[inline(always)]
+    fn words(&self) -> impl Iterator<Item = u64> {
+        self.words.iter().copied()
+    }
+}
+
+impl Kept {
+    #[inline(always)]
+    pub fn of(bits: &impl KeptBits) -> Kept {
+        let len = bits.len();
+        let mut words = Vec::with_capacity(len.div_ceil(64));
+        for word in bits.words() {
+            words.push(word);
+        }
+        if len % 64 > 0 {
+            if let Some(last) = words.last_mut() {
+                *last &= u64::MAX << (64 - len % 64);
+            }
+        }
+        Kept { words, len }
+    }
+}
+
+/// A struct of variables in the order of sending, of 56 bits at most.
 macro_rules! part {
     ($name:ident { $($field:ident: $type:ty = $variable:ident),* }) => {
         pub struct $name {
@@ -104,7 +172,7 @@ macro_rules! part {
             fn read(source: &mut impl Source) -> Option<Self> {
                 let mut run = source.run()?;
                 let part = $name { $($field: run.take($variable)?),* };
-                source.pass(run);
+                run.pass();
                 Some(part)
             }
             #[inline(always)]
@@ -178,7 +246,7 @@ impl Part for Group {
     fn read(source: &mut impl Source) -> Option<Self> {
         let mut run = source.run()?;
         let group = Group::take(&mut run)?;
-        source.pass(run);
+        run.pass();
         Some(group)
     }
     #[inline(always)]
@@ -210,7 +278,7 @@ impl Part for Link {
             q_linkreaction: run.take(Q_LINKREACTION)?,
             q_locacc: run.take(Q_LOCACC)?,
         };
-        source.pass(run);
+        run.pass();
         Some(link)
     }
     #[inline(always)]
@@ -236,7 +304,7 @@ impl Part for Difference {
         let q_diff = run.take(Q_DIFF)?;
         let category = if q_diff == 0 { run.take(NC_CDDIFF)? } else { run.take(NC_DIFF)? };
         let difference = Difference { q_diff, category, v_diff: run.take(V_DIFF)? };
-        source.pass(run);
+        run.pass();
         Some(difference)
     }
     #[inline(always)]
@@ -266,7 +334,7 @@ impl Part for Speed {
         let v_static = run.take(V_STATIC)?;
         let q_front = run.take(Q_FRONT)?;
         let count: u8 = run.take(N_ITER)?;
-        source.pass(run);
+        run.pass();
         Some(Speed { d_static, v_static, q_front, differences: source.list(count.into())? })
     }
     #[inline(always)]
@@ -323,7 +391,7 @@ impl Part for Section {
             length: run.take(L_SECTION)?,
             timer: Timer::take(&mut run, Q_SECTIONTIMER, T_SECTIONTIMER, D_SECTIONTIMERSTOPLOC)?,
         };
-        source.pass(run);
+        run.pass();
         Some(section)
     }
     #[inline(always)]
@@ -357,12 +425,12 @@ impl Part for Authority {
         let mut run = source.run()?;
         let l_endsection = run.take(L_ENDSECTION)?;
         let section_timer = Timer::take(&mut run, Q_SECTIONTIMER, T_SECTIONTIMER, D_SECTIONTIMERSTOPLOC)?;
-        source.pass(run);
+        run.pass();
         let mut run = source.run()?;
         let end_timer = Timer::take(&mut run, Q_ENDTIMER, T_ENDTIMER, D_ENDTIMERSTARTLOC)?;
         let danger_point = run.when(Q_DANGERPOINT, |run| Some((run.take(D_DP)?, run.take(V_RELEASEDP)?)))?;
         let has_overlap = run.take(Q_OVERLAP)?;
-        source.pass(run);
+        run.pass();
         let mut overlap = None;
         if has_overlap {
             let mut run = source.run()?;
@@ -372,7 +440,7 @@ impl Part for Authority {
                 d_ol: run.take(D_OL)?,
                 v_releaseol: run.take(V_RELEASEOL)?,
             });
-            source.pass(run);
+            run.pass();
         }
         Some(Authority { sections, l_endsection, section_timer, end_timer, danger_point, overlap })
     }
@@ -419,7 +487,7 @@ impl Part for Level {
     fn read(source: &mut impl Source) -> Option<Self> {
         let mut run = source.run()?;
         let level = run.level(M_LEVELTR)?;
-        source.pass(run);
+        run.pass();
         Some(level)
     }
     #[inline(always)]
@@ -438,7 +506,7 @@ impl Part for LevelOrder {
     fn read(source: &mut impl Source) -> Option<Self> {
         let mut run = source.run()?;
         let order = LevelOrder { level: run.level(M_LEVELTR)?, l_ackleveltr: run.take(L_ACKLEVELTR)? };
-        source.pass(run);
+        run.pass();
         Some(order)
     }
     #[inline(always)]
@@ -460,7 +528,7 @@ impl Part for Session {
     fn read(source: &mut impl Source) -> Option<Self> {
         let mut run = source.run()?;
         let (nid_c, nid_rbc) = (run.take(NID_C)?, run.take(NID_RBC)?);
-        source.pass(run);
+        run.pass();
         let nid_radio = source.radio()?;
         let q_sleepsession = source.take(Q_SLEEPSESSION)?;
         Some(Session { nid_c, nid_rbc, nid_radio, q_sleepsession })
@@ -518,7 +586,7 @@ impl Part for TextFrame {
         let (q_scale, q_textclass) = (run.take(Q_SCALE)?, run.take(Q_TEXTCLASS)?);
         let (q_textdisplay, d_textdisplay) = (run.take(Q_TEXTDISPLAY)?, run.take(D_TEXTDISPLAY)?);
         let start = Shown::take(&mut run)?;
-        source.pass(run);
+        run.pass();
         let mut run = source.run()?;
         let (l_textdisplay, t_textdisplay) = (run.take(L_TEXTDISPLAY)?, run.take(T_TEXTDISPLAY)?);
         let end = Shown::take(&mut run)?;
@@ -526,7 +594,7 @@ impl Part for TextFrame {
         let mut confirmation = None;
         if q_textconfirm > 0 {
             let (q_conftextdisplay, is_reported) = (run.take(Q_CONFTEXTDISPLAY)?, run.take(Q_TEXTREPORT)?);
-            source.pass(run);
+            run.pass();
             run = source.run()?;
             let mut report = None;
             if is_reported {
@@ -534,7 +602,7 @@ impl Part for TextFrame {
             }
             confirmation = Some(Confirmation { q_conftextdisplay, report });
         }
-        source.pass(run);
+        run.pass();
         Some(TextFrame {
             q_scale,
             q_textclass,
@@ -595,17 +663,17 @@ impl Located {
         let mut run = source.run()?;
         let (q_scale, nid_lrbg) = (run.take(Q_SCALE)?, run.take(NID_LRBG)?);
         let nid_prvlrbg = if has_previous { Some(run.take(NID_PRVLRBG)?) } else { None };
-        source.pass(run);
+        run.pass();
         let mut run = source.run()?;
         let (d_lrbg, q_dirlrbg, q_dlrbg) = (run.take(D_LRBG)?, run.take(Q_DIRLRBG)?, run.take(Q_DLRBG)?);
         let (l_doubtover, l_doubtunder) = (run.take(L_DOUBTOVER)?, run.take(L_DOUBTUNDER)?);
         let q_length = run.take(Q_LENGTH)?;
-        source.pass(run);
+        run.pass();
         let mut run = source.run()?;
         let l_trainint = if matches!(q_length, 1 | 2) { run.take(L_TRAININT)? } else { 0 };
         let (v_train, q_dirtrain, m_mode) = (run.take(V_TRAIN)?, run.take(Q_DIRTRAIN)?, run.take(M_MODE)?);
         let level = run.level(M_LEVEL)?;
-        source.pass(run);
+        run.pass();
         Some(Located {
             q_scale,
             nid_lrbg,
@@ -677,6 +745,19 @@ impl Way {
         self == Way::ToTrack || !matches!(nid, 0 | 255)
     }
 
+    /// Whether a packet of this number is read by its row, and not kept.
+    #[inline(always)]
+    pub fn has_row(self, nid: u8) -> bool {
+        match self {
+            Way::ToTrain => matches!(
+                nid,
+                2 | 5 | 12 | 15 | 16 | 21 | 27 | 41 | 42 | 45 | 46 | 49 | 57 | 58 | 63..=66 | 68 | 72 | 76 | 80
+                    | 131 | 132 | 135..=137 | 140 | 141 | 145 | 254
+            ),
+            Way::ToTrack => matches!(nid, 0 | 1 | 4 | 5),
+        }
+    }
+
     /// Whether messages of this number are typed.
     #[inline(always)]
     pub fn has_typed_message(self, nid: u8) -> bool {
@@ -685,6 +766,17 @@ impl Way {
             Way::ToTrack => matches!(nid, 130 | 136..=138 | 146 | 150 | 155..=157 | 159),
         }
     }
+}
+
+/// What a packet begins with. To the track it has no direction; a marker has no length either.
+pub struct Frame {
+    pub nid: u8,
+    pub dir: Option<u8>,
+    pub length: Option<u16>,
+}
+
+impl Frame {
+    pub const MARKER: Frame = Frame { nid: 0, dir: None, length: None };
 }
 
 /// A packet with its number, direction and length. To the track its direction isn't sent.
@@ -733,7 +825,13 @@ pub enum Body {
 
 impl Body {
     /// What a packet of this number says; if it is kept, `rest` bits come.
+    #[inline(never)]
     pub fn read(source: &mut impl Source, way: Way, nid: u8, rest: usize) -> Option<Body> {
+        Body::read_inline(source, way, nid, rest)
+    }
+
+    #[inline(always)]
+    pub fn read_inline(source: &mut impl Source, way: Way, nid: u8, rest: usize) -> Option<Body> {
         if way == Way::ToTrack {
             return Some(match nid {
                 0 | 1 => Body::Located(Located::read(source, nid == 1)?),
@@ -749,13 +847,13 @@ impl Body {
                 let mut run = source.run()?;
                 let (q_scale, v_main) = (run.take(Q_SCALE)?, run.take(V_MAIN)?);
                 let (v_loa, t_loa) = (run.take(V_LOA)?, run.take(T_LOA)?);
-                source.pass(run);
+                run.pass();
                 Body::Level1Authority { q_scale, v_main, v_loa, t_loa, authority: Authority::read(source)? }
             }
             15 => {
                 let mut run = source.run()?;
                 let (q_scale, v_loa, t_loa) = (run.take(Q_SCALE)?, run.take(V_LOA)?, run.take(T_LOA)?);
-                source.pass(run);
+                run.pass();
                 Body::Level23Authority { q_scale, v_loa, t_loa, authority: Authority::read(source)? }
             }
             16 => Body::Reposition(Part::read(source)?),
@@ -992,7 +1090,7 @@ impl Own {
             (Way::ToTrack, 157) => Own::Status(run.take(Q_STATUS)?),
             _ => Own::Nothing,
         };
-        source.pass(run);
+        run.pass();
         Some(own)
     }
 
@@ -1031,8 +1129,15 @@ pub struct Message {
 }
 
 pub enum Content {
-    Typed { t_train: u32, head: Head, own: Own, packets: Vec<Packet>, padding: Padding },
+    Typed { start: Start, packets: Vec<Packet>, padding: Padding },
     Kept(Kept),
+}
+
+/// What a typed message has between its length and its packets.
+pub struct Start {
+    pub t_train: u32,
+    pub head: Head,
+    pub own: Own,
 }
 
 impl Head {
@@ -1043,7 +1148,7 @@ impl Head {
             Way::ToTrain => Head::ToTrain { m_ack: run.take(M_ACK)?, nid_lrbg: run.take(NID_LRBG)? },
             Way::ToTrack => Head::ToTrack { nid_engine: run.take(NID_ENGINE)? },
         };
-        source.pass(run);
+        run.pass();
         Some(head)
     }
 

@@ -27,37 +27,21 @@ table_is = refl
 pub pair_digits : (none : List ℕ) (n : ℕ) → n < 100 → get_or PAIRS n none ≡ two n
 pair_digits none n small = ap (λ (t : List (List ℕ)). get_or t n none) table_is ∙ pairs_at none 0 100 n small ∙ ap two (omega arith)
 
--- ---- Numbers of up to four digits.
-
-abbrev pub four : ℕ → List ℕ
-four n = (48 + n / 1000) ∷ (48 + n / 100 % 10) ∷ (48 + n / 10 % 10) ∷ (48 + n % 10) ∷ []
-
-step_on : (n : ℕ) (tail : List ℕ) → 10 ≤ n → n < 2 ^ 64 → decimal n ++ tail ≡ decimal (n / 10) ++ ((48 + n % 10) ∷ tail)
-step_on n tail lo hi = ap (λ (t : List ℕ). t ++ tail) (decimal_step n lo hi) ∙ append_assoc (decimal (n / 10)) ((48 + n % 10) ∷ []) tail
+-- ---- The last two digits of a number.
 
 pub decimal_two : (n : ℕ) → 10 ≤ n → n < 100 → decimal n ≡ two n
 decimal_two n lo hi = decimal_step n lo (omega arith) ∙ ap (λ (t : List ℕ). t ++ (48 + n % 10) ∷ []) (decimal_digit (n / 10) (omega arith))
 
-three_same : (a b c x y z : ℕ) → a ≡ x → b ≡ y → c ≡ z → (48 + a) ∷ (48 + b) ∷ (48 + c) ∷ [] ≡ (48 + x) ∷ (48 + y) ∷ (48 + z) ∷ []
-three_same a b c x y z p q r = cc
+last_two : (a b x y : ℕ) → a ≡ x → b ≡ y → (48 + a) ∷ (48 + b) ∷ [] ≡ (48 + x) ∷ (48 + y) ∷ []
+last_two a b x y p q = cc
 
-pub decimal_three : (n : ℕ) → 100 ≤ n → n < 1000 → decimal n ≡ (48 + n / 100) ∷ two (n % 100)
-decimal_three n lo hi =
-    decimal_step n (omega arith) (omega arith)
-    ∙ ap (λ (t : List ℕ). t ++ (48 + n % 10) ∷ []) (decimal_two (n / 10) (omega arith) (omega arith))
-    ∙ three_same (n / 10 / 10) (n / 10 % 10) (n % 10) (n / 100) (n % 100 / 10) (n % 100 % 10) (omega arith) (omega arith) (omega arith)
-
-four_same : (a b c d w x y z : ℕ) → a ≡ w → b ≡ x → c ≡ y → d ≡ z → (48 + a) ∷ (48 + b) ∷ (48 + c) ∷ (48 + d) ∷ [] ≡ (48 + w) ∷ (48 + x) ∷ (48 + y) ∷ (48 + z) ∷ []
-four_same a b c d w x y z p q r s = cc
-
-pub two_twice : (n : ℕ) → two (n / 100) ++ two (n % 100) ≡ four n
-two_twice n = four_same (n / 100 / 10) (n / 100 % 10) (n % 100 / 10) (n % 100 % 10) (n / 1000) (n / 100 % 10) (n / 10 % 10) (n % 10) (omega arith) refl (omega arith) (omega arith)
-
-pub decimal_four : (n : ℕ) → 1000 ≤ n → n < 10000 → decimal n ≡ four n
-decimal_four n lo hi =
-    decimal_step n (omega arith) (omega arith)
-    ∙ ap (λ (t : List ℕ). t ++ (48 + n % 10) ∷ []) (decimal_three (n / 10) (omega arith) (omega arith))
-    ∙ four_same (n / 10 / 100) (n / 10 % 100 / 10) (n / 10 % 100 % 10) (n % 10) (n / 1000) (n / 100 % 10) (n / 10 % 10) (n % 10) (omega arith) (omega arith) (omega arith) refl
+pub decimal_hundreds : (n : ℕ) → 100 ≤ n → n < 2 ^ 64 → decimal n ≡ decimal (n / 100) ++ two (n % 100)
+decimal_hundreds n lo hi =
+    decimal_step n (omega arith) hi
+    ∙ ap (λ (t : List ℕ). t ++ (48 + n % 10) ∷ []) (decimal_step (n / 10) (omega arith) (omega arith))
+    ∙ append_assoc (decimal (n / 10 / 10)) ((48 + n / 10 % 10) ∷ []) ((48 + n % 10) ∷ [])
+    ∙ ap (λ (k : ℕ). decimal k ++ (48 + n / 10 % 10) ∷ (48 + n % 10) ∷ []) (omega arith)
+    ∙ ap (λ (t : List ℕ). decimal (n / 100) ++ t) (last_two (n / 10 % 10) (n % 10) (n % 100 / 10) (n % 100 % 10) (omega arith) (omega arith))
 
 pub length_one : (n : ℕ) → n < 10 → length (decimal n) ≡ 1
 length_one n h = ap length (decimal_digit n h)
@@ -65,34 +49,8 @@ length_one n h = ap length (decimal_digit n h)
 pub length_two : (n : ℕ) → 10 ≤ n → n < 100 → length (decimal n) ≡ 2
 length_two n lo hi = ap length (decimal_two n lo hi)
 
-pub length_three : (n : ℕ) → 100 ≤ n → n < 1000 → length (decimal n) ≡ 3
-length_three n lo hi = ap length (decimal_three n lo hi)
-
-pub length_four : (n : ℕ) → 1000 ≤ n → n < 10000 → length (decimal n) ≡ 4
-length_four n lo hi = ap length (decimal_four n lo hi)
-
--- ---- Longer numbers: four digits more.
-
-fourth : (n : ℕ) → n / 10 / 10 / 10 / 10 ≡ n / 10000
-fourth n = omega arith
-
-digits_same : (n : ℕ) → (48 + n / 10 / 10 / 10 % 10) ∷ (48 + n / 10 / 10 % 10) ∷ (48 + n / 10 % 10) ∷ (48 + n % 10) ∷ [] ≡ four (n % 10000)
-digits_same n =
-    let m = n % 10000 in
-    four_same (n / 10 / 10 / 10 % 10) (n / 10 / 10 % 10) (n / 10 % 10) (n % 10) (m / 1000) (m / 100 % 10) (m / 10 % 10) (m % 10) (omega arith) (omega arith) (omega arith) (omega arith)
-
-pub decimal_long : (n : ℕ) → 10000 ≤ n → n < 2 ^ 64 → decimal n ≡ decimal (n / 10000) ++ four (n % 10000)
-decimal_long n lo hi =
-    sym (append-nil (decimal n))
-    ∙ step_on n [] (omega arith) hi
-    ∙ step_on (n / 10) _ (omega arith) (omega arith)
-    ∙ step_on (n / 10 / 10) _ (omega arith) (omega arith)
-    ∙ step_on (n / 10 / 10 / 10) _ (omega arith) (omega arith)
-    ∙ ap (λ (k : ℕ). decimal k ++ (48 + n / 10 / 10 / 10 % 10) ∷ (48 + n / 10 / 10 % 10) ∷ (48 + n / 10 % 10) ∷ (48 + n % 10) ∷ []) (fourth n)
-    ∙ ap (λ (t : List ℕ). decimal (n / 10000) ++ t) (digits_same n)
-
-pub length_long : (n : ℕ) → 10000 ≤ n → n < 2 ^ 64 → length (decimal n) ≡ length (decimal (n / 10000)) + 4
-length_long n lo hi = ap length (decimal_long n lo hi) ∙ length-append (decimal (n / 10000)) (four (n % 10000))
+pub length_hundreds : (n : ℕ) → 100 ≤ n → n < 2 ^ 64 → length (decimal n) ≡ length (decimal (n / 100)) + 2
+length_hundreds n lo hi = ap length (decimal_hundreds n lo hi) ∙ length-append (decimal (n / 100)) (two (n % 100))
 
 -- ---- Digits put over bytes.
 

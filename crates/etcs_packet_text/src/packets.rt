@@ -15,20 +15,6 @@ use etcs_tables::{Way, frame_bits};
 use etcs_vars::Var;
 use std::alloc::AllocError;
 
-/// Appends the lines of a packet's number, of Q_DIR, which is sent to the train alone, and of L_PACKET.
-#[inline(always)]
-fn write_framed(way: Way, nid: u8, dir: u8, bits: u64, page: &mut Page) -> Result<(), AllocError>
-    ensures ok { OnOk result (page.new ≡ page.old ++ (packet_line nid ++ flat_map variable_line (directed way dir ((L_PACKET, bits) ∷ [])))) }
-    ensures err { OnErr result (page.new ≡ page.old) }
-{
-    match way {
-        Way::ToTrain => {
-            page.put_packet(nid, &[(Var::Q_DIR, u64::from(dir)), (Var::L_PACKET, bits)])
-        }
-        Way::ToTrack => page.put_packet(nid, &[(Var::L_PACKET, bits)]),
-    }
-}
-
 impl PacketPage for Page {
     ghost use Rattle.std.specs.Prelude.{◌≡◌, ◌++◌, length};
     ghost use Rattle.etcs_packet_text.specs.LineSinks.{and_lines, begun_lines};
@@ -65,8 +51,8 @@ impl PacketPage for Page {
     #[inline(always)]
     fn begin(&mut self, way: Way, nid: u8, dir: Option<u8>, bits: usize) -> Result<(), AllocError> {
         match dir {
-            Some(dir) => write_framed(way, nid, dir, bits as u64, self),
-            None => self.put_packet(nid, &[]),
+            Some(dir) => self.put_frame(way, nid, dir, bits as u64),
+            None => self.put_between(b"packet ", u64::from(nid), b"\n"),
         }
     }
 
@@ -77,7 +63,7 @@ impl PacketPage for Page {
 
     fn keep(&mut self, way: Way, nid: u8, dir: u8, body: &BitSlice<'_>) -> Result<(), AllocError> {
         let bits = frame_bits(way).checked_add(body.len()).ok_or(AllocError)?;
-        write_framed(way, nid, dir, bits as u64, self)?;
+        self.put_frame(way, nid, dir, bits as u64)?;
         self.put_bits_line(Var::OTHER_DATA, body)
     }
 

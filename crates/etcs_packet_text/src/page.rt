@@ -11,15 +11,18 @@ ghost use Rattle.std.specs.Prelude.{◌≡◌, ◌+◌, ◌≤◌, ◌++◌, ◌
 ghost use Rattle.std.specs.Fmt.{decimal};
 ghost use Rattle.etcs_bits.specs.Bits.{num};
 ghost use Rattle.etcs_vars.specs.Vars.{name};
+ghost use Rattle.etcs_vars.specs.declared.var.Var.TheVariants.{L_PACKET};
+ghost use Rattle.etcs_tables.specs.Frames.{directed};
 ghost use Rattle.etcs_packet_text.specs.Packets.{packet_line};
 ghost use Rattle.etcs_packet_text.specs.PairSinks.{with_pairs};
 ghost use Rattle.etcs_packet_text.specs.Show.{bit_digit, bits_line, variable_line};
 
 use bits::{BITS_ROOM, put_bits, put_slice};
 use etcs_bits::BitSlice;
+use etcs_tables::Way;
 use etcs_vars::Var;
 use etcs_vars::inner::VarSink;
-use lines::{LINE_ROOM, put_bits_line, put_lines};
+use lines::{LINE_ROOM, put_bits_line, put_line, put_lines};
 use pairs::{PAIR_ROOM, put_pairs};
 use place::{put_between, put_bytes, put_decimal, put_number};
 use std::alloc::AllocError;
@@ -33,6 +36,9 @@ pub struct Page {
     bytes: Vec<u8>,
     at: usize,
 }
+
+/// The room for the lines of a packet's number, of Q_DIR and of L_PACKET.
+const FRAME_ROOM: usize = 32 + 2 * LINE_ROOM;
 
 /// How many bytes more a page makes room for if it has to.
 const MORE: usize = 1024;
@@ -179,22 +185,31 @@ impl Page {
         Ok(())
     }
 
-    /// Appends the line of a packet's number, and lines of variables.
+    /// Appends the lines of a packet's number, of Q_DIR, which is sent to the train alone, and of L_PACKET.
     ///
     /// # Errors
     ///
     /// `AllocError` if out of memory. The page then stays as it was.
     #[inline(always)]
-    pub(crate) fn put_packet(&mut self, nid: u8, sent: &[(Var, u64)]) -> Result<(), AllocError>
-        ensures ok { OnOk result (self.new ≡ self.old ++ (packet_line nid ++ flat_map variable_line sent.now)) }
+    pub(crate) fn put_frame(
+        &mut self,
+        way: Way,
+        nid: u8,
+        dir: u8,
+        bits: u64,
+    ) -> Result<(), AllocError>
+        ensures ok { OnOk result (self.new ≡ self.old ++ (packet_line nid ++ flat_map variable_line (directed way dir ((L_PACKET, bits) ∷ [])))) }
         ensures err { OnErr result (self.new ≡ self.old) }
     {
         let at = self.at;
-        let count = sent.len().saturating_mul(LINE_ROOM).saturating_add(32);
-        room(&mut self.bytes, at, count)?;
+        room(&mut self.bytes, at, FRAME_ROOM)?;
         let place = self.bytes.as_mut_slice();
         let end = put_between(place, at, b"packet ", u64::from(nid), b"\n");
-        self.at = put_lines(place, end, sent);
+        let end = match way {
+            Way::ToTrain => put_line(place, end, Var::Q_DIR, u64::from(dir)),
+            Way::ToTrack => end,
+        };
+        self.at = put_line(place, end, Var::L_PACKET, bits);
         Ok(())
     }
 

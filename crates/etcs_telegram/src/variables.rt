@@ -41,6 +41,8 @@ impl Variables for Header {
             (Var::Q_MEDIA, 0),
             (Var::N_PIG, u64::from(self.n_pig())),
             (Var::N_TOTAL, u64::from(self.n_total())),
+        ])?;
+        out.send(&[
             (Var::M_DUP, u64::from(self.m_dup())),
             (Var::M_MCOUNT, u64::from(self.m_mcount())),
             (Var::NID_C, u64::from(self.nid_c())),

@@ -8,14 +8,14 @@ ghost use Rattle.etcs_packet_text.specs.Show.{hex_digits, number_text, signed_te
 use super::bits::put_slice;
 use super::fronts::line_front;
 use super::place::{put_bytes, put_front, put_hex, put_number};
-use super::unrolled::{Put, PutEach, Ten};
+use super::unrolled::{Five, Put, PutEach};
 use etcs_bits::BitSlice;
 use etcs_vars::Var;
 
 /// The room for a line.
 pub(crate) const LINE_ROOM: usize = 80;
 
-/// Writes lines of variables at a place, and returns where they end. There is no loop if they are at most ten.
+/// Writes lines of variables at a place, and returns where they end. There is no loop if they are at most five.
 #[inline(always)]
 pub(super) fn put_lines(place: &mut [u8], at: usize, sent: &[(Var, u64)]) -> usize
     requires { at + 80 * length sent.now ≤ length place.old }
@@ -23,7 +23,7 @@ pub(super) fn put_lines(place: &mut [u8], at: usize, sent: &[(Var, u64)]) -> usi
     ensures most { result ≤ at + 80 * length sent.now }
     ensures bytes { take result place.new ≡ take at place.old ++ flat_map variable_line sent.now }
 {
-    <Ten as PutEach<Line>>::put_each(place, at, sent)
+    <Five as PutEach<Line>>::put_each(place, at, sent)
 }
 
 /// The line of a variable.

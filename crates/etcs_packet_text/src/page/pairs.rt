@@ -8,14 +8,14 @@ ghost use Rattle.etcs_packet_text.specs.Trees.{number_tree, pair_tree};
 
 use super::fronts::pair_front;
 use super::place::{put_bytes, put_front, put_hex, put_number};
-use super::unrolled::{Put, PutEach, Ten};
+use super::unrolled::{Four, Put, PutEach};
 use etcs_vars::Var;
 
 /// The room for a pair.
 pub(crate) const PAIR_ROOM: usize = 64;
 
 /// Writes pairs at a place, the first of them after a comma unless it is the first of its list, and returns where they
-/// end. There is no loop if they are at most eleven.
+/// end. There is no loop if they are at most five.
 #[inline(always)]
 pub(super) fn put_pairs(place: &mut [u8], at: usize, later: bool, sent: &[(Var, u64)]) -> usize
     requires { at + 64 * length sent.now ≤ length place.old }
@@ -27,7 +27,7 @@ pub(super) fn put_pairs(place: &mut [u8], at: usize, later: bool, sent: &[(Var, 
         [] => at,
         [first, others @ ..] => {
             let end = put_pair(place, at, later, first.0, first.1);
-            <Ten as PutEach<LaterPair>>::put_each(place, end, others)
+            <Four as PutEach<LaterPair>>::put_each(place, end, others)
         }
     }
 }

@@ -95,28 +95,39 @@ fn put_more(place: &mut [u8], at: usize, number: u64) -> usize
     if number < 100 {
         return put_two_digits(place, at, number);
     }
-    if number < 1000 {
-        place[at] = b'0' + (number / 100) as u8;
-        return put_two_digits(place, at + 1, number % 100);
-    }
-    if number < 10000 {
-        return put_four_digits(place, at, number);
-    }
-    put_long(place, at, number)
+    let end = put_hundreds(place, at, number / 100);
+    put_two_digits(place, end, number % 100)
 }
 
-/// Writes the digits of a number that has more than four.
+/// Writes the digits of a number of hundreds, and returns where they end.
 #[cycle(decimal)]
-#[inline(never)]
-fn put_long(place: &mut [u8], at: usize, number: u64) -> usize
-    requires room { at + length (decimal number) ≤ length place.old }
-    requires least { 10000 ≤ number }
+#[inline(always)]
+fn put_hundreds(place: &mut [u8], at: usize, number: u64) -> usize
+    requires { at + length (decimal number) ≤ length place.old }
     ensures len { length place.new ≡ length place.old }
     ensures end { result ≡ at + length (decimal number) }
     ensures bytes { take result place.new ≡ take at place.old ++ decimal number }
 {
-    let after = put_decimal(place, at, number / 10000);
-    put_four_digits(place, after, number % 10000)
+    if number < 10 {
+        place[at] = b'0' + number as u8;
+        return at + 1;
+    }
+    if number < 100 {
+        return put_two_digits(place, at, number);
+    }
+    put_long(place, at, number)
+}
+
+/// Writes the digits of a number, as `put_decimal` does, in a function of its own.
+#[cycle(decimal)]
+#[inline(never)]
+fn put_long(place: &mut [u8], at: usize, number: u64) -> usize
+    requires { at + length (decimal number) ≤ length place.old }
+    ensures len { length place.new ≡ length place.old }
+    ensures end { result ≡ at + length (decimal number) }
+    ensures bytes { take result place.new ≡ take at place.old ++ decimal number }
+{
+    put_decimal(place, at, number)
 }
 
 /// Writes the two digits of a number below a hundred.
@@ -132,19 +143,6 @@ fn put_two_digits(place: &mut [u8], at: usize, number: u64) -> usize
     place[at] = pair[0];
     place[at + 1] = pair[1];
     at + 2
-}
-
-/// Writes the four digits of a number below ten thousand.
-#[inline(always)]
-fn put_four_digits(place: &mut [u8], at: usize, number: u64) -> usize
-    requires room { at + 4 ≤ length place.old }
-    requires small { number < 10000 }
-    ensures len { length place.new ≡ length place.old }
-    ensures end { result ≡ at + 4 }
-    ensures bytes { take result place.new ≡ take at place.old ++ (48 + number / 1000) ∷ (48 + number / 100 % 10) ∷ (48 + number / 10 % 10) ∷ (48 + number % 10) ∷ [] }
-{
-    let after = put_two_digits(place, at, number / 100);
-    put_two_digits(place, after, number % 100)
 }
 
 /// The two digits of each number below a hundred.

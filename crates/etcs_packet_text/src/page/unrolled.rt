@@ -39,8 +39,11 @@ pub(crate) struct First<Others> {
     others: PhantomData<Others>,
 }
 
-/// The first ten, as many as a telegram's header has, without a loop.
-pub(crate) type Ten = First<First<First<First<First<First<First<First<First<First<Loop>>>>>>>>>>;
+/// The first four without a loop.
+pub(crate) type Four = First<First<First<First<Loop>>>>;
+
+/// The first five without a loop. For more the code would be too long to be inlined.
+pub(crate) type Five = First<Four>;
 
 impl<P: Put> PutEach<P> for Loop {
     #[inline(never)]

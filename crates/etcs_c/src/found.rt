@@ -11,7 +11,7 @@ ghost use Rattle.etcs_c.specs.Answers.{Finds, Says, SaysBits};
 use crate::answer::{EtcsAnswer, MORE, NO_MEMORY, accept, refuse};
 use etcs_messages::{Head, MessageOf, Own, ReaderOf};
 use etcs_telegram::{Size, TelegramReader};
-use etcs_text::inner::seen;
+use etcs_text::inner::{refused_at, seen};
 use etcs_text::{Entry, Kind};
 use etcs_vars::{Fed, ReadFault, Var};
 use std::alloc::Global;
@@ -130,12 +130,22 @@ pub(crate) fn say(found: &Found, answer: &mut EtcsAnswer) -> u32
 }
 
 /// Returns the status of what the bytes begin with, of items of this kind, and puts the numbers of it into the answer. Most
-/// items are accepted without making a value of them.
+/// items are accepted or refused without making a value of them.
 pub(crate) fn check(alloc: Global, kind: Kind, bytes: &[u8], answer: &mut EtcsAnswer) -> u32
     ensures { SaysBits kind (bits bytes.now) result answer.new }
 {
     match seen(kind, bytes) {
         Some(taken) => accept(taken, answer),
+        None => check_unseen(alloc, kind, bytes, answer),
+    }
+}
+
+/// As [`check`], where no item is seen.
+fn check_unseen(alloc: Global, kind: Kind, bytes: &[u8], answer: &mut EtcsAnswer) -> u32
+    ensures { SaysBits kind (bits bytes.now) result answer.new }
+{
+    match refused_at(kind, bytes) {
+        Some((bit, var)) => refuse(bit, var, answer),
         None => say(&find(alloc, kind, bytes), answer),
     }
 }

@@ -4,7 +4,7 @@ use Rattle.std.proofs.lemmas.Bool.{eqb-true}
 use Rattle.std.proofs.lemmas.List.{append-nil, length-drop, map-append}
 use Rattle.std.proofs.Math.Seq.{take-length}
 use Rattle.std.specs.Option.{option_eq}
-use Rattle.std.specs.Prelude.{◌⊎◌, All, IfOk, IfSome, OnOk, not}
+use Rattle.std.specs.Prelude.{◌⊎◌, All, IfOk, IfSome, OnOk, is_some, not}
 use Rattle.etcs_text.specs.declared.entry.Entry.{Entry}
 use Rattle.etcs_text.specs.declared.entry.Entry.TheVariants.{Telegram}
 use Rattle.etcs_text.specs.declared.entry.Kind.{Kind}
@@ -15,7 +15,7 @@ use Rattle.hex.specs.Hex.{decode_of, encode_upper}
 use Rattle.hex.proofs.HexLemmas.{decode_of-odd, decode_of-ok, decode_of-same}
 use Rattle.etcs_bits.specs.Bits.{bits}
 use Rattle.etcs_bits.proofs.Positions.{length-bits}
-use Rattle.etcs_vars.specs.Reading.{IsOutcome, done, spelled}
+use Rattle.etcs_vars.specs.Reading.{IsOutcome, done, refused, spelled}
 use Rattle.etcs_vars.specs.declared.var.Var.{Var}
 use Rattle.etcs_telegram.specs.declared.size.Size.{Size}
 use Rattle.etcs_telegram.specs.declared.size.Size.TheVariants as size
@@ -32,6 +32,7 @@ use Rattle.etcs_text.specs.Entries.{EntryReads, EntryValue, entry_value, kind_of
 use Rattle.etcs_text.specs.Encodings.{IsEncoded}
 use Rattle.etcs_text.specs.Verdicts.{IsItem, IsVerdict}
 use Rattle.etcs_text.proofs.ItemKinds.{item_bits, same_telegrams}
+use Rattle.etcs_text.proofs.Verdicts as verdicts
 use Rattle.etcs_log.specs.declared.job.Good.{Good}
 use Rattle.etcs_log.specs.declared.job.Good.TheVariants.{Left, Digits, Json}
 use Rattle.etcs_log.specs.declared.job.LogJob.{LogJob}
@@ -349,6 +350,10 @@ no_fit Train bytes unfit e is = cc unfit
 pub tried_wrong : (kind : Kind) (bytes : List ℕ) (job : LogJob) (n : ℕ) (front : List ℕ) (seen : Seen) (text : List ℕ) → may_have kind (length bytes) ≡ false → Tried (record { kind = kind; bytes = bytes } ∷ []) false job n front seen seen text text
 tried_wrong kind bytes job n front seen text unfit = ((no_fit kind bytes unfit, tt), refl, refl)
 
+-- they are no item of the kind
+pub tried_refused : (job : LogJob) (n : ℕ) (front : List ℕ) (kind : Kind) (bytes : List ℕ) (seen : Seen) (text : List ℕ) → ((e : EntryValue) → IsItem kind bytes e → ⊥) → Tried (record { kind = kind; bytes = bytes } ∷ []) false job n front seen seen text text
+tried_refused job n front kind bytes seen text none = ((none, tt), refl, refl)
+
 tried_one : (job : LogJob) (n : ℕ) (front : List ℕ) (kind : Kind) (bytes : List ℕ) (e : EntryValue) (before after : Seen) (text text' : List ℕ) → IsItem kind bytes e → Noted job n (item kind front e) before after text text' → Tried (record { kind = kind; bytes = bytes } ∷ []) true job n front before after text text'
 tried_one job n front kind bytes e before after text text' is counted = (kind, e, inl (refl, is), counted)
 
@@ -364,6 +369,11 @@ item_seen kind bytes (Some n) (e, (within, reading, reads, same), encoded) is =
     let whole : 8 * n ≡ length (bits bytes) = omega (arith, length-bits bytes, eqb-true n (length bytes) is) in
     (e, (reading, reads, same ∙ ap (λ (k : ℕ). take k (bits bytes)) whole ∙ take-length (bits bytes)))
 item_seen kind bytes None h is = cc is
+
+-- or refused without one
+pub none_refused : (kind : Kind) (bytes : List ℕ) (r : Option (ℕ × Var)) → IfSome r (λ t. IsOutcome (EntryReads kind) (bits bytes) (refused t.0 t.1)) → is_some r ≡ true → (e : EntryValue) → IsItem kind bytes e → ⊥
+none_refused kind bytes (Some (i, x)) h is = verdicts.none_of kind bytes h.0.0
+none_refused kind bytes None h is = absurd cc
 
 encoded_of : (kind : Kind) (bytes : List ℕ) (e : EntryValue) → All (λ b. b < 256) bytes → IsItem kind bytes e → IsEncoded e bytes
 encoded_of kind bytes e small (r, reads, is) = record { reading = r; reads = reads.1; small = small; bits_are = sym is }

@@ -24,7 +24,7 @@ use etcs_group::Groups;
 use etcs_packet_text::inner::to_digits;
 use etcs_reasons::inner::{are_bits, packed};
 use etcs_runs::{NoBytes, line_bytes, line_front};
-use etcs_text::inner::seen;
+use etcs_text::inner::{refused_at, seen};
 use etcs_text::{Entry, Kind, Verdict};
 use std::alloc::{AllocError, Global};
 
@@ -358,6 +358,9 @@ impl Answers {
             self.add_bytes(kind, bytes, text)?;
             return Ok(true);
         }
+        if self.refuses(kind, bytes) {
+            return Ok(false);
+        }
         self.read_item(kind, line, bytes, text)
     }
 
@@ -368,6 +371,14 @@ impl Answers {
         ensures item { IsTrue result → (e : EntryValue) × IsItem kind bytes.now e }
     {
         !self.job.needs_values() && seen(kind, bytes) == Some(bytes.len())
+    }
+
+    /// If true, these bytes are no item of the kind. If false, a reader decides what they are, as always where values are
+    /// needed: then no item is read twice.
+    fn refuses(&self, kind: Kind, bytes: &[u8]) -> bool
+        ensures { IsTrue result → (e : EntryValue) → IsItem kind bytes.now e → ⊥ }
+    {
+        !self.job.needs_values() && refused_at(kind, bytes).is_some()
     }
 
     /// Takes these bytes as an item of the kind, of which a reader makes a value, and returns whether they are one.
@@ -394,7 +405,7 @@ impl Answers {
                 let start = text.len();
                 self.add_item(kind, line, &entry, bytes, text)?;
                 if !self.job.groups {
-                    self.readers.reuse(kind, entry);
+                    drop(entry);
                     return Ok(true);
                 }
                 match self.hold(entry) {

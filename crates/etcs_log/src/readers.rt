@@ -4,7 +4,7 @@ ghost use Rattle.std.specs.Prelude.{◌≡◌, IfOk, IfSome};
 ghost use Rattle.etcs_text.specs.Verdicts.{IsVerdict};
 ghost use Rattle.etcs_text.specs.declared.entry.Kind.{Kind};
 
-use etcs_text::{Entry, Kind, SingleReader, Verdict};
+use etcs_text::{Kind, SingleReader, Verdict};
 use std::alloc::{AllocError, Global};
 use std::marker::Model;
 
@@ -66,17 +66,6 @@ fn read_in(
     verdict
 }
 
-/// Takes the room of an item that isn't needed any more for the next ones that the reader of the slot reads.
-#[inline(always)]
-fn reuse_in(slot: &mut Option<Box<SingleReader>>, entry: Entry)
-    ensures { (kind : Kind) → IfSome slot.old (λ b. b.value ≡ kind) → IfSome slot.new (λ b. b.value ≡ kind) }
-{
-    match slot {
-        Some(reader) => reader.as_mut().reuse(entry),
-        None => drop(entry),
-    }
-}
-
 impl Readers {
     /// Nothing was read.
     pub(crate) fn new(alloc: Global) -> Readers {
@@ -102,17 +91,6 @@ impl Readers {
             Kind::Short => read_in(&mut self.short, self.alloc, Kind::Short, bytes),
             Kind::Radio => read_in(&mut self.radio, self.alloc, Kind::Radio, bytes),
             Kind::Train => read_in(&mut self.train, self.alloc, Kind::Train, bytes),
-        }
-    }
-
-    /// Takes the room of an item of the kind that isn't needed any more for the next ones that are read.
-    #[inline(always)]
-    pub(crate) fn reuse(&mut self, kind: Kind, entry: Entry) {
-        match kind {
-            Kind::Long => reuse_in(&mut self.long, entry),
-            Kind::Short => reuse_in(&mut self.short, entry),
-            Kind::Radio => reuse_in(&mut self.radio, entry),
-            Kind::Train => reuse_in(&mut self.train, entry),
         }
     }
 }

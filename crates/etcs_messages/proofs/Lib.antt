@@ -25,5 +25,6 @@ pub mod RoundTrips
 pub mod Equality
 pub mod FrontsAtOnce
 pub mod MessagesAtOnce
+pub mod Refusing
 pub mod Parts
 pub mod Sending

@@ -1,11 +1,12 @@
-//! For the crates above: the variables before a message's packets, in the order of sending, and what is left of a
-//! message.
+//! For the crates above: the variables before a message's packets, in the order of sending, what is left of a message,
+//! and where one is refused.
 
 ghost use Rattle.etcs_messages.specs.Messages.{MessageReads, message_value};
 ghost use Rattle.etcs_messages.specs.Readings.{message_reading};
 
 use crate::kind::{Head, Own};
 use crate::message::MessageOf;
+pub use crate::refused::refused_at;
 pub use crate::rest::MessageRest;
 pub use crate::whole::{Outline, message_seen, outline_of};
 

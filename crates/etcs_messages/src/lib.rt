@@ -10,6 +10,7 @@ pub mod laws;
 mod message;
 mod phase;
 mod reader;
+mod refused;
 mod rest;
 mod variables;
 mod whole;

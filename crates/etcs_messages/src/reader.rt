@@ -18,7 +18,6 @@ use crate::rest::MessageRest;
 use crate::whole::message_at;
 use etcs_bodies::ListOf;
 use etcs_packets::inner::AnyPacket;
-use etcs_sequence::inner::Room;
 use etcs_sequence::{Held, ItemReader, ItemRest, ListStore, PacketList};
 use etcs_tables::head_row;
 use etcs_vars::inner::VarSink;
@@ -68,7 +67,7 @@ fn content_of<H: Head, B: Own<Front = H>>(
     }
 }
 
-impl<H: Head, B: Own<Front = H>> ItemRest for MessageRest<H, B> {
+impl<H: Head, B: Own<Front = H>> ItemRest for MessageRest<H, B, H::Store> {
     type Size = ();
 
     type Item = MessageOf<H, B>;
@@ -110,21 +109,12 @@ impl<H: Head, B: Own<Front = H>> ItemRest for MessageRest<H, B> {
 
     #[inline(always)]
     fn whole(
-        room: &mut Room<H::Packet>,
+        alloc: Global,
         _size: (),
         piece: &[u8],
         part: &mut Option<(Self, usize)>,
     ) -> Option<(MessageOf<H, B>, usize)> {
-        message_at(room, piece, part)
-    }
-
-    #[inline(always)]
-    fn reuse(item: MessageOf<H, B>, room: &mut Room<H::Packet>) {
-        let MessageOf { content, .. } = item;
-        match content {
-            Content::Typed { packets, .. } => room.put_packets(packets.into_vec()),
-            Content::Kept { .. } => {}
-        }
+        message_at(alloc, piece, part)
     }
 
     #[inline]
@@ -153,7 +143,7 @@ impl<H: Head, B: Own<Front = H>> ItemRest for MessageRest<H, B> {
 /// piece had all of it. No clause promises this of its fields.
 #[derive(Drop)]
 pub struct ReaderOf<H: Head, B: Own<Front = H>> {
-    pub(crate) reader: ItemReader<MessageRest<H, B>>,
+    pub(crate) reader: ItemReader<MessageRest<H, B, H::Store>>,
 }
 
 impl<H: Head, B: Own<Front = H>> Model for ReaderOf<H, B> {
@@ -251,14 +241,5 @@ impl<H: Head, B: Own<Front = H>> ReaderOf<H, B> {
         ensures none { IsNone result → (self.new ≡ self.old) × ((m : Content H B H.Packet) → self.old ≢ finished m) }
     {
         self.reader.take_next()
-    }
-
-    /// Takes the memory of a message that is no longer needed for the next ones that the reader reads. The reader stays
-    /// as it was; no clause promises that it uses that memory.
-    #[inline(always)]
-    pub fn reuse(&mut self, message: MessageOf<H, B>)
-        ensures { self.new ≡ self.old }
-    {
-        self.reader.reuse(message);
     }
 }

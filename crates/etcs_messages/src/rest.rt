@@ -29,7 +29,7 @@ use std::marker::{Model, PhantomData};
 
 /// What is left of a message, and what is kept of the variables that were read.
 #[derive(Drop)]
-pub struct MessageRest<H: Head, B: Own<Front = H>> {
+pub struct MessageRest<H: Head, B: Own<Front = H>, S: PacketStore = <H as Head>::Store> {
     /// Which messages they are.
     kind: PhantomData<(H, B)>,
     /// NID_MESSAGE, once it was read.
@@ -38,24 +38,25 @@ pub struct MessageRest<H: Head, B: Own<Front = H>> {
     /// The numbers after L_MESSAGE and before the packets so far.
     pub(crate) front: ArrayVec<u64, 5>,
     /// The packets. The bits of a message that is kept are in their store.
-    pub(crate) packets: PacketsRest<H::Store>,
+    pub(crate) packets: PacketsRest<S>,
     /// The bits of PADDING so far, as a number.
     pub(crate) padding: u8,
     ghost stands: { IsTrue (stands_at H.Packet.WAY nid phase (length front.items) packets.left) },
+    ghost way_is: { H.Packet.WAY ≡ S.WAY },
 }
 
-impl<H: Head, B: Own<Front = H>> Model for MessageRest<H, B> {
+impl<H: Head, B: Own<Front = H>, S: PacketStore> Model for MessageRest<H, B, S> {
     ghost use Rattle.std.specs.Coded.{codes};
     ghost use Rattle.etcs_sequence.specs.contracts.state.PacketsState as packets_state;
     ghost use Rattle.etcs_messages.specs.Lefts.{MessageState, DataFits};
 
-    ghost Value = { MessageState H.Store };
+    ghost Value = { MessageState S };
 
     ghost coded = { Prim.hlevel (codes, packets_state.the_row.coded) };
 
     ghost view = { λ s. record { way = H.Packet.WAY; nid = s.nid; phase = s.phase; front = s.front.items; left = s.packets.left; padding = s.padding; store = s.packets.store; stands = s.stands } };
 
-    ghost invariant = { λ s. ∥ DataFits s.phase (H.Store.holds s.packets.store) ∥₁ };
+    ghost invariant = { λ s. ∥ DataFits s.phase (S.holds s.packets.store) ∥₁ };
 }
 
 /// What comes next if this many bits of a phase are left.
@@ -86,14 +87,15 @@ fn beyond_front(count: usize, at: usize, left: &PacketsState) -> Phase
     }
 }
 
-impl<H: Head, B: Own<Front = H>> MessageRest<H, B> {
+impl<H: Head, B: Own<Front = H>, S: PacketStore> MessageRest<H, B, S> {
     /// All of a message, and a store that holds no packet.
-    pub(crate) fn new(store: H::Store) -> MessageRest<H, B>
-        requires none { H.Store.holds store [] [] [] }
+    pub(crate) fn new(store: S) -> MessageRest<H, B, S>
+        requires way { H.Packet.WAY ≡ S.WAY }
+        requires none { S.holds store [] [] [] }
         ensures store { result.store ≡ store }
         ensures way { result.way ≡ H.Packet.WAY }
         ensures left { Same (Left result) (MessageLanguage H.Packet.WAY) }
-        ensures holds { HoldsIn H.Store.holds result [] }
+        ensures holds { HoldsIn S.holds result [] }
     {
         MessageRest {
             kind: PhantomData,
@@ -109,7 +111,7 @@ impl<H: Head, B: Own<Front = H>> MessageRest<H, B> {
     fn pass_number(&mut self, number: u64)
         requires phase { self.old.phase ≡ Phase.Number }
         requires goes { Starts (Left self.old) NID_MESSAGE 0 number }
-        ensures { Follows H.Store.holds self.old ((NID_MESSAGE, number) ∷ []) self.new }
+        ensures { Follows S.holds self.old ((NID_MESSAGE, number) ∷ []) self.new }
     {
         self.nid = number as u8;
         self.phase = Phase::Length;
@@ -119,7 +121,7 @@ impl<H: Head, B: Own<Front = H>> MessageRest<H, B> {
     fn pass_length(&mut self, number: u64)
         requires phase { self.old.phase ≡ Phase.Length }
         requires goes { Starts (Left self.old) L_MESSAGE 0 number }
-        ensures { Follows H.Store.holds self.old ((L_MESSAGE, number) ∷ []) self.new }
+        ensures { Follows S.holds self.old ((L_MESSAGE, number) ∷ []) self.new }
     {
         let bits = number as usize * 8;
         let way = H::Packet::WAY;
@@ -135,7 +137,7 @@ impl<H: Head, B: Own<Front = H>> MessageRest<H, B> {
     /// After a variable before the packets.
     fn pass_front(&mut self, at: usize, number: u64)
         requires phase { self.old.phase ≡ Phase.Front at }
-        ensures { (x : Var) → next_var self.old ≡ Some x → Starts (Left self.old) x 0 number → Follows H.Store.holds self.old ((x, number) ∷ []) self.new }
+        ensures { (x : Var) → next_var self.old ≡ Some x → Starts (Left self.old) x 0 number → Follows S.holds self.old ((x, number) ∷ []) self.new }
     {
         let count = match front_count(H::Packet::WAY, self.nid) {
             Some(count) => count,
@@ -151,8 +153,8 @@ impl<H: Head, B: Own<Front = H>> MessageRest<H, B> {
         requires phase { self.old.phase ≡ Phase.Packets }
         requires next { next_var self.old ≡ Some var }
         requires goes { Starts (Left self.old) var 0 number }
-        ensures ok { OnOk result (Follows H.Store.holds self.old ((var, number) ∷ []) self.new) }
-        ensures err { OnErr result (H.Store.fails × MayAsk self.old) }
+        ensures ok { OnOk result (Follows S.holds self.old ((var, number) ∷ []) self.new) }
+        ensures err { OnErr result (S.fails × MayAsk self.old) }
     {
         self.phase = Phase::Whole;
         let packets = &mut self.packets;
@@ -161,6 +163,98 @@ impl<H: Head, B: Own<Front = H>> MessageRest<H, B> {
         Ok(())
     }
 
+    /// Takes variables of the packets together if a piece has such, and returns how many bits they are.
+    fn leap_packets(&mut self, piece: &[u8], at: usize) -> Result<Option<usize>, AllocError>
+        requires phase { self.old.phase ≡ Phase.Packets }
+        requires inside { at < length (bits piece.now) }
+        requires small { length (bits piece.now) < 2 ^ 64 }
+        requires goes { Goes (Left self.old) }
+        ensures none { IfOk result (λ o. IsNone o → self.new ≡ self.old) }
+        ensures some { IfOk result (λ o. IfSome o (λ n. Leaps S.holds self.old self.new (bits piece.now) at n)) }
+        ensures err { OnErr result (S.fails × MayAsk self.old) }
+        ensures viable { OnErr result (Viable (Left self.old) (part at 1 (bits piece.now))) }
+    {
+        self.phase = Phase::Whole;
+        let packets = &mut self.packets;
+        let leapt = packets.leap(piece, at)?;
+        self.phase = after_packets(&packets.left);
+        Ok(leapt)
+    }
+
+    /// Takes bits of a message that is kept, of which `left` are left with them.
+    fn keep(&mut self, left: usize, slice: &BitSlice<'_>) -> Result<(), AllocError>
+        requires phase { self.old.phase ≡ Phase.Data left }
+        requires within { length slice.now ≤ left }
+        ensures ok { OnOk result (Follows S.holds self.old (kept OTHER_DATA slice.now) self.new) }
+        ensures goes { OnOk result (Goes (Left self.new)) }
+        ensures err { OnErr result (S.fails × MayAsk self.old) }
+    {
+        self.phase = Phase::Whole;
+        let packets = &mut self.packets;
+        packets.store.bits(slice)?;
+        let wanted = left - slice.len();
+        self.phase = after_bits(wanted, Phase::Data(wanted));
+        Ok(())
+    }
+
+    /// After a bit of a message that is kept, of which `left` were left with it.
+    fn pass_data(&mut self, left: usize, number: u64) -> Result<(), AllocError>
+        requires phase { self.old.phase ≡ Phase.Data left }
+        requires small { number < 2 }
+        ensures ok { OnOk result (Follows S.holds self.old ((OTHER_DATA, number) ∷ []) self.new) }
+        ensures err { OnErr result (S.fails × MayAsk self.old) }
+    {
+        let byte = [number as u8];
+        self.keep(left, &bits_at(&byte, 7, 1))
+    }
+
+    /// Takes a run of bits of a message that is kept, of which `left` are left with it, and returns how many they were.
+    fn leap_data(
+        &mut self,
+        left: usize,
+        piece: &[u8],
+        at: usize,
+    ) -> Result<Option<usize>, AllocError>
+        requires phase { self.old.phase ≡ Phase.Data left }
+        requires inside { at < length (bits piece.now) }
+        requires small { length (bits piece.now) < 2 ^ 64 }
+        ensures none { IfOk result (λ o. IsNone o → self.new ≡ self.old) }
+        ensures some { IfOk result (λ o. IfSome o (λ n. Leaps S.holds self.old self.new (bits piece.now) at n)) }
+        ensures err { OnErr result (S.fails × MayAsk self.old) }
+        ensures viable { OnErr result (Viable (Left self.old) (part at 1 (bits piece.now))) }
+    {
+        let run = run_at(piece, at, left);
+        self.keep(left, &run)?;
+        Ok(Some(run.len()))
+    }
+
+    /// Takes this many bits of PADDING, of which `left` are left with them, as a number.
+    fn pad(&mut self, left: usize, count: usize, number: u64)
+        requires phase { self.old.phase ≡ Phase.Padding left }
+        requires within { count ≤ left }
+        requires small { number < 2 ^ count }
+        ensures follows { Follows S.holds self.old (kept PADDING (num count number)) self.new }
+        ensures goes { Goes (Left self.new) }
+    {
+        self.padding = (self.padding << count) | number as u8;
+        let wanted = left - count;
+        self.phase = after_bits(wanted, Phase::Padding(wanted));
+    }
+
+    /// Takes the bits of PADDING that a piece has, of which `left` are left with them, and returns how many they were.
+    fn leap_padding(&mut self, left: usize, piece: &[u8], at: usize) -> usize
+        requires phase { self.old.phase ≡ Phase.Padding left }
+        requires inside { at < length (bits piece.now) }
+        requires small { length (bits piece.now) < 2 ^ 64 }
+        ensures { Leaps S.holds self.old self.new (bits piece.now) at result }
+    {
+        let count = left.min(piece.len() * 8 - at);
+        self.pad(left, count, number_at(piece, at, count));
+        count
+    }
+}
+
+impl<H: Head, B: Own<Front = H>> MessageRest<H, B, H::Store> {
     /// Whether the packets come next, in a room of this many bits, and none was read yet.
     pub(crate) fn is_at_packets(&self, room: usize) -> bool
         ensures phase { IsTrue result → self.now.phase ≡ Phase.Packets }
@@ -191,106 +285,16 @@ impl<H: Head, B: Own<Front = H>> MessageRest<H, B> {
         packets.resume(store, left);
         self.phase = after_packets(&packets.left);
     }
-
-    /// Takes variables of the packets together if a piece has such, and returns how many bits they are.
-    fn leap_packets(&mut self, piece: &[u8], at: usize) -> Result<Option<usize>, AllocError>
-        requires phase { self.old.phase ≡ Phase.Packets }
-        requires inside { at < length (bits piece.now) }
-        requires small { length (bits piece.now) < 2 ^ 64 }
-        requires goes { Goes (Left self.old) }
-        ensures none { IfOk result (λ o. IsNone o → self.new ≡ self.old) }
-        ensures some { IfOk result (λ o. IfSome o (λ n. Leaps H.Store.holds self.old self.new (bits piece.now) at n)) }
-        ensures err { OnErr result (H.Store.fails × MayAsk self.old) }
-        ensures viable { OnErr result (Viable (Left self.old) (part at 1 (bits piece.now))) }
-    {
-        self.phase = Phase::Whole;
-        let packets = &mut self.packets;
-        let leapt = packets.leap(piece, at)?;
-        self.phase = after_packets(&packets.left);
-        Ok(leapt)
-    }
-
-    /// Takes bits of a message that is kept, of which `left` are left with them.
-    fn keep(&mut self, left: usize, slice: &BitSlice<'_>) -> Result<(), AllocError>
-        requires phase { self.old.phase ≡ Phase.Data left }
-        requires within { length slice.now ≤ left }
-        ensures ok { OnOk result (Follows H.Store.holds self.old (kept OTHER_DATA slice.now) self.new) }
-        ensures goes { OnOk result (Goes (Left self.new)) }
-        ensures err { OnErr result (H.Store.fails × MayAsk self.old) }
-    {
-        self.phase = Phase::Whole;
-        let packets = &mut self.packets;
-        packets.store.bits(slice)?;
-        let wanted = left - slice.len();
-        self.phase = after_bits(wanted, Phase::Data(wanted));
-        Ok(())
-    }
-
-    /// After a bit of a message that is kept, of which `left` were left with it.
-    fn pass_data(&mut self, left: usize, number: u64) -> Result<(), AllocError>
-        requires phase { self.old.phase ≡ Phase.Data left }
-        requires small { number < 2 }
-        ensures ok { OnOk result (Follows H.Store.holds self.old ((OTHER_DATA, number) ∷ []) self.new) }
-        ensures err { OnErr result (H.Store.fails × MayAsk self.old) }
-    {
-        let byte = [number as u8];
-        self.keep(left, &bits_at(&byte, 7, 1))
-    }
-
-    /// Takes a run of bits of a message that is kept, of which `left` are left with it, and returns how many they were.
-    fn leap_data(
-        &mut self,
-        left: usize,
-        piece: &[u8],
-        at: usize,
-    ) -> Result<Option<usize>, AllocError>
-        requires phase { self.old.phase ≡ Phase.Data left }
-        requires inside { at < length (bits piece.now) }
-        requires small { length (bits piece.now) < 2 ^ 64 }
-        ensures none { IfOk result (λ o. IsNone o → self.new ≡ self.old) }
-        ensures some { IfOk result (λ o. IfSome o (λ n. Leaps H.Store.holds self.old self.new (bits piece.now) at n)) }
-        ensures err { OnErr result (H.Store.fails × MayAsk self.old) }
-        ensures viable { OnErr result (Viable (Left self.old) (part at 1 (bits piece.now))) }
-    {
-        let run = run_at(piece, at, left);
-        self.keep(left, &run)?;
-        Ok(Some(run.len()))
-    }
-
-    /// Takes this many bits of PADDING, of which `left` are left with them, as a number.
-    fn pad(&mut self, left: usize, count: usize, number: u64)
-        requires phase { self.old.phase ≡ Phase.Padding left }
-        requires within { count ≤ left }
-        requires small { number < 2 ^ count }
-        ensures follows { Follows H.Store.holds self.old (kept PADDING (num count number)) self.new }
-        ensures goes { Goes (Left self.new) }
-    {
-        self.padding = (self.padding << count) | number as u8;
-        let wanted = left - count;
-        self.phase = after_bits(wanted, Phase::Padding(wanted));
-    }
-
-    /// Takes the bits of PADDING that a piece has, of which `left` are left with them, and returns how many they were.
-    fn leap_padding(&mut self, left: usize, piece: &[u8], at: usize) -> usize
-        requires phase { self.old.phase ≡ Phase.Padding left }
-        requires inside { at < length (bits piece.now) }
-        requires small { length (bits piece.now) < 2 ^ 64 }
-        ensures { Leaps H.Store.holds self.old self.new (bits piece.now) at result }
-    {
-        let count = left.min(piece.len() * 8 - at);
-        self.pad(left, count, number_at(piece, at, count));
-        count
-    }
 }
 
-impl<H: Head, B: Own<Front = H>> Rest for MessageRest<H, B> {
+impl<H: Head, B: Own<Front = H>, S: PacketStore> Rest for MessageRest<H, B, S> {
     ghost left = { Left };
 
     ghost next = { next_var };
 
-    ghost follows = { Follows H.Store.holds };
+    ghost follows = { Follows S.holds };
 
-    ghost fails = { λ s. H.Store.fails × MayAsk s };
+    ghost fails = { λ s. S.fails × MayAsk s };
 
     #[inline(always)]
     fn var(&self) -> Option<Var> {
@@ -361,7 +365,7 @@ impl<H: Head, B: Own<Front = H>> Rest for MessageRest<H, B> {
 
     ghost residual = { λ s t p h. h.residual };
 
-    ghost none = { follows_none H.Store.holds };
+    ghost none = { follows_none S.holds };
 
-    ghost both = { follows_along H.Store.holds };
+    ghost both = { follows_along S.holds };
 }

@@ -147,7 +147,7 @@ fn send_numbers<S: VarSink>(
     Ok(())
 }
 
-impl<H: Head, B: Own<Front = H>> MessageRest<H, B> {
+impl<H: Head, B: Own<Front = H>> MessageRest<H, B, H::Store> {
     /// L_MESSAGE, if it was read, by how many bits the variables take that were read.
     fn bytes_by(&self, bits: usize) -> usize
         requires goes { Goes (Left self.now) }

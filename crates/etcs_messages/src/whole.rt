@@ -28,7 +28,7 @@ use etcs_bodies::ListOf;
 use etcs_packets::inner::AnyPacket;
 use etcs_reader::inner::pass_front;
 use etcs_rows::inner::Carrier;
-use etcs_sequence::inner::{Room, Run, bits_at, number_at, take_run};
+use etcs_sequence::inner::{Run, bits_at, number_at, take_run};
 use etcs_sequence::{ListStore, PacketCount, PacketList};
 use etcs_tables::{RowItem, Way, head_row, message_row};
 use etcs_vars::Var;
@@ -44,9 +44,9 @@ const LENGTH_BITS: usize = 10;
 /// piece begins with none, or if out of memory. Then it may put into `part` what is left of the item after the first
 /// bits of the piece, and how many these are.
 pub(crate) fn message_at<H: Head, B: Own<Front = H>>(
-    room: &mut Room<H::Packet>,
+    alloc: Global,
     piece: &[u8],
-    part: &mut Option<(MessageRest<H, B>, usize)>,
+    part: &mut Option<(MessageRest<H, B, H::Store>, usize)>,
 ) -> Option<(MessageOf<H, B>, usize)>
     requires small { length (bits piece.now) < 2 ^ 64 }
     requires part { IfSome part.old (λ t. IsMessagePart H.Store.holds H.Packet.WAY (bits piece.now) t.0 t.1) }
@@ -58,8 +58,8 @@ pub(crate) fn message_at<H: Head, B: Own<Front = H>>(
 {
     let (nid, bytes) = frame_at(piece)?;
     match front_bits(H::Packet::WAY, nid) {
-        Some(front) => Some((typed_at(room, nid, front, piece, bytes, part)?, bytes)),
-        None => Some((kept_at(room.alloc(), nid, piece, bytes)?, bytes)),
+        Some(front) => Some((typed_at(alloc, nid, front, piece, bytes, part)?, bytes)),
+        None => Some((kept_at(alloc, nid, piece, bytes)?, bytes)),
     }
 }
 
@@ -127,7 +127,7 @@ pub fn outline_of<H: Head, B: Own<Front = H>>(piece: &[u8]) -> Option<(Outline<'
 
 /// NID_MESSAGE and L_MESSAGE of the message that a piece begins with, if as many bytes lie in it.
 #[inline(always)]
-fn frame_at(piece: &[u8]) -> Option<(u8, usize)>
+pub(crate) fn frame_at(piece: &[u8]) -> Option<(u8, usize)>
     ensures small { IfSome result (λ t. t.0 < 2 ^ 8) }
     ensures number { IfSome result (λ t. num 8 t.0 ≡ bit_lists.part 0 8 (bits piece.now)) }
     ensures length { IfSome result (λ t. num 10 t.1 ≡ bit_lists.part 8 10 (bits piece.now)) }
@@ -178,12 +178,12 @@ fn kept_at<H: Head, B: Own<Front = H>>(
 /// The typed message of this number, with this many bits before its packets.
 #[inline(always)]
 fn typed_at<H: Head, B: Own<Front = H>>(
-    room: &mut Room<H::Packet>,
+    alloc: Global,
     nid: u8,
     front: usize,
     piece: &[u8],
     bytes: usize,
-    part: &mut Option<(MessageRest<H, B>, usize)>,
+    part: &mut Option<(MessageRest<H, B, H::Store>, usize)>,
 ) -> Option<MessageOf<H, B>>
     requires inside { 8 * bytes ≤ length (bits piece.now) }
     requires small { length (bits piece.now) < 2 ^ 64 }
@@ -202,12 +202,12 @@ fn typed_at<H: Head, B: Own<Front = H>>(
         return None;
     }
     let (head, body) = front_at(nid, bits_at(piece, 0, front))?;
-    let mut store = H::Store::over(room.take());
+    let mut store = H::Store::over(PacketList::new(alloc));
     let carrier = Carrier::Message(H::Packet::WAY);
     let left = match take_run(&mut store, carrier, end - front, piece, front)? {
         Run::All(left) => left,
         Run::First(left) => {
-            resume(room.alloc(), store, front, end, left, piece, part);
+            resume(alloc, store, front, end, left, piece, part);
             return None;
         }
     };
@@ -235,7 +235,7 @@ fn resume<H: Head, B: Own<Front = H>>(
     end: usize,
     left: usize,
     piece: &[u8],
-    part: &mut Option<(MessageRest<H, B>, usize)>,
+    part: &mut Option<(MessageRest<H, B, H::Store>, usize)>,
 )
     requires some { 0 < front }
     requires order { front ≤ end }

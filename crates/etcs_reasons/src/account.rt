@@ -18,7 +18,6 @@ use etcs_packets::inner::room_after;
 use etcs_radio::{Body, RadioHead};
 use etcs_reader::{Feeder, Rest, Stop};
 use etcs_sequence::ItemRest;
-use etcs_sequence::inner::Room;
 use etcs_telegram::Size;
 use etcs_telegram::inner::{TelegramRest, TelegramStore};
 use etcs_text::Kind;
@@ -284,9 +283,8 @@ fn bytes_or_account<R: Traced>(
     requires short { length bytes.now ≤ 1023 }
     ensures { IfOk result (λ o. MatchResult o (λ n. (v : R.Item) × IsOutcome (R.Reads size) (bits bytes.now) (done (R.value v) (8 * n))) (λ a. AccountsFor wanted (readings_of (R.Reads size)) a.fields.items a.end (bits bytes.now))) }
 {
-    let mut room = Room::new(alloc);
     let mut part = None;
-    if let Some((_item, taken)) = R::whole(&mut room, size, bytes, &mut part) {
+    if let Some((_item, taken)) = R::whole(alloc, size, bytes, &mut part) {
         return Ok(Ok(taken));
     }
     let account = account_of(alloc, size, bytes, part, wanted)?;

@@ -10,7 +10,6 @@ ghost use Rattle.etcs_sequence.specs.Refs.{ArePackets, spellings};
 pub use crate::first::first_item;
 use crate::packets_in::Packets;
 pub use crate::pieces::{bits_at, run_at};
-pub use crate::room::Room;
 pub use crate::run::{Run, left_by_lengths, take_run};
 pub use crate::seen::pass_whole;
 use etcs_bits::BitSlice;

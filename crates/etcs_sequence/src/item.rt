@@ -14,7 +14,6 @@ ghost use Rattle.etcs_sequence.specs.Readables.{Readable, IsPart, IsFed, IsItemR
 use crate::Held;
 use crate::fault::fault_by;
 use crate::list::PacketList;
-use crate::room::Room;
 use etcs_packets::inner::AnyPacket;
 use etcs_reader::{Feeder, Rest, Stop};
 use etcs_vars::inner::VarSink;
@@ -87,7 +86,7 @@ pub trait ItemRest: Rest + Drop {
     ///
     /// Requires that `part` is `None`, and that a word counts the bits of the piece.
     fn whole(
-        room: &mut Room<Self::Packet>,
+        alloc: Global,
         size: Self::Size,
         piece: &[u8],
         part: &mut Option<(Self, usize)>,
@@ -99,9 +98,6 @@ pub trait ItemRest: Rest + Drop {
         ensures reads { IfSome result (λ t. (r : Reading) × Reads size (value t.0) r × (spelled r ≡ bit_lists.part 0 (8 * t.1) (bit_lists.bits piece.now))) }
         ensures left { IfSome result (λ t. part.new ≡ None) }
         ensures part { IfSome part.new (λ t. IsPart Self.left Self.follows (holds size) (Reads size) (most size) (bit_lists.bits piece.now) t.0 t.1) };
-
-    /// Takes the room of an item that isn't needed any more. It has no contract.
-    fn reuse(item: Self::Item, room: &mut Room<Self::Packet>);
 
     /// Where the packets go.
     fn store(&self) -> &PacketList<Self::Packet>
@@ -137,8 +133,6 @@ pub struct ItemReader<R: ItemRest> {
     feeder: Feeder<R>,
     /// The item that was whole in the first piece, and how many bytes it has. The feeder took none of its bits.
     done: Option<(R::Item, usize)>,
-    /// Room for the next item.
-    room: Room<R::Packet>,
     /// What is left of the item after one pass over the first piece, and how many bits of the piece the pass took.
     /// `None` except while that piece is fed.
     part: Option<(R, usize)>,
@@ -244,12 +238,10 @@ impl<R: ItemRest> ItemReader<R> {
         requires holds { R.holds size rest [] }
         ensures { result ≡ record { size = size; progress = reading [] } }
     {
-        let alloc = rest.store().alloc;
         ItemReader {
             size,
             feeder: Feeder::new(rest),
             done: None,
-            room: Room::new(alloc),
             part: None,
         }
     }
@@ -305,7 +297,8 @@ impl<R: ItemRest> ItemReader<R> {
     {
         // A few bytes more than the longest item, so that looks at its last bits find whole words.
         let near = piece.len().min(R::most(self.size) + 8).min(MOST_NEAR);
-        match R::whole(&mut self.room, self.size, &piece[..near], &mut self.part) {
+        let alloc = self.feeder.rest().store().alloc;
+        match R::whole(alloc, self.size, &piece[..near], &mut self.part) {
             Some((item, taken)) => {
                 self.done = Some((item, taken));
                 Ok(Fed::Done { taken })
@@ -386,15 +379,6 @@ impl<R: ItemRest> ItemReader<R> {
             Some((item, _)) => Some(item),
             None => self.take_read(),
         }
-    }
-
-    /// Takes the room of an item that isn't needed any more for the next ones. The reader stays as it was; no clause
-    /// says that it uses the room.
-    #[inline(always)]
-    pub fn reuse(&mut self, item: R::Item)
-        ensures { self.new ≡ self.old }
-    {
-        R::reuse(item, &mut self.room);
     }
 
     /// As `take_next`, also of an item that was read variable by variable.

@@ -20,7 +20,6 @@ mod packet_ref;
 mod packets;
 mod packets_in;
 mod pieces;
-mod room;
 mod run;
 mod seen;
 mod sending;

@@ -34,3 +34,34 @@ pub trait ListStore<P: AnyPacket>: PacketStore + Drop {
     /// What it holds is in the list.
     ghost listed: { (s : Self) (vs : List PacketValue) (f : List ℕ) (k : List Bool) → Self.holds s vs f k → list_holds P.form (list s).packets.items (list s).numbers.items (list s).bits vs f k };
 }
+
+impl<P: AnyPacket> ListStore<P> for PacketList<P> {
+    ghost use Rattle.std.specs.Prelude.{◌≡◌, [], refl};
+    ghost use Rattle.etcs_sequence.specs.Held.{list_holds};
+
+    ghost list = { λ s. s };
+
+    #[inline(always)]
+    fn over(packets: PacketList<P>) -> PacketList<P>
+        requires packets { packets.packets.items ≡ [] }
+        requires numbers { packets.numbers.items ≡ [] }
+        requires bits { packets.bits ≡ [] }
+        ensures { list_holds P.form result.packets.items result.numbers.items result.bits [] [] [] }
+    {
+        packets
+    }
+
+    #[inline(always)]
+    fn list(&self) -> &PacketList<P> {
+        self
+    }
+
+    #[inline(always)]
+    fn into_list(self) -> PacketList<P> {
+        self
+    }
+
+    ghost way_is = { refl };
+
+    ghost listed = { λ s vs f k h. h };
+}

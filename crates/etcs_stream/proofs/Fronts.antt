@@ -1,9 +1,12 @@
 -- The front of some bytes, up to the end of an item or all of them.
 use Rattle.std.proofs.Common.{◌≡◌, ℕ, ◌+◌, ◌*◌, ◌<◌, ◌≤◌, Bool, List, [], ◌∷◌, ◌++◌, length, take, Ok, Option, Some, None, refl, ap, sym, subst, ◌∙◌, arith}
 use Rattle.std.specs.Prelude.{IfSome}
+use Rattle.std.proofs.lemmas.Option.{IfSome_then}
 use Rattle.etcs_bits.specs.Bits.{bits}
 use Rattle.etcs_vars.specs.declared.feed.Fed.TheVariants.{More, Done}
-use Rattle.etcs_vars.specs.Reading.{IsOutcome, done}
+use Rattle.etcs_vars.specs.declared.var.Var.{Var}
+use Rattle.etcs_vars.specs.Reading.{IsOutcome, done, readings_of, refused}
+use Rattle.etcs_vars.specs.Walking.{Refuses}
 use Rattle.etcs_text.specs.declared.entry.Kind.{Kind}
 use Rattle.etcs_text.specs.Entries.{EntryReads, EntryValue}
 use Rattle.etcs_runs.specs.declared.fault.RunFault.{RunFault}
@@ -19,6 +22,15 @@ use Rattle.etcs_stream.proofs.Streams.{Awaits-fresh, Halts-here, more_awaits, mo
 empty : (b : List Bool) → length b ≡ 0 → b ≡ []
 empty [] e = refl
 empty (x ∷ b) e = absurd (omega (arith, e))
+
+refused_front : (kind : Kind) (seen new : List Bool) (i : ℕ) (x : Var) → seen ≡ [] → IsOutcome (EntryReads kind) new (refused i x) → Refuses (readings_of (EntryReads kind)) (seen ++ new) i x
+refused_front kind seen new i x none o =
+    let here : Refuses (readings_of (EntryReads kind)) new i x = record { within = o.0.1; owned = o.1; blocked = o.0.2 } in
+    subst (λ (b : List Bool). Refuses (readings_of (EntryReads kind)) (b ++ new) i x) (sym none) here
+
+-- what is refused where no bits came before
+pub refused_fronts : (kind : Kind) (seen new : List Bool) (o : Option (ℕ × Var)) → length seen ≡ 0 → IfSome o (λ t. IsOutcome (EntryReads kind) new (refused t.0 t.1)) → IfSome o (λ t. Refuses (readings_of (EntryReads kind)) (seen ++ new) t.0 t.1)
+refused_fronts kind seen new o none there = IfSome_then o there (λ t h. refused_front kind seen new t.0 t.1 (empty seen none) h)
 
 fresh : (kind : Kind) (r : ReaderValue) → r.kind ≡ kind → r.progress ≡ reading [] → r ≡ record { kind = kind; progress = reading [] }
 fresh kind r k p i = record { kind = k i; progress = p i }

@@ -1,7 +1,10 @@
 //! The items of bytes, one after another.
 
 ghost use Rattle.std.specs.Prelude.{◌≡◌, ◌+◌, ◌<◌, ◌≤◌, ◌⊎◌, ◌++◌, ℕ, List, [], length, IfErr, IfOk, IfSome, IsNone, OnErr, OnOk};
-ghost use Rattle.etcs_text.specs.Entries.{EntryValue, entry_kind};
+ghost use Rattle.etcs_bits.specs.Bits.{bits};
+ghost use Rattle.etcs_vars.specs.Reading.{readings_of};
+ghost use Rattle.etcs_vars.specs.Walking.{Refuses};
+ghost use Rattle.etcs_text.specs.Entries.{EntryReads, EntryValue, entry_kind};
 ghost use Rattle.etcs_runs.specs.declared.fault.RunFault.{RunFault};
 ghost use Rattle.etcs_text.specs.Readers.{seen_bits, reading, finished};
 ghost use Rattle.etcs_stream.specs.Readers.{Awaits, HasRoom};
@@ -14,8 +17,9 @@ use etcs_packet_text::inner::Page;
 use etcs_runs::RunFault;
 use etcs_runs::inner::MOST_READ;
 use etcs_telegram::Size;
+use etcs_text::inner::refused_at;
 use etcs_text::{EntryReader, Kind};
-use etcs_vars::{Fed, ReadFault};
+use etcs_vars::{Fed, ReadFault, Var};
 use std::alloc::{AllocError, Global};
 
 /// How many items a run has at most.
@@ -171,13 +175,44 @@ impl ByteItems {
         }
         match take_seen(self.job, &self.reader, &mut self.printer, bytes, page) {
             Ok(Some(count)) => Ok(count),
-            Ok(None) => self.feed_reader(bytes, page),
+            Ok(None) => self.take_unseen(bytes, page),
             Err(fault) => Err(fault),
         }
     }
 
-    /// Gives bytes to the reader up to the end of an item, which it reports, or all of them, and returns how many.
+    /// As [`ByteItems::take_front`], where no item is seen.
     #[inline(never)]
+    fn take_unseen(&mut self, bytes: &[u8], page: &mut Page) -> Result<usize, RunFault>
+        requires some { 0 < length bytes.now }
+        requires waits { Awaits self.old.job.kind self.old.reader }
+        requires few { self.old.printer.count < 1000000 }
+        ensures job { self.new.job ≡ self.old.job }
+        ensures ok { IfOk result (λ n. TakesFront self.old.job self.old.reader self.new.reader self.old.printer self.new.printer bytes.now page.old page.new n) }
+        ensures err { IfErr result (λ e. Halts self.old.job.kind self.old.job.command (seen_bits self.old.reader.progress) self.old.printer bytes.now page.old page.new e × Says self.old.job.command self.old.printer self.new.printer page.old page.new) }
+    {
+        match self.refused_at(bytes) {
+            Some((bit, var)) => Err(RunFault::Refused {
+                item: self.printer.count() + 1,
+                bit,
+                var,
+            }),
+            None => self.feed_reader(bytes, page),
+        }
+    }
+
+    /// Where the next item is refused, found without a value of it, if the reader has begun none. It may always return
+    /// `None`, as it does of a group: each telegram of one is read, so none is read twice.
+    fn refused_at(&self, bytes: &[u8]) -> Option<(usize, Var)>
+        requires { Awaits self.now.job.kind self.now.reader }
+        ensures { IfSome result (λ t. Refuses (readings_of (EntryReads self.now.job.kind)) (seen_bits self.now.reader.progress ++ bits bytes.now) t.0 t.1) }
+    {
+        if self.job.command == Command::Group || self.reader.bits_seen() > 0 {
+            return None;
+        }
+        refused_at(self.job.kind, bytes)
+    }
+
+    /// Gives bytes to the reader up to the end of an item, which it reports, or all of them, and returns how many.
     fn feed_reader(&mut self, bytes: &[u8], page: &mut Page) -> Result<usize, RunFault>
         requires some { 0 < length bytes.now }
         requires waits { Awaits self.old.job.kind self.old.reader }
@@ -225,7 +260,7 @@ impl ByteItems {
             };
         }
         let printed = self.printer.print_alone(command, &entry, page);
-        self.reader.reuse(entry);
+        drop(entry);
         match printed {
             Ok(()) => Ok(()),
             Err(AllocError) => Err(RunFault::Memory),

@@ -14,7 +14,6 @@ use crate::telegram::Telegram;
 use crate::whole::telegram_at;
 use etcs_bodies::ListOf;
 use etcs_packets::Packet;
-use etcs_sequence::inner::Room;
 use etcs_sequence::{Held, ItemReader, ItemRest, PacketList};
 use etcs_vars::inner::VarSink;
 use etcs_vars::{Fed, ReadFault};
@@ -64,20 +63,13 @@ impl ItemRest for TelegramRest<TelegramStore> {
 
     #[inline(always)]
     fn whole(
-        room: &mut Room<Packet>,
+        alloc: Global,
         size: Size,
         piece: &[u8],
         part: &mut Option<(Self, usize)>,
     ) -> Option<(Telegram, usize)> {
-        let telegram = telegram_at(room, size, piece, part)?;
+        let telegram = telegram_at(alloc, size, piece, part)?;
         Some((telegram, size.container_bytes()))
-    }
-
-    #[inline(always)]
-    fn reuse(item: Telegram, room: &mut Room<Packet>) {
-        let Telegram { packets, fill, .. } = item;
-        room.put_packets(packets.into_vec());
-        room.put_bits(fill);
     }
 
     #[inline]
@@ -204,14 +196,5 @@ impl TelegramReader {
         ensures size { self.new.size ≡ self.old.size }
     {
         self.reader.take_next()
-    }
-
-    /// Takes the memory of a telegram that is no longer needed for the next ones that the reader reads. The reader
-    /// stays as it was; no clause promises that it uses that memory.
-    #[inline(always)]
-    pub fn reuse(&mut self, telegram: Telegram)
-        ensures { self.new ≡ self.old }
-    {
-        self.reader.reuse(telegram);
     }
 }

@@ -18,15 +18,15 @@ use etcs_bodies::ListOf;
 use etcs_packets::Packet;
 use etcs_reader::Rest;
 use etcs_rows::inner::Carrier;
-use etcs_sequence::inner::{Room, Run, bits_at, number_at, take_run};
-use etcs_sequence::{ItemRest, PacketCount, PacketStore};
+use etcs_sequence::inner::{Run, bits_at, number_at, take_run};
+use etcs_sequence::{ItemRest, PacketCount, PacketList, PacketStore};
 use std::alloc::Global;
 
 /// The telegram of this size that a piece begins with. It may always return `None`, as it does if the piece begins with
 /// none, or if out of memory. Then it may put into `part` what is left of the item after the first bits of the piece,
 /// and how many these are.
 pub(crate) fn telegram_at(
-    room: &mut Room<Packet>,
+    alloc: Global,
     size: Size,
     piece: &[u8],
     part: &mut Option<(TelegramRest<TelegramStore>, usize)>,
@@ -40,13 +40,13 @@ pub(crate) fn telegram_at(
     ensures part { IfSome part.new (λ t. IsTelegramPart size (bits piece.now) t.0 t.1) }
 {
     let header = front_of(size, piece)?;
-    let list = room.take();
+    let list = PacketList::new(alloc);
     let mut store = TelegramStore { list };
     let bits = size.packet_room();
     let left = match take_run(&mut store, Carrier::Telegram, bits, piece, HEADER_BITS)? {
         Run::All(left) => left,
         Run::First(left) => {
-            resume(room.alloc(), size, piece, store, left, part);
+            resume(alloc, size, piece, store, left, part);
             return None;
         }
     };

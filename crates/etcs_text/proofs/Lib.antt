@@ -3,6 +3,7 @@ pub mod ItemKinds
 pub mod JsonExamples
 pub mod MessageExamples
 pub mod MessageTexts
+pub mod Refusals
 pub mod SeenItems
 pub mod TelegramTexts
 pub mod TextLengths

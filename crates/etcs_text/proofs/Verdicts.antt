@@ -22,7 +22,7 @@ use Rattle.etcs_text.specs.Verdicts.{IsItem, IsBegun, IsVerdict}
 pub fresh_feeds : (kind : Kind) (r : ReaderValue) (new : List Bool) (answer : Result Fed ReadFault) (at : Progress) → r ≡ record { kind = kind; progress = reading [] } → ((seen : List Bool) → r.progress ≡ reading seen → Feeds (EntryReads r.kind) seen new answer at) → Feeds (EntryReads kind) [] new answer at
 fresh_feeds kind r new answer at is f = subst (λ (k : Kind). Feeds (EntryReads k) [] new answer at) (ap (λ (z : ReaderValue). z.kind) is) (f [] (ap (λ (z : ReaderValue). z.progress) is))
 
-none_of : (kind : Kind) (bytes : List ℕ) → NoneYet (readings_of (EntryReads kind)) (bits bytes) → (e : EntryValue) → IsItem kind bytes e → ⊥
+pub none_of : (kind : Kind) (bytes : List ℕ) → NoneYet (readings_of (EntryReads kind)) (bits bytes) → (e : EntryValue) → IsItem kind bytes e → ⊥
 none_of kind bytes none e (r, reads, is) = none (length (bits bytes)) (omega arith) (r, (e, reads), is ∙ sym (take-length (bits bytes)))
 
 pub none_of_more : (kind : Kind) (bytes : List ℕ) (at : Progress) → Feeds (EntryReads kind) [] (bits bytes) (Ok More) at → (e : EntryValue) → IsItem kind bytes e → ⊥

@@ -111,18 +111,4 @@ impl EntryReader {
             Inner::Train(reader) => Ok(Entry::Train(reader.take_next().ok_or(())?)),
         }
     }
-
-    /// Takes the memory of an item that is no longer needed for the next ones. The reader stays as it was; no clause
-    /// promises that it uses that memory.
-    #[inline(always)]
-    pub fn reuse(&mut self, entry: Entry)
-        ensures { self.new ≡ self.old }
-    {
-        match (&mut self.inner, entry) {
-            (Inner::Telegram(reader), Entry::Telegram(telegram)) => reader.reuse(telegram),
-            (Inner::Message(reader), Entry::Message(message)) => reader.reuse(message),
-            (Inner::Train(reader), Entry::Train(message)) => reader.reuse(message),
-            _ => {}
-        }
-    }
 }

@@ -15,6 +15,7 @@ pub mod inner;
 mod item_lines;
 mod json_lines;
 mod messages;
+mod refused;
 mod seen;
 mod show;
 mod verdict;

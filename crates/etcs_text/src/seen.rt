@@ -12,9 +12,8 @@ use crate::encodings::are_bytes;
 use etcs_messages::inner::message_seen;
 use etcs_telegram::Size;
 
-/// The most bytes of an item that is seen. Longer messages are left to the exact reader: one that is refused near its end
-/// would be read twice, and cost more than any other.
-pub(crate) const MOST_SEEN: usize = 900;
+/// The most bytes of an item, and so of one that is seen.
+pub(crate) const MOST_SEEN: usize = 1023;
 
 /// How many bytes an item of the kind has with which these bytes begin, if it lies whole in them. It may always return
 /// `None`, also if they begin with an item. Takes no memory.

@@ -105,13 +105,4 @@ impl SingleReader {
         renew(&mut self.reader, self.alloc, self.kind);
         verdict
     }
-
-    /// Takes the memory of an item that is no longer needed for the next ones. The reader stays as it was; no clause
-    /// promises that it uses that memory.
-    #[inline(always)]
-    pub fn reuse(&mut self, entry: Entry)
-        ensures { self.new ≡ self.old }
-    {
-        self.reader.reuse(entry);
-    }
 }

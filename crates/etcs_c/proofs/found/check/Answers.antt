@@ -1,13 +1,8 @@
 use Rattle.std.proofs.Common.{ℕ, ◌*◌, ap, inl, sym}
-use Rattle.etcs_bits.specs.Bits.{bits}
 use Rattle.etcs_vars.specs.Reading.{done}
-use Rattle.etcs_c.proofs.Checking.{found_said}
 use Rattle.etcs_c.proofs.found.check.Goals as goal
 
 pub returns-in-Some : goal.returns-in-Some
 returns-in-Some c =
     let item = c.in-Some.ensures.item in
     inl (done item.0 (8 * c.in-Some.taken), item.1, (c.accept.ensures.status, ap (λ (n : ℕ). 8 * n) (sym c.accept.ensures.taken)))
-
-pub returns-in-None : goal.returns-in-None
-returns-in-None c = found_said c.args.kind (bits c.args.bytes.now) c.find.result c.say.result c.say.new.answer c.find.ensures c.say.ensures

@@ -14,10 +14,10 @@ pub invariant_of-self-inside-2 : goal.invariant_of-self-inside-2
 invariant_of-self-inside-2 g c =
     let i = c.self.inside in
     let l' = c.leap.new.self.left in
-    let holds = g.H.Store.PacketSink.holds in
+    let holds = g.S.PacketSink.holds in
     let s = state g.H.Packet.AnyPacket.WAY i.nid i.phase i.front.items i.packets.left i.padding i.packets.store i.stands in
     let by = steps i.packets.left l' (holds i.packets.store) (holds c.leap.new.self.store) (bits c.args.piece.now) c.args.at c.in_ok-leapt.leapt (λ none. let same = c.in_ok-leapt.ensures.none none in (ap (λ (p : PacketsRest _ _). p.left) same, ap (λ (p : PacketsRest _ _). holds p.store) same)) c.in_ok-leapt.ensures.some in
-    (packets_stands s c.after_packets-self-inside.result l' by.0 (rw (← c.self.view_is) at c.requires.phase) c.after_packets-self-inside.ensures by.1.0, tt)
+    (packets_stands s c.after_packets-self-inside.result l' by.0 (rw (← c.self.view_is) at c.requires.phase) c.after_packets-self-inside.ensures by.1.0, (c.self.inside.way_is, tt))
 
 pub returns-clause-some : goal.returns-clause-some
 returns-clause-some g c =
@@ -26,7 +26,7 @@ returns-clause-some g c =
     let s = state g.H.Packet.AnyPacket.WAY i.nid i.phase i.front.items i.packets.left i.padding i.packets.store i.stands in
     let l' = c.leap.new.self.left in
     let e = c.after_packets-self-inside.ensures in
-    let holds = g.H.Store.PacketSink.holds in
+    let holds = g.S.PacketSink.holds in
     let phase : i.phase ≡ Packets = rw (← v) at c.requires.phase in
     rw (← v)
     (leaps_on i.packets.left l' (holds i.packets.store) (holds c.leap.new.self.store) (bits c.args.piece.now) c.args.at c.in_ok-leapt.leapt (λ goes. rw e (packets_all g.H.Packet.AnyPacket.WAY i.nid l' goes))

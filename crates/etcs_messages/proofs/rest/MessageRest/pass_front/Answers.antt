@@ -14,7 +14,7 @@ invariant_of-self-inside g c =
     let to : c.beyond_front-next.result ≡ beyond_front (length (front_vars g.H.Packet.AnyPacket.WAY i.nid)) next l = c.beyond_front-next.ensures ∙ ap (λ n. beyond_front n next l) (front_counted g.H.Packet.AnyPacket.WAY i.nid c.in-Some.count (rw c.WAY.ensures at c.in-Some.ensures)) in
     let parts = front_parts s c.args.at (rw (← c.self.view_is) at c.requires.phase) in
     let count : length (i.front.items ++ c.args.number ∷ []) ≡ next = length-append i.front.items (c.args.number ∷ []) ∙ ap (λ n. n + 1) parts.1 in
-    (rw (to, c.push.ensures.items) (front_stands g.H.Packet.AnyPacket.WAY i.nid next (length (i.front.items ++ c.args.number ∷ [])) l count parts.2), tt)
+    (rw (to, c.push.ensures.items) (front_stands g.H.Packet.AnyPacket.WAY i.nid next (length (i.front.items ++ c.args.number ∷ [])) l count parts.2), (c.self.inside.way_is, tt))
 
 pub returns : goal.returns
 returns g c =

@@ -18,14 +18,14 @@ invariant_of-self-inside g c =
     let s = state g.H.Packet.AnyPacket.WAY i.nid i.phase i.front.items i.packets.left i.padding i.packets.store i.stands in
     let (vs, found, wide) = front_there front_bits (front_row g.H.Packet.AnyPacket.WAY i.nid) c.in-Some.front (rw c.WAY-way.ensures at c.in-Some.ensures) in
     let room = c.args.number * 8 - c.in-Some.front in
-    (begun_stands g.H.Packet.AnyPacket.WAY i.nid (length i.front.items) vs l' (ap some_row found) (front_short g.H.Packet.AnyPacket.WAY i.nid vs found).0 (begin_parts s (rw (← c.self.view_is) at c.requires.phase)).0 (begun_message g.H.Packet.AnyPacket.WAY l' room (rw c.WAY-way.ensures at c.start.ensures.carrier) c.start.ensures.ahead (rw c.WAY-way.ensures at c.start.ensures.left)), tt)
+    (begun_stands g.H.Packet.AnyPacket.WAY i.nid (length i.front.items) vs l' (ap some_row found) (front_short g.H.Packet.AnyPacket.WAY i.nid vs found).0 (begin_parts s (rw (← c.self.view_is) at c.requires.phase)).0 (begun_message g.H.Packet.AnyPacket.WAY l' room (rw c.WAY-way.ensures at c.start.ensures.carrier) c.start.ensures.ahead (rw c.WAY-way.ensures at c.start.ensures.left)), (c.self.inside.way_is, tt))
 
 pub invariant_of-self-in-None : goal.invariant_of-self-in-None
 invariant_of-self-in-None g c =
     let i = c.self.inside in
     let v = c.self.view_is in
     let s = state g.H.Packet.AnyPacket.WAY i.nid i.phase i.front.items i.packets.left i.padding i.packets.store i.stands in
-    let holds = g.H.Store.PacketSink.holds i.packets.store in
+    let holds = g.S.PacketSink.holds i.packets.store in
     let found = no_front front_bits (front_row g.H.Packet.AnyPacket.WAY i.nid) (rw c.WAY-way.ensures at c.in-None.ensures) in
     let bits : 8 * c.args.number - 18 ≡ c.args.number * 8 - 18 = omega arith in
     ∥∥₁_map c.self.invariant (λ h. subst (λ n. DataFits (phase.Data n) holds) bits (begun_fits s holds c.args.number (rw (← v) at c.requires.phase) found (rw (← v) at c.requires.goes) h))
@@ -50,4 +50,4 @@ returns-in-Some g c =
     rw (← v) (typed_follows _ _ _ _ _ len vs (rw (← v) at c.requires.phase) found (rw (← v) at c.requires.goes) bits left c.start.ensures.held)
 
 pub start-requires-clause-way : goal.start-requires-clause-way
-start-requires-clause-way g c = c.WAY-way.ensures ∙ g.met.H.Store.ListStore.way_is
+start-requires-clause-way g c = c.WAY-way.ensures ∙ c.self.inside.way_is

@@ -12,8 +12,8 @@ returns-then-count-eq-MOST_ITEMS-clause-err c =
     stops_here s.job s.reader s.printer c.args.bytes.now _ c.requires.waits s.printer _ fault.Endless c.requires.reported refl (omega arith)
     (sym c.count.ensures ∙ c.if-count-eq-MOST_ITEMS.true, omega (arith, length-append (seen_bits s.reader.progress) (bits c.args.bytes.now), length-bits c.args.bytes.now, c.requires.some))
 
-pub feed_reader-requires-clause-few : goal.feed_reader-requires-clause-few
-feed_reader-requires-clause-few c =
+pub take_unseen-requires-clause-few : goal.take_unseen-requires-clause-few
+take_unseen-requires-clause-few c =
     let (same, page) = (rw c.in-Ok-None.field-0-is at c.in-Ok-None.ensures.none) refl in
     rw same (omega (arith, c.requires.reported, c.count.ensures, c.if-count-eq-MOST_ITEMS.false))
 
@@ -23,9 +23,9 @@ returns-in-Ok-Some-clause-ok c = rw c.in-Ok-Some.field-0-is at c.in-Ok-Some.ensu
 pub returns-in-Ok-None-clause-ok : goal.returns-in-Ok-None-clause-ok
 returns-in-Ok-None-clause-ok c =
     let (same, page) = (rw c.in-Ok-None.field-0-is at c.in-Ok-None.ensures.none) refl in
-    rw (same, page) at c.feed_reader.ensures.ok
+    rw (same, page) at c.take_unseen.ensures.ok
 
 pub returns-in-Ok-None-clause-err : goal.returns-in-Ok-None-clause-err
 returns-in-Ok-None-clause-err c =
     let (same, page) = (rw c.in-Ok-None.field-0-is at c.in-Ok-None.ensures.none) refl in
-    rw (same, page) at c.feed_reader.ensures.err
+    rw (same, page) at c.take_unseen.ensures.err

@@ -5,7 +5,7 @@ use Rattle.etcs_messages.specs.declared.phase.Phase.TheVariants.{Packets}
 use Rattle.etcs_messages.proofs.RestStands.{packets_parts, packets_stands}
 use Rattle.etcs_messages.proofs.RestSteps.{packets_all}
 use Rattle.etcs_messages.proofs.RestHolds.{state, packets_follow}
-use Rattle.etcs_messages.proofs.rest.MessageRest.resume.Goals as goal
+use Rattle.etcs_messages.proofs.rest.MessageRest+H+B+H+Store.resume.Goals as goal
 
 pub resume-requires-clause-run : goal.resume-requires-clause-run
 resume-requires-clause-run g c =
@@ -22,7 +22,7 @@ invariant_of-self-inside g c =
     let carrier : i.packets.left.carrier ≡ Message g.H.Packet.AnyPacket.WAY = rw (← v) at (packets_parts c.args.self.now c.requires.phase).0 in
     let (xs, at, run) = c.requires.run in
     let leap = c.resume.ensures xs at (rw carrier (rw (← v) at run)) in
-    (packets_stands s c.after_packets-self-inside.result c.resume.new.self.left leap.whole (rw (← v) at c.requires.phase) c.after_packets-self-inside.ensures leap.follows.0, tt)
+    (packets_stands s c.after_packets-self-inside.result c.resume.new.self.left leap.whole (rw (← v) at c.requires.phase) c.after_packets-self-inside.ensures leap.follows.0, (c.self.inside.way_is, tt))
 
 pub returns : goal.returns
 returns g c =

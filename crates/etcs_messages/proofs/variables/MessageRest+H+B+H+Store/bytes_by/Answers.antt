@@ -4,7 +4,7 @@ use Rattle.std.specs.Option.{unwrap_or}
 use Rattle.etcs_messages.specs.Lefts.{front_row, front_bits}
 use Rattle.etcs_messages.proofs.RestHolds.{state}
 use Rattle.etcs_messages.proofs.Sending.{begins_few, begins_bytes, front_begins, data_begins, rest_bytes}
-use Rattle.etcs_messages.proofs.rest.MessageRest.bytes_by.Goals as goal
+use Rattle.etcs_messages.proofs.variables.MessageRest+H+B+H+Store.bytes_by.Goals as goal
 
 pub overflow_add-result-in-Data : goal.overflow_add-result-in-Data
 overflow_add-result-in-Data g c =

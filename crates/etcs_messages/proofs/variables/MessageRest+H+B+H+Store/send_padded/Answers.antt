@@ -1,5 +1,5 @@
 use Rattle.std.proofs.Common.{arith}
-use Rattle.etcs_messages.proofs.rest.MessageRest.send_padded.Goals as goal
+use Rattle.etcs_messages.proofs.variables.MessageRest+H+B+H+Store.send_padded.Goals as goal
 
 pub send_padding-requires : goal.send_padding-requires
 send_padding-requires g c =

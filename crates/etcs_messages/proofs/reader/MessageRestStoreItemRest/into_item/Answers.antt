@@ -5,9 +5,9 @@ use Rattle.etcs_messages.specs.Lefts.{front_row}
 use Rattle.etcs_messages.specs.Messages.{IsMessage}
 use Rattle.etcs_messages.proofs.Listing.{held_in_list}
 use Rattle.etcs_messages.proofs.Wholes.{whole_numbers, whole_reads}
-use Rattle.etcs_messages.proofs.reader.MessageRestItemRest.into_item.Goals as goal
-use Rattle.etcs_messages.proofs.reader.MessageRestItemRest.into_item.Goals.{After-content_of-content}
-use Rattle.etcs_messages.proofs.reader.MessageRestItemRest.into_item.Given.{Over}
+use Rattle.etcs_messages.proofs.reader.MessageRestStoreItemRest.into_item.Goals as goal
+use Rattle.etcs_messages.proofs.reader.MessageRestStoreItemRest.into_item.Goals.{After-content_of-content}
+use Rattle.etcs_messages.proofs.reader.MessageRestStoreItemRest.into_item.Given.{Over}
 
 pub content_of-content-requires : goal.content_of-content-requires
 content_of-content-requires g c =

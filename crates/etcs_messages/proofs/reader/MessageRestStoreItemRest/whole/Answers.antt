@@ -2,7 +2,7 @@ use Rattle.std.proofs.Common.{◌≡◌, ℕ, ◌*◌, ◌≤◌, Some, None, le
 use Rattle.std.specs.Prelude.{Option, IfSome}
 use Rattle.etcs_bits.specs.Bits.{bits}
 use Rattle.etcs_bits.proofs.Positions.{length-bits}
-use Rattle.etcs_messages.proofs.reader.MessageRestItemRest.whole.Goals as goal
+use Rattle.etcs_messages.proofs.reader.MessageRestStoreItemRest.whole.Goals as goal
 
 -- eight bits a byte
 within_bits : {A : Type 0} (o : Option (A × ℕ)) (n m : ℕ) → m ≡ 8 * n → IfSome o (λ t. t.1 ≤ n) → IfSome o (λ t. 8 * t.1 ≤ m)

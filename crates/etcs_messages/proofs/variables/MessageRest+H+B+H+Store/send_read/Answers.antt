@@ -12,9 +12,9 @@ use Rattle.etcs_messages.proofs.Fronts.{front_there}
 use Rattle.etcs_messages.proofs.Listing.{in_list, held_in_list}
 use Rattle.etcs_messages.proofs.RestHolds.{state}
 use Rattle.etcs_messages.proofs.Sending.{all_sent, packets, read_so_far, packets_read, padding_read, whole_read, front_read, packets_way, packets_go, packets_here, Padded}
-use Rattle.etcs_messages.proofs.rest.MessageRest.send_read.Goals as goal
-use Rattle.etcs_messages.proofs.rest.MessageRest.send_read.Goals.{In_ok-send_numbers}
-use Rattle.etcs_messages.proofs.rest.MessageRest.send_read.Given.{Over}
+use Rattle.etcs_messages.proofs.variables.MessageRest+H+B+H+Store.send_read.Goals as goal
+use Rattle.etcs_messages.proofs.variables.MessageRest+H+B+H+Store.send_read.Goals.{In_ok-send_numbers}
+use Rattle.etcs_messages.proofs.variables.MessageRest+H+B+H+Store.send_read.Given.{Over}
 
 module _ (g : Over) (c : In_ok-send_numbers g) where
   abbrev message : MessageState g.row.H-Store.Denot

@@ -18,8 +18,8 @@ import time
 from collections import defaultdict
 
 # Minutes of `rt ci` by the clock from nothing, on an Intel Xeon of 2.5 GHz that does nothing else, as in docs/DEVELOPING.md:
-# cores, free memory in GB, minutes. The first was measured, the others are modelled from it.
-TIMES = [(4, 20, 82), (4, 14, 119), (2, 20, 115), (2, 14, 128)]
+# cores, free memory in GB, minutes. Those with 20 GB were measured, the others are modelled.
+TIMES = [(4, 20, 82), (4, 14, 119), (2, 20, 111), (2, 14, 128)]
 MOST = 5_000_000_000  # bytes
 TICKS = os.sysconf("SC_CLK_TCK")
 

@@ -9,4 +9,6 @@ pub mod Joins
 mod KeptBytes
 pub mod LowestBits
 pub mod WordSinks
+pub mod BitPages
+mod Sends
 pub mod Words

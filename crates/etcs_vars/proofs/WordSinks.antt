@@ -18,7 +18,7 @@ use Rattle.etcs_vars.specs.declared.word_sink.WordSink.{WordSink}
 use Rattle.etcs_vars.specs.Joins.{Joins}
 use Rattle.etcs_vars.specs.Words.{with_front}
 use Rattle.etcs_vars.specs.WordSinks.{pushed, with_word, and_bit, and_bits, bits_so_far, IsWritten}
-use Rattle.etcs_vars.specs.laws.WordSinks.{and_both, spelled_both}
+use Rattle.etcs_vars.specs.laws.WordSinks.{and_both}
 
 -- ---- One bit more.
 
@@ -121,6 +121,20 @@ front_bits bytes at word count small inside few =
     ∙ sym (append_assoc front b (bits rest)) in
     ap (take (8 * at + 8 * count)) all ∙ take_at (front ++ b) (bits rest) (8 * at + 8 * count) (omega (arith, length-append front b, size, wide))
 
+-- only the first of the word's bits
+pub front_first : (bytes : List ℕ) (at word count n : ℕ) → word < 2 ^ 64 → at ≤ length bytes → count ≤ 8 → n ≤ 8 * count → take (8 * at + n) (bits (with_front bytes at word count)) ≡ take (8 * at) (bits bytes) ++ take n (num 64 word)
+front_first bytes at word count n small inside few enough =
+    let all = 8 * at + 8 * count in
+    let front = take (8 * at) (bits bytes) in
+    let b = take (8 * count) (num 64 word) in
+    let size : length front ≡ 8 * at = length-take-le (8 * at) (bits bytes) (omega (arith, length-bits bytes, inside)) in
+    let place : 8 * at + n ≡ length front + n = omega (arith, size) in
+    sym (take-take (8 * at + n) all (bits (with_front bytes at word count)) (omega (arith, enough)))
+    ∙ ap (take (8 * at + n)) (front_bits bytes at word count small inside few)
+    ∙ ap (λ (k : ℕ). take k (front ++ b)) place
+    ∙ take-append-add front b n
+    ∙ ap (λ (l : List Bool). front ++ l) (take-take n (8 * count) (num 64 word) enough)
+
 front_length : (bytes : List ℕ) (at word : ℕ) → at + 8 ≤ length bytes → length (with_front bytes at word 8) ≡ length bytes
 front_length bytes at word room =
     let first = take at bytes in
@@ -204,20 +218,10 @@ none_written s all = λ room. no_more (8 * s.at) (bits s.bytes.now) s.word (omeg
 pub last_written : (s : WordSink) (bytes : List ℕ) (word count : ℕ) → s.at < length s.bytes.now → count ≡ min (length s.bytes.now - s.at) 8 → word < 2 ^ 64 → take (length s.word) (num 64 word) ≡ s.word → length s.word < 64 → bytes ≡ with_front s.bytes.now s.at word count → IsWritten s bytes
 last_written s bytes word count some most small is few e = λ room.
     let n = length s.word in
-    let at = 8 * s.at in
-    let all = at + 8 * count in
-    let old = bits s.bytes.now in
-    let front = take at old in
-    let b = take (8 * count) (num 64 word) in
-    let enough : n ≤ 8 * count = omega (arith, room, most, few) in
-    let size : length front ≡ at = length-take-le at old (omega (arith, length-bits s.bytes.now, some)) in
-    let place : at + n ≡ length front + n = omega (arith, size) in
-    sym (take-take (at + n) all (bits bytes) (omega (arith, enough)))
-    ∙ ap (λ (l : List ℕ). take (at + n) (take all (bits l))) e
-    ∙ ap (take (at + n)) (front_bits s.bytes.now s.at word count small (omega (arith, some)) (omega (arith, most)))
-    ∙ ap (λ (k : ℕ). take k (front ++ b)) place
-    ∙ take-append-add front b n
-    ∙ ap (λ (l : List Bool). front ++ l) (take-take n (8 * count) (num 64 word) enough ∙ is)
+    let front = take (8 * s.at) (bits s.bytes.now) in
+    ap (λ (l : List ℕ). take (8 * s.at + n) (bits l)) e
+    ∙ front_first s.bytes.now s.at word count n small (omega (arith, some)) (omega (arith, most)) (omega (arith, room, most, few))
+    ∙ ap (λ (l : List Bool). front ++ l) is
 
 -- ---- How many bits a word has.
 
@@ -315,22 +319,3 @@ joins_some (p ∷ sent) (suc count) wide number j =
     let rest = spelled (take count sent) in
     let size : wide ≡ length (new ++ rest) = j.width_is in
     omega (arith, size, length-append new rest, length-num (width p.0) p.1, width_pos p.0)
-
--- variables after others
-pub send_more : (s one two : WordSink) (sent : Reading) (done n : ℕ) → one ≡ and_bits s (spelled (take done sent)) → two ≡ and_bits one (spelled (take n (drop done sent))) → two ≡ and_bits s (spelled (take (done + n) sent))
-send_more s one two sent done n e f =
-    let a = take done sent in
-    let b = take n (drop done sent) in
-    f
-    ∙ ap (λ (t : WordSink). and_bits t (spelled b)) e
-    ∙ sym (spelled_both s a b)
-    ∙ ap (λ (r : Reading). and_bits s (spelled r)) (sym (take-add done n sent))
-
-pub send_rest : (s one two : WordSink) (sent : Reading) (n : ℕ) → one ≡ and_bits s (spelled (take n sent)) → two ≡ and_bits one (spelled (take (length sent - n) (drop n sent))) → two ≡ and_bits s (spelled sent)
-send_rest s one two sent n e f =
-    let whole : take (length sent - n) (drop n sent) ≡ drop n sent = take_all (length sent - n) (drop n sent) (omega (arith, length-drop n sent)) in
-    f
-    ∙ ap (λ (r : Reading). and_bits one (spelled r)) whole
-    ∙ ap (λ (t : WordSink). and_bits t (spelled (drop n sent))) e
-    ∙ sym (spelled_both s (take n sent) (drop n sent))
-    ∙ ap (λ (r : Reading). and_bits s (spelled r)) (take-append-drop n sent)

@@ -59,7 +59,7 @@ zeros_top w n most =
 top_below : (w n : ℕ) → top w n < 2 ^ 64
 top_below w n = omega arith
 
-top_bits : (w n : ℕ) → w ≤ 64 → take w (num 64 (top w n)) ≡ num w n
+pub top_bits : (w n : ℕ) → w ≤ 64 → take w (num 64 (top w n)) ≡ num w n
 top_bits w n most =
     let all : 64 ≡ w + (64 - w) = omega (arith, most) in
     ap (λ (k : ℕ). take w (num k (top w n))) all

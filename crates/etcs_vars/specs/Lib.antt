@@ -5,4 +5,5 @@ pub mod Faults
 pub mod laws
 pub mod Joins
 pub mod WordSinks
+pub mod BitPages
 pub mod Words

@@ -1,3 +1,4 @@
 pub mod Sinks
 pub mod Spellings
 pub mod WordSinks
+pub mod BitPages

@@ -143,7 +143,7 @@ impl<'a> WordSink<'a> {
 
 /// Writes the first bytes of a word over those from one on.
 #[inline(always)]
-fn write_front(bytes: &mut [u8], at: usize, word: u64, count: usize)
+pub(crate) fn write_front(bytes: &mut [u8], at: usize, word: u64, count: usize)
     requires word { count ≤ 8 }
     requires inside { at + count ≤ length bytes.old }
     ensures { bytes.new ≡ with_front bytes.old at word count }

@@ -7,6 +7,7 @@ pub mod OneItems
 pub mod OneStored
 pub mod OwnStored
 pub mod PlainTrees
+pub mod PutItems
 pub mod Shapes
 pub mod TakenTexts
 pub mod TelegramTrees

@@ -5,20 +5,17 @@ ghost use Rattle.serde_json.specs.Data.{Items, array};
 ghost use Rattle.serde_json.specs.View.{items_view, view};
 ghost use Rattle.etcs_bits.specs.Bits.{bits};
 ghost use Rattle.etcs_vars.specs.declared.var.Var.{Var};
-ghost use Rattle.etcs_vars.specs.Reading.{IsOutcome, Reading, refused, spelled};
-ghost use Rattle.etcs_text.specs.Entries.{EntryReads, EntryValue, Spells, entry_value, kind_of};
+ghost use Rattle.etcs_vars.specs.Reading.{Reading, spelled};
+ghost use Rattle.etcs_text.specs.Entries.{EntryValue, Spells, entry_value};
 ghost use Rattle.etcs_text.specs.declared.entry.Kind.{Kind};
-ghost use Rattle.etcs_text.specs.declared.entry.Kind.TheVariants as kind_is;
 ghost use Rattle.etcs_json.specs.Loose.{HasLength, HasStandIns, LooseRefused, LooseSays, LooseSpells, StandsFor, TreeRefused, TreeSays, packets_of, way_of};
 ghost use Rattle.etcs_json_trees.specs.TreeReading.{ArePacketTrees};
 ghost use Rattle.etcs_json.specs.TreeReading.{IsTreeOf};
 
 use crate::fault::JsonFault;
+use crate::from_bytes::spelled;
 use etcs_json_trees::inner::{are_named, rename};
-use etcs_radio::MessageReader;
-use etcs_telegram::{Size, TelegramReader};
 use etcs_text::{Entry, Kind, encoded};
-use etcs_vars::ReadFault;
 use etcs_vars::inner::Variables;
 use serde_json::Value;
 use std::alloc::Global;
@@ -83,7 +80,7 @@ fn renamed(alloc: Global, kind: Kind, entry: &Entry, trees: &[Value]) -> Result<
         return Err(JsonFault::Memory);
     }
     rename_item(bytes.as_mut_slice(), entry, trees);
-    read(alloc, kind, bytes.as_slice())
+    spelled(alloc, kind, bytes.as_slice())
 }
 
 /// Puts the numbers of these trees in the item's bytes.
@@ -99,70 +96,5 @@ fn rename_item(bytes: &mut [u8], entry: &Entry, trees: &[Value])
             }
         }
         Entry::Train(_) => {}
-    }
-}
-
-/// The item of these bytes.
-///
-/// # Errors
-///
-/// `Refused` if they are no item's; `Memory` if out of memory.
-fn read(alloc: Global, kind: Kind, bytes: &[u8]) -> Result<Entry, JsonFault>
-    requires kind { kind ≢ Kind.Train }
-    requires length { HasLength kind (bits bytes.now) }
-    ensures ok { IfOk result (λ e. (r : Reading) × EntryReads kind (entry_value e) r × (spelled r ≡ bits bytes.now)) }
-    ensures refused { (i : ℕ) (x : Var) → result ≡ Err (JsonFault.Refused i x) → IsOutcome (EntryReads kind) (bits bytes.now) (refused i x) }
-    ensures shape { result ≢ Err JsonFault.Shape }
-{
-    match kind {
-        Kind::Long => read_telegram(alloc, Size::Long, bytes),
-        Kind::Short => read_telegram(alloc, Size::Short, bytes),
-        Kind::Radio => read_message(alloc, bytes),
-        Kind::Train => unreachable!(),
-    }
-}
-
-/// The telegram of these bytes, as for [`read`].
-fn read_telegram(alloc: Global, size: Size, bytes: &[u8]) -> Result<Entry, JsonFault>
-    requires { HasLength (kind_of size) (bits bytes.now) }
-    ensures ok { IfOk result (λ e. (r : Reading) × EntryReads (kind_of size) (entry_value e) r × (spelled r ≡ bits bytes.now)) }
-    ensures refused { (i : ℕ) (x : Var) → result ≡ Err (JsonFault.Refused i x) → IsOutcome (EntryReads (kind_of size)) (bits bytes.now) (refused i x) }
-    ensures shape { result ≢ Err JsonFault.Shape }
-{
-    let mut reader = TelegramReader::new(alloc, size);
-    if let Err(fault) = reader.feed(bytes) {
-        return Err(fault_of(fault));
-    }
-    match reader.take() {
-        Ok(telegram) => Ok(Entry::Telegram(telegram)),
-        Err(_) => unreachable!(),
-    }
-}
-
-/// The message of these bytes, as for [`read`].
-fn read_message(alloc: Global, bytes: &[u8]) -> Result<Entry, JsonFault>
-    requires { HasLength kind_is.Radio (bits bytes.now) }
-    ensures ok { IfOk result (λ e. (r : Reading) × EntryReads kind_is.Radio (entry_value e) r × (spelled r ≡ bits bytes.now)) }
-    ensures refused { (i : ℕ) (x : Var) → result ≡ Err (JsonFault.Refused i x) → IsOutcome (EntryReads kind_is.Radio) (bits bytes.now) (refused i x) }
-    ensures shape { result ≢ Err JsonFault.Shape }
-{
-    let mut reader = MessageReader::new(alloc);
-    if let Err(fault) = reader.feed(bytes) {
-        return Err(fault_of(fault));
-    }
-    match reader.take() {
-        Ok(message) => Ok(Entry::Message(message)),
-        Err(_) => unreachable!(),
-    }
-}
-
-/// The fault that a reader's fault becomes here.
-fn fault_of(fault: ReadFault) -> JsonFault
-    ensures refused { (i : ℕ) (x : Var) → result ≡ JsonFault.Refused i x → fault ≡ ReadFault.Refused i x }
-    ensures shape { result ≢ JsonFault.Shape }
-{
-    match fault {
-        ReadFault::Refused { bit, var } => JsonFault::Refused { bit, var },
-        ReadFault::Memory | ReadFault::Ended => JsonFault::Memory,
     }
 }

@@ -9,11 +9,10 @@ ghost use Rattle.etcs_json.specs.Loose.{HasStandIns, IsLoose, TreeRefused, TreeS
 ghost use Rattle.etcs_json.specs.TreeReading.{IsTreeOf};
 
 use crate::carried::stored;
+use crate::exact::exact_item;
 use crate::fault::JsonFault;
 use crate::from_message::message_in;
 use crate::from_telegram::telegram_in;
-use crate::written::written_item;
-use etcs_json_trees::inner::Miss;
 use etcs_json_trees::tree_of;
 use etcs_telegram::Size;
 use etcs_text::{Entry, Kind};
@@ -67,10 +66,10 @@ pub fn from_line(alloc: Global, kind: Kind, line: &[u8]) -> Result<Entry, JsonFa
     ensures refused { (i : ℕ) (x : Var) → result ≡ Err (JsonFault.Refused i x) → SaysRefused kind line.now i x }
     ensures shape { result ≡ Err JsonFault.Shape → (o : EntryValue) → IsLoose kind o → OfLine (λ d. IsTreeOf o d) line.now → ⊥ }
 {
-    match written_item(alloc, kind, line) {
-        Ok(entry) => Ok(entry),
-        Err(Miss::Shape) => from_any_line(alloc, kind, line),
-        Err(Miss::Memory) => Err(JsonFault::Memory),
+    match exact_item(alloc, kind, line) {
+        Ok(Some(entry)) => Ok(entry),
+        Ok(None) => from_any_line(alloc, kind, line),
+        Err(_) => Err(JsonFault::Memory),
     }
 }
 

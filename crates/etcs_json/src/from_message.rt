@@ -57,7 +57,7 @@ fn body_in<H: Head, B: Own<Front = H>>(
 }
 
 /// The typed message of these parts and this many bits of PADDING, whose number is given, if there is one.
-pub(crate) fn typed_by<H: Head, B: Own<Front = H>>(
+fn typed_by<H: Head, B: Own<Front = H>>(
     head: H,
     body: B,
     packets: Vec<H::Packet>,
@@ -83,7 +83,7 @@ pub(crate) fn typed_by<H: Head, B: Own<Front = H>>(
 }
 
 /// The message of these parts that is kept as bits, if there is one.
-pub(crate) fn kept_by<H: Head, B: Own<Front = H>>(nid: u8, bits: Bits) -> Option<MessageOf<H, B>>
+fn kept_by<H: Head, B: Own<Front = H>>(nid: u8, bits: Bits) -> Option<MessageOf<H, B>>
     ensures some { IfSome result (λ m. message_value H.Packet.WAY H.head B.own H.Packet.form m ≡ kept_message nid bits) }
     ensures reads { IfSome result (λ m. (r : Reading) × MessageReads H.Packet.WAY (message_value H.Packet.WAY H.head B.own H.Packet.form m) r) }
     ensures only { (r : Reading) → KeptReads H.Packet.WAY nid bits r → IsSome result }

@@ -32,12 +32,7 @@ fn header_in(alloc: Global, value: &Value) -> Result<Option<Header>, AllocError>
 }
 
 /// The telegram of these parts, if there is one.
-pub(crate) fn telegram_by(
-    size: Size,
-    header: Header,
-    packets: Vec<Packet>,
-    fill: Bits,
-) -> Option<Telegram>
+fn telegram_by(size: Size, header: Header, packets: Vec<Packet>, fill: Bits) -> Option<Telegram>
     requires header { IsAdmitted (header_reading header) }
     requires packets { All IsPacket (map packet_value packets.items) }
     ensures some { IfSome result (λ t. telegram_value t ≡ record { size = size; header = header; packets = map packet_value packets.items; fill = fill }) }

@@ -13,13 +13,16 @@
 #![tactic(auto)]
 
 mod carried;
+mod exact;
 mod fault;
+mod from_bytes;
 mod from_entries;
 mod from_message;
 mod from_telegram;
+pub mod inner;
 pub mod laws;
+mod line;
 mod trees;
-mod written;
 
 pub use etcs_text::{Entry, Kind};
 pub use etcs_vars::Var;

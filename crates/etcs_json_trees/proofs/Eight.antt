@@ -1,5 +1,5 @@
 -- Eight digits 0 and 1 as a word.
-use Rattle.std.proofs.Common.{◌≡◌, ℕ, zero, suc, ◌+◌, ◌*◌, ◌/◌, ◌%◌, ◌^◌, ◌<◌, ◌≤◌, ◌==◌, Bool, true, ◌&&◌, inl, inr, List, [], ◌∷◌, length, map, get_or, replicate, refl, sym, ap, subst, ◌∙◌, arith, w64}
+use Rattle.std.proofs.Common.{◌≡◌, ℕ, zero, suc, ◌+◌, ◌*◌, ◌/◌, ◌%◌, ◌^◌, ◌<◌, ◌≤◌, ◌==◌, Bool, true, ◌&&◌, inl, inr, List, [], ◌∷◌, length, map, get_or, replicate, refl, sym, ap, subst, ◌∙◌, arith, w32, w64}
 use Rattle.std.specs.Prelude.{bit_and}
 use Rattle.std.specs.Int.{from_le_bytes}
 use Rattle.std.proofs.lemmas.Bool.{and_parts, cases_lt, eqb-true}
@@ -105,6 +105,9 @@ eight_bits bs e =
     ∙ ap (num 8) (below 256 (value bs) packed_all small)
     ∙ same
 
+pub eight_small : (word : ℕ) → bit_and word 0x0101010101010101 * 0x8040201008040201 % 2 ^ 64 / 2 ^ 56 < 256
+eight_small word = omega arith
+
 pub eight_digits : (ds : List ℕ) (word : ℕ) → length ds ≡ 8 → ((k : ℕ) → get_or ds k 0 < 256) → word ≡ from_le_bytes w64 ds → bit_and word 0xfefefefefefefefe ≡ 0x3030303030303030 → ds ≡ map bit_digit (num 8 (bit_and word 0x0101010101010101 * 0x8040201008040201 % 2 ^ 64 / 2 ^ 56))
 unfolding packed
 eight_digits ds word long small is e =
@@ -128,3 +131,15 @@ same_bytes (x ∷ xs) (y ∷ ys) e hx hy h =
 
 pub same_word : (xs ys : List ℕ) → length xs ≡ 8 → length ys ≡ 8 → ((k : ℕ) → get_or xs k 0 < 256) → ((k : ℕ) → get_or ys k 0 < 256) → from_le_bytes w64 xs ≡ from_le_bytes w64 ys → xs ≡ ys
 same_word xs ys ex ey hx hy h = same_bytes xs ys (ex ∙ sym ey) hx hy (sym (word_is xs ex) ∙ h ∙ word_is ys ey)
+
+half_is : (ds : List ℕ) → length ds ≡ 4 → from_le_bytes w32 ds ≡ number ds
+unfolding number
+half_is [] e = absurd (omega arith)
+half_is (a ∷ []) e = absurd (omega arith)
+half_is (a ∷ b ∷ []) e = absurd (omega arith)
+half_is (a ∷ b ∷ c ∷ []) e = absurd (omega arith)
+half_is (a ∷ b ∷ c ∷ d ∷ []) e = omega arith
+half_is (a ∷ b ∷ c ∷ d ∷ f ∷ ds) e = absurd (omega arith)
+
+pub same_half : (xs ys : List ℕ) → length xs ≡ 4 → length ys ≡ 4 → ((k : ℕ) → get_or xs k 0 < 256) → ((k : ℕ) → get_or ys k 0 < 256) → from_le_bytes w32 xs ≡ from_le_bytes w32 ys → xs ≡ ys
+same_half xs ys ex ey hx hy h = same_bytes xs ys (ex ∙ sym ey) hx hy (sym (half_is xs ex) ∙ h ∙ half_is ys ey)

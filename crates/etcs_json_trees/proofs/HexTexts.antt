@@ -8,7 +8,7 @@ use Rattle.std.proofs.Math.Seq.{drop-append_seam}
 use Rattle.std.proofs.lemmas.Bool.{agree_below_at, eqb-true, eqb-false}
 use Rattle.std.proofs.lemmas.Grind.{pow_more}
 use Rattle.std.proofs.lemmas.Int.Digits.{digits_value_push}
-use Rattle.std.proofs.lemmas.List.{length_push, length-append, take_more, take_all, take_at, take-append-drop}
+use Rattle.std.proofs.lemmas.List.{drop-drop, drop_more, get_or-drop, length_push, take_more, take_all, take_at, take-append-drop}
 use Rattle.std.proofs.lemmas.List.Elements.{All-nil, All-push}
 use Rattle.etcs_packet_text.specs.Show.{hex_digit, hex_digits}
 use Rattle.etcs_json_trees.specs.PairTexts.{hex_text}
@@ -85,22 +85,48 @@ pub text_value : (n : ℕ) → n < 2 ^ 64 → digits_value 16 (hex_text n) ≡ n
 unfolding hex_text
 text_value n h = hex_value 16 n (omega (arith, h))
 
--- ---- Digits in quotes, and a bracket.
+-- ---- Digits in quotes from a place on, and a bracket.
 
-pub quoted_parts : (n : ℕ) (text quoted s : List ℕ) → text ≡ 34 ∷ quoted → text ≡ 34 ∷ ((hex_text n ++ 34 ∷ []) ++ 93 ∷ s) → (16 ≤ length quoted) × (take 16 quoted ≡ hex_text n) × (drop 16 quoted ≡ 34 ∷ 93 ∷ s)
-quoted_parts n text quoted s e f =
-    let same : quoted ≡ hex_text n ++ 34 ∷ 93 ∷ s = ap (drop 1) (sym e ∙ f) ∙ append_assoc (hex_text n) (34 ∷ []) (93 ∷ s) in
-    let long = length_text n in (
-      omega (arith, ap length same, length-append (hex_text n) (34 ∷ 93 ∷ s), long),
-      ap (take 16) same ∙ take_at (hex_text n) (34 ∷ 93 ∷ s) 16 long,
-      ap (drop 16) same ∙ ap (λ (k : ℕ). drop k (hex_text n ++ 34 ∷ 93 ∷ s)) (sym long) ∙ drop-append_seam (hex_text n) (34 ∷ 93 ∷ s),
+byte_at : (text s : List ℕ) (k b : ℕ) → drop k text ≡ b ∷ s → get_or text k 0 ≡ b
+byte_at text s k b e =
+    ap (λ (i : ℕ). get_or text i 0) (omega arith)
+    ∙ sym (get_or-drop k text 0 0)
+    ∙ ap (λ (z : List ℕ). get_or z 0 0) e
+
+after_quote : (text : List ℕ) (at k : ℕ) → drop k (drop (at + 1) text) ≡ drop (at + 1 + k) text
+after_quote text at k = drop-drop k (at + 1) text
+
+pub quoted_parts : (text s : List ℕ) (at n : ℕ) → drop at text ≡ 34 ∷ ((hex_text n ++ 34 ∷ []) ++ 93 ∷ s) → (get_or text at 0 ≡ 34) × (get_or text (at + 17) 0 ≡ 34) × (get_or text (at + 18) 0 ≡ 93) × (take 16 (drop (at + 1) text) ≡ hex_text n)
+quoted_parts text s at n e =
+    let digits = hex_text n in
+    let long = length_text n in
+    let after : drop (at + 1) text ≡ digits ++ 34 ∷ 93 ∷ s = sym (drop-drop 1 at text) ∙ ap (drop 1) e ∙ append_assoc digits (34 ∷ []) (93 ∷ s) in
+    let end : drop (at + 1 + 16) text ≡ 34 ∷ 93 ∷ s =
+    sym (after_quote text at 16)
+    ∙ ap (drop 16) after
+    ∙ ap (λ (k : ℕ). drop k (digits ++ 34 ∷ 93 ∷ s)) (sym long)
+    ∙ drop-append_seam digits (34 ∷ 93 ∷ s) in
+    let last : drop (at + 1 + 16 + 1) text ≡ 93 ∷ s = sym (drop-drop 1 (at + 1 + 16) text) ∙ ap (drop 1) end in (
+      byte_at text _ at 34 e,
+      ap (λ (k : ℕ). get_or text k 0) (omega arith) ∙ byte_at text _ (at + 1 + 16) 34 end,
+      ap (λ (k : ℕ). get_or text k 0) (omega arith) ∙ byte_at text _ (at + 1 + 16 + 1) 93 last,
+      ap (take 16) after ∙ take_at digits (34 ∷ 93 ∷ s) 16 long,
     )
 
-pub quoted_whole : (n : ℕ) (text quoted digits after more : List ℕ) → text ≡ 34 ∷ quoted → digits ≡ take 16 quoted → after ≡ drop 16 quoted → digits ≡ hex_text n → after ≡ 34 ∷ 93 ∷ more → text ≡ 34 ∷ ((hex_text n ++ 34 ∷ []) ++ 93 ∷ more)
-quoted_whole n text quoted digits after more e front back d a =
-    e
-    ∙ ap (λ (t : List ℕ). 34 ∷ t)
-    (sym (take-append-drop 16 quoted)
-    ∙ ap (λ (t : List ℕ). t ++ drop 16 quoted) (sym front ∙ d)
-    ∙ ap (λ (t : List ℕ). hex_text n ++ t) (sym back ∙ a)
-    ∙ sym (append_assoc (hex_text n) (34 ∷ []) (93 ∷ more)))
+byte_there : (text : List ℕ) (k b : ℕ) → k < length text → get_or text k 0 ≡ b → drop k text ≡ b ∷ drop (k + 1) text
+byte_there text k b inside e = drop_more text k 0 inside ∙ ap (λ (x : ℕ). x ∷ drop (k + 1) text) e
+
+pub quoted_whole : (text : List ℕ) (at n : ℕ) → at + 19 ≤ length text → get_or text at 0 ≡ 34 → get_or text (at + 17) 0 ≡ 34 → get_or text (at + 18) 0 ≡ 93 → take 16 (drop (at + 1) text) ≡ hex_text n → drop at text ≡ 34 ∷ ((hex_text n ++ 34 ∷ []) ++ 93 ∷ drop (at + 19) text)
+quoted_whole text at n inside first second last digits =
+    let rest = drop (at + 19) text in
+    let end : drop (at + 17) text ≡ 34 ∷ 93 ∷ rest =
+    byte_there text (at + 17) 34 (omega (arith, inside)) second
+    ∙ ap (λ (k : ℕ). 34 ∷ drop k text) (omega arith)
+    ∙ ap (λ (z : List ℕ). 34 ∷ z) (byte_there text (at + 18) 93 (omega (arith, inside)) last)
+    ∙ ap (λ (k : ℕ). 34 ∷ 93 ∷ drop k text) (omega arith) in
+    let after : drop (at + 1) text ≡ hex_text n ++ 34 ∷ 93 ∷ rest =
+    sym (take-append-drop 16 (drop (at + 1) text))
+    ∙ ap (λ (z : List ℕ). z ++ drop 16 (drop (at + 1) text)) digits
+    ∙ ap (λ (z : List ℕ). hex_text n ++ z) (after_quote text at 16 ∙ ap (λ (k : ℕ). drop k text) (omega arith) ∙ end) in
+    byte_there text at 34 (omega (arith, inside)) first
+    ∙ ap (λ (z : List ℕ). 34 ∷ z) (after ∙ sym (append_assoc (hex_text n) (34 ∷ []) (93 ∷ rest)))

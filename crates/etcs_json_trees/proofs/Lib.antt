@@ -21,7 +21,8 @@ pub mod Parts
 pub mod HexTexts
 pub mod Eight
 pub mod NumberTexts
-pub mod Packing
+pub mod DigitBits
 pub mod PairTrees
+pub mod PairRows
 pub mod WrittenPackets
 pub mod WrittenRows

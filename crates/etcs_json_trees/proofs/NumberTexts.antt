@@ -1,7 +1,7 @@
 -- Digits that are read one by one.
 use Rattle.std.proofs.Common.{◌≡◌, ℕ, ◌+◌, ◌*◌, ◌/◌, ◌%◌, ◌^◌, ◌<◌, List, [], ◌∷◌, ◌++◌, map, refl, sym, ap, ◌∙◌, arith, append_assoc}
 use Rattle.std.specs.Fmt.{decimal}
-use Rattle.std.proofs.lemmas.Fmt.{decimal_digit, decimal_step}
+use Rattle.std.proofs.lemmas.Fmt.{decimal_step}
 use Rattle.std.proofs.lemmas.Nat.{pow-add}
 use Rattle.std.proofs.lemmas.List.{map-append}
 use Rattle.etcs_bits.specs.Bits.{num, bit}
@@ -9,9 +9,6 @@ use Rattle.etcs_bits.proofs.Numbers.{bit-eqb, num-add}
 use Rattle.etcs_packet_text.specs.Show.{bit_digit}
 
 -- ---- A number in decimal.
-
-pub one_digit : (text left : List ℕ) (byte d : ℕ) → text ≡ byte ∷ left → d < 10 → byte ≡ 48 + d → text ≡ decimal d ++ left
-one_digit text left byte d h small e = h ∙ ap (λ (x : ℕ). x ∷ left) e ∙ ap (λ (z : List ℕ). z ++ left) (sym (decimal_digit d small))
 
 digit_after : (n m d : ℕ) → 0 < n → d < 10 → m ≡ n * 10 + d → m < 2 ^ 64 → decimal m ≡ decimal n ++ (48 + d) ∷ []
 digit_after n m d some small e fits =

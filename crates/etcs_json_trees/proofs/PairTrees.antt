@@ -1,6 +1,5 @@
 -- The text of pairs is that of their trees.
-use Rattle.std.proofs.Common.{◌≡◌, ℕ, Bool, true, false, List, [], ◌∷◌, ◌++◌, map, refl, sym, ap, ◌∙◌, append_assoc, decimal}
-use Rattle.std.specs.Prelude.{codes}
+use Rattle.std.proofs.Common.{◌≡◌, ℕ, Bool, true, false, List, [], ◌∷◌, ◌++◌, map, refl, sym, ap, ◌∙◌, append_assoc}
 use Rattle.json.specs.Print.{escape, escape_byte, quoted}
 use Rattle.serde_json.specs.View.{items_of}
 use Rattle.serde_json.specs.Written.{comma_if, compact_text, items_text}
@@ -12,8 +11,7 @@ use Rattle.etcs_bodies.specs.Taking.{named_as, in_hexadecimal}
 use Rattle.etcs_packet_text.specs.Show.{hex_digits}
 use Rattle.etcs_packet_text.specs.Trees.{number_tree, pair_tree, pairs_tree}
 use Rattle.etcs_packet_text.proofs.PlainTexts.{plain_hex, quoted_plain}
-use Rattle.etcs_json_trees.specs.PairTexts.{hex_text, number_text, name_front, pair_text, listed_text, pairs_text, named_in}
-use Rattle.etcs_json_trees.specs.laws.PairTexts.{is_written}
+use Rattle.etcs_json_trees.specs.PairTexts.{hex_text, number_text, name_front, pair_text, listed_text, pairs_text}
 
 -- ---- One pair.
 
@@ -54,6 +52,6 @@ listed_items later (x ∷ r) =
     ∙ ap (λ (z : List ℕ). comma_if later ++ (z ++ (more ++ 93 ∷ []))) (pair_is x)
     ∙ ap (λ (z : List ℕ). comma_if later ++ (compact_text (pair_tree x) ++ z)) (listed_items true r)
 
--- the pairs of a text in their brackets
-pub pairs_are : (t : List ℕ) (r : Reading) → map named_as r ≡ named_in t → 91 ∷ (t ++ 93 ∷ []) ≡ compact_text (pairs_tree r)
-pairs_are t r e = ap (λ (z : List ℕ). 91 ∷ (z ++ 93 ∷ [])) (is_written t r (sym e)) ∙ ap (λ (z : List ℕ). 91 ∷ z) (listed_items false r)
+-- a list of pairs in its brackets
+pub pairs_are : (r : Reading) → 91 ∷ (pairs_text (map named_as r) ++ 93 ∷ []) ≡ compact_text (pairs_tree r)
+pairs_are r = ap (λ (z : List ℕ). 91 ∷ z) (listed_items false r)

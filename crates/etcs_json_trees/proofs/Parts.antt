@@ -1,42 +1,21 @@
 -- Texts that begin with others.
-use Rattle.std.proofs.Common.{◌≡◌, ℕ, ◌+◌, ◌-◌, ◌<◌, ◌≤◌, ◌⊎◌, inl, inr, true, false, nat_eq, List, [], ◌∷◌, ◌++◌, length, take, drop, Option, None, Some, Bor, refl, sym, ap, ◌∙◌, arith}
-use Rattle.std.specs.Prelude.{IfSome, IfNone, bytes_eq}
-use Rattle.std.specs.Bool.{Decides}
-use Rattle.std.specs.Option.{MatchOption}
-use Rattle.std.proofs.lemmas.Bool.{cases_lt, eqb-true, eq-eqb}
-use Rattle.std.proofs.lemmas.Slice.Eq.{strip_prefix_is}
-use Rattle.std.proofs.lemmas.List.{length-take-le, length-drop, take_all, take_at, take-append-drop, take-take, drop-take, length-append}
-
--- ---- What an answer says.
-
-pub none_then : {X : Type 0} (o : Option X) {P Q : Type 0} → IfNone o P → (P → Q) → IfNone o Q
-none_then None h f = f h
-none_then (Some x) h f = tt
-
--- ---- What is after a front.
-
-abbrev Strips : List ℕ → List ℕ → Option (Bor (List ℕ)) → Type 0
-Strips s p r = MatchOption r (bytes_eq (take (length p) s) p ≡ false) (λ x. (bytes_eq (take (length p) s) p ≡ true) × (x.now ≡ drop (length p) s) × (length x.now + length p ≡ length s))
-
-one : (a b : ℕ) → Decides (nat_eq a b) (a ≡ b)
-one a b = (eqb-true a b, eq-eqb a b)
-
-pub stripped : (s p : List ℕ) (r : Option (Bor (List ℕ))) → Strips s p r → IfSome r (λ x. s ≡ p ++ x.now)
-stripped s p None m = tt
-stripped s p (Some x) m = strip_prefix_is {A = ℕ} {E = nat_eq} one s p (Some x) m
-
-pub not_stripped : (s p : List ℕ) (r : Option (Bor (List ℕ))) → Strips s p r → IfNone r ((t : List ℕ) → s ≡ p ++ t → ⊥)
-not_stripped s p None m = strip_prefix_is {A = ℕ} {E = nat_eq} one s p None m
-not_stripped s p (Some x) m = tt
+use Rattle.std.proofs.Common.{◌≡◌, ℕ, ◌+◌, ◌-◌, ◌<◌, ◌≤◌, ◌⊎◌, inl, inr, List, [], ◌∷◌, ◌++◌, length, get_or, take, drop, refl, sym, ap, ◌∙◌, arith, append_assoc, decimal}
+use Rattle.std.proofs.Math.Seq.{drop-append_seam, take-append-add}
+use Rattle.std.proofs.lemmas.Bool.{cases_lt}
+use Rattle.std.proofs.lemmas.List.{drop_more, drop-take, get_or-take, length-append, length-drop, length-take-le, take_all, take_at, take-append-drop, take-take}
+use Rattle.etcs_vars.specs.declared.var.Var.{Var}
+use Rattle.etcs_vars.specs.declared.var.Var.TheVariants.{Q_UPDOWN}
+use Rattle.etcs_vars.specs.Vars.{name}
+use Rattle.etcs_json_trees.specs.PairTexts.{name_front}
 
 -- ---- First bytes.
 
 pub fewer_alike : (m k : ℕ) (xs ys : List ℕ) → m ≤ k → take k xs ≡ take k ys → take m xs ≡ take m ys
 fewer_alike m k xs ys h e = sym (take-take m k xs h) ∙ ap (take m) e ∙ take-take m k ys h
 
-pub part_alike : (at len : ℕ) (xs ys : List ℕ) → at + 8 ≤ len → take len xs ≡ take len ys → take 8 (drop at xs) ≡ take 8 (drop at ys)
-part_alike at len xs ys h e =
-    sym (drop-take at 8 xs) ∙ ap (drop at) (fewer_alike (at + 8) len xs ys h e) ∙ drop-take at 8 ys
+pub part_alike : (w at len : ℕ) (xs ys : List ℕ) → at + w ≤ len → take len xs ≡ take len ys → take w (drop at xs) ≡ take w (drop at ys)
+part_alike w at len xs ys h e =
+    sym (drop-take at w xs) ∙ ap (drop at) (fewer_alike (at + w) len xs ys h e) ∙ drop-take at w ys
 
 two_parts : (a b : ℕ) (xs : List ℕ) → take (a + b) xs ≡ take a xs ++ take b (drop a xs)
 two_parts a b xs =
@@ -44,47 +23,100 @@ two_parts a b xs =
     ∙ ap (λ (t : List ℕ). t ++ drop a (take (a + b) xs)) (take-take a (a + b) xs (omega arith))
     ∙ ap (λ (t : List ℕ). take a xs ++ t) (drop-take a b xs)
 
--- eight more bytes are the same
-pub more_alike : (at len : ℕ) (xs ys : List ℕ) → at + 8 ≡ len → take at xs ≡ take at ys → take 8 (drop at xs) ≡ take 8 (drop at ys) → take len xs ≡ take len ys
-more_alike at len xs ys place e f =
+-- some more bytes are the same
+pub more_alike : (w at len : ℕ) (xs ys : List ℕ) → at + w ≡ len → take at xs ≡ take at ys → take w (drop at xs) ≡ take w (drop at ys) → take len xs ≡ take len ys
+more_alike w at len xs ys place e f =
     ap (λ (k : ℕ). take k xs) (sym place)
-    ∙ two_parts at 8 xs
-    ∙ ap (λ (t : List ℕ). t ++ take 8 (drop at xs)) e
+    ∙ two_parts at w xs
+    ∙ ap (λ (t : List ℕ). t ++ take w (drop at xs)) e
     ∙ ap (λ (t : List ℕ). take at ys ++ t) f
-    ∙ sym (two_parts at 8 ys)
+    ∙ sym (two_parts at w ys)
     ∙ ap (λ (k : ℕ). take k ys) place
 
+-- the last bytes are the same, of which some may be among those that are known to be
+pub last_alike : (w m len : ℕ) (xs ys : List ℕ) → w ≤ len → len ≤ m + w → take m xs ≡ take m ys → take w (drop (len - w) xs) ≡ take w (drop (len - w) ys) → take len xs ≡ take len ys
+last_alike w m len xs ys least most first last = more_alike w (len - w) len xs ys (omega (arith, least)) (fewer_alike (len - w) m xs ys (omega (arith, most)) first) last
+
 pub alike_by_eight : (len : ℕ) (xs ys : List ℕ) → 8 ≤ len → len ≤ 32 → take 8 (drop 0 xs) ≡ take 8 (drop 0 ys) → (16 < len → take 8 (drop 8 xs) ≡ take 8 (drop 8 ys)) → (24 < len → take 8 (drop 16 xs) ≡ take 8 (drop 16 ys)) → take 8 (drop (len - 8) xs) ≡ take 8 (drop (len - 8) ys) → take len xs ≡ take len ys
-alike_by_eight len xs ys least most first second third last = more_alike (len - 8) len xs ys (omega (arith, least)) (before_last (cases_lt 16 len) (cases_lt 24 len)) last
+alike_by_eight len xs ys least most first second third last = by_len (cases_lt 16 len) (cases_lt 24 len)
   where
-    before_last : (16 < len) ⊎ (len ≤ 16) → (24 < len) ⊎ (len ≤ 24) → take (len - 8) xs ≡ take (len - 8) ys
-    before_last (inr h) k = fewer_alike (len - 8) 8 xs ys (omega (arith, h)) first
-    before_last (inl h) (inr k) = fewer_alike (len - 8) 16 xs ys (omega (arith, k)) (more_alike 8 16 xs ys refl first (second h))
-    before_last (inl h) (inl k) = fewer_alike (len - 8) 24 xs ys (omega (arith, most)) (more_alike 16 24 xs ys refl (more_alike 8 16 xs ys refl first (second h)) (third k))
+    by_len : (16 < len) ⊎ (len ≤ 16) → (24 < len) ⊎ (len ≤ 24) → take len xs ≡ take len ys
+    by_len (inr h) k = last_alike 8 8 len xs ys least h first last
+    by_len (inl h) (inr k) = last_alike 8 16 len xs ys least k (more_alike 8 8 16 xs ys refl first (second h)) last
+    by_len (inl h) (inl k) = last_alike 8 24 len xs ys least most (more_alike 8 16 24 xs ys refl (more_alike 8 8 16 xs ys refl first (second h)) (third k)) last
 
--- ---- A front in the first bytes.
+pub all_alike : (n : ℕ) (xs ys : List ℕ) → length xs ≤ n → length ys ≤ n → take n xs ≡ take n ys → xs ≡ ys
+all_alike n xs ys h g e = sym (take_all n xs h) ∙ e ∙ take_all n ys g
 
-pub front_seen : (len : ℕ) (text bytes front rest : List ℕ) → len ≤ 32 → length front ≡ 32 → bytes ≡ take 32 text → text ≡ take len front ++ rest → take len bytes ≡ take len front
-front_seen len text bytes front rest few long b e =
-    ap (take len) b ∙ take-take len 32 text few ∙ ap (take len) e
-    ∙ take_at (take len front) rest len (length-take-le len front (omega (arith, few, long)))
+-- ---- The front of a pair, which blanks follow.
 
-pub front_taken : (len : ℕ) (text bytes front : List ℕ) → len ≤ 32 → bytes ≡ take 32 text → take len bytes ≡ take len front → text ≡ take len front ++ take (length text - len) (drop len text)
-front_taken len text bytes front few b e =
-    sym (take-append-drop len text)
-    ∙ ap (λ (t : List ℕ). t ++ drop len text) (sym (take-take len 32 text few) ∙ ap (take len) (sym b) ∙ e)
-    ∙ ap (λ (t : List ℕ). take len front ++ t) (sym (take_all (length text - len) (drop len text) (omega (arith, length-drop len text))))
+pub name_few : (v : Var) → length (name v) ≤ 28
+name_few Q_UPDOWN = omega arith
+name_few v = omega arith
 
-pub front_of : (len : ℕ) (front padded : List ℕ) → len ≤ 32 → front ≡ take 32 padded → take len front ≡ take len padded
-front_of len front padded few e = ap (take len) e ∙ take-take len 32 padded few
+pub front_few : (v : Var) (len : ℕ) → len ≡ length (name v) + 4 → len ≤ 32
+front_few v len e = omega (arith, e, name_few v)
 
--- ---- The front of a pair among blanks.
+front_len : (n : List ℕ) → length (name_front n) ≡ length n + 4
+front_len n = omega (arith, length-append n (34 ∷ 44 ∷ []))
 
-pub pair_later : (name blanks listed : List ℕ) (len : ℕ) → listed ≡ 44 ∷ 91 ∷ 34 ∷ ((name ++ 34 ∷ 44 ∷ []) ++ blanks) → len ≡ length name → take (len + 4 + 1) listed ≡ 44 ∷ 91 ∷ 34 ∷ (name ++ 34 ∷ 44 ∷ [])
-pair_later name blanks listed len e long = ap (take (len + 4 + 1)) e ∙ take_at (44 ∷ 91 ∷ 34 ∷ (name ++ 34 ∷ 44 ∷ [])) blanks (len + 4 + 1) (omega (arith, length-append name (34 ∷ 44 ∷ []), long))
+padded_is : (n text padded blanks a b : List ℕ) (len : ℕ) → padded ≡ name_front n ++ blanks → len ≡ length n + 4 → len ≤ 32 → b ≡ take 32 padded → take len b ≡ name_front n
+padded_is n text padded blanks a b len is count few second =
+    ap (take len) (second ∙ ap (take 32) is)
+    ∙ take-take len 32 (name_front n ++ blanks) few
+    ∙ take_at (name_front n) blanks len (omega (arith, front_len n, count))
 
-pub pair_first : (name blanks listed : List ℕ) (len : ℕ) → listed ≡ 44 ∷ 91 ∷ 34 ∷ ((name ++ 34 ∷ 44 ∷ []) ++ blanks) → len ≡ length name → take (len + 4) (take (length listed - 1) (drop 1 listed)) ≡ 91 ∷ 34 ∷ (name ++ 34 ∷ 44 ∷ [])
-pair_first name blanks listed len e long =
-    ap (take (len + 4)) (take_all (length listed - 1) (drop 1 listed) (omega (arith, length-drop 1 listed)))
-    ∙ ap (λ (t : List ℕ). take (len + 4) (drop 1 t)) e
-    ∙ take_at (91 ∷ 34 ∷ (name ++ 34 ∷ 44 ∷ [])) blanks (len + 4) (omega (arith, length-append name (34 ∷ 44 ∷ []), long))
+pub front_there : (n text padded blanks a b : List ℕ) (len : ℕ) → padded ≡ name_front n ++ blanks → len ≡ length n + 4 → len ≤ 32 → a ≡ take 32 text → b ≡ take 32 padded → take len a ≡ take len b → text ≡ name_front n ++ drop len text
+front_there n text padded blanks a b len is count few first second same =
+    let front : take len text ≡ name_front n =
+    sym (take-take len 32 text few) ∙ ap (take len) (sym first) ∙ same ∙ padded_is n text padded blanks a b len is count few second in
+    sym (take-append-drop len text) ∙ ap (λ (t : List ℕ). t ++ drop len text) front
+
+pub front_seen : (n text padded blanks a b s : List ℕ) (len : ℕ) → padded ≡ name_front n ++ blanks → len ≡ length n + 4 → len ≤ 32 → a ≡ take 32 text → b ≡ take 32 padded → text ≡ name_front n ++ s → take len a ≡ take len b
+front_seen n text padded blanks a b s len is count few first second e =
+    ap (take len) (first ∙ ap (take 32) e)
+    ∙ take-take len 32 (name_front n ++ s) few
+    ∙ take_at (name_front n) s len (omega (arith, front_len n, count))
+    ∙ sym (padded_is n text padded blanks a b len is count few second)
+
+-- ---- What the first 64 bytes of a text begin with.
+
+whole_front : (front next text : List ℕ) (count : ℕ) → next ≡ take 64 text → count ≤ 64 → 64 ≤ length text → next ≡ front ++ drop count next → text ≡ front ++ drop count text
+whole_front front next text count first few long e =
+    let rest = drop count next ++ drop 64 text in
+    let split : text ≡ front ++ rest =
+    sym (take-append-drop 64 text) ∙ ap (λ (z : List ℕ). z ++ drop 64 text) (sym first ∙ e) ∙ append_assoc front (drop count next) (drop 64 text) in
+    let all : length next ≡ 64 = ap length first ∙ length-take-le 64 text long in
+    let counted : count ≡ length front = omega (arith, ap length e, length-append front (drop count next), length-drop count next, all, few) in
+    let left : drop count text ≡ rest = ap (drop count) split ∙ ap (λ (k : ℕ). drop k (front ++ rest)) counted ∙ drop-append_seam front rest in
+    split ∙ ap (λ (z : List ℕ). front ++ z) (sym left)
+
+all_left : (count : ℕ) (text : List ℕ) → drop count text ≡ take (length text - count) (drop count text)
+all_left count text = sym (take_all (length text - count) (drop count text) (omega (arith, length-drop count text)))
+
+-- a number, and the byte after it
+pub byte_taken : (n end count : ℕ) (next text : List ℕ) → next ≡ take 64 text → count ≤ 64 → 64 ≤ length text → next ≡ decimal n ++ end ∷ drop count next → text ≡ decimal n ++ end ∷ take (length text - count) (drop count text)
+byte_taken n end count next text first few long e =
+    let one : decimal n ++ end ∷ drop count next ≡ (decimal n ++ end ∷ []) ++ drop count next = sym (append_assoc (decimal n) (end ∷ []) (drop count next)) in
+    whole_front (decimal n ++ end ∷ []) next text count first few long (e ∙ one)
+    ∙ append_assoc (decimal n) (end ∷ []) (drop count text)
+    ∙ ap (λ (z : List ℕ). decimal n ++ end ∷ z) (all_left count text)
+
+-- a pair, and then the byte after it
+pub pair_taken : (pair next left : List ℕ) (len : ℕ) → next ≡ take 64 left → len < 64 → 64 ≤ length left → next ≡ pair ++ drop len next → left ≡ pair ++ get_or next len 0 ∷ take (length left - (len + 1)) (drop (len + 1) left)
+pair_taken pair next left len first few long e =
+    let byte : get_or left len 0 ≡ get_or next len 0 = sym (get_or-take 64 left len 0 few) ∙ ap (λ (z : List ℕ). get_or z len 0) (sym first) in
+    whole_front pair next left len first (omega (arith, few)) long e
+    ∙ ap (λ (z : List ℕ). pair ++ z)
+    (drop_more left len 0 (omega (arith, few, long))
+    ∙ ap (λ (x : ℕ). x ∷ drop (len + 1) left) byte
+    ∙ ap (λ (z : List ℕ). get_or next len 0 ∷ z) (all_left (len + 1) left))
+
+-- what a text begins with, its first 64 bytes begin with too
+pub first_front : (front next left s : List ℕ) → next ≡ take 64 left → length front ≤ 64 → left ≡ front ++ s → next ≡ front ++ take (64 - length front) s
+first_front front next left s first few e =
+    let all : 64 ≡ length front + (64 - length front) = omega (arith, few) in
+    first ∙ ap (take 64) e ∙ ap (λ (k : ℕ). take k (front ++ s)) all ∙ take-append-add front s (64 - length front)
+
+pub after_part : (text left front next : List ℕ) (count : ℕ) → left ≡ drop count text → left ≡ front ++ next → (t : List ℕ) × (text ≡ t ++ (front ++ next))
+after_part text left front next count others e = (take count text, sym (take-append-drop count text) ∙ ap (λ (z : List ℕ). take count text ++ z) (sym others ∙ e))

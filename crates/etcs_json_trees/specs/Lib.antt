@@ -8,4 +8,3 @@ pub mod Fits
 pub mod Found
 pub mod PairTexts
 pub mod PacketTexts
-pub mod laws

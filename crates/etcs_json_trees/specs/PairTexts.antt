@@ -1,9 +1,10 @@
 -- Pairs of a name and a number: how they are written in a text of JSON, and which pairs a text is.
-use Rattle.std.specs.Prelude.{◌≡◌, ℕ, zero, suc, ◌+◌, ◌/◌, ◌%◌, ◌^◌, ◌<◌, ◌==◌, ◌&&◌, Bool, true, false, List, [], ◌∷◌, ◌++◌, length, take, drop, Option, Some, None, bytes_eq, nat_lt, if◌then◌else◌, decimal}
+use Rattle.std.specs.Prelude.{◌≡◌, ℕ, zero, suc, ◌+◌, ◌^◌, ◌<◌, ◌==◌, ◌&&◌, ◌⊎◌, Bool, true, false, List, [], ◌∷◌, ◌++◌, length, take, drop, Option, Some, None, bytes_eq, nat_lt, if◌then◌else◌, decimal}
 use Rattle.std.specs.Str.Parse.{digits_value}
 use Rattle.serde_json.specs.Written.{comma_if}
 use Rattle.etcs_vars.specs.declared.var.Var.{Var}
-use Rattle.etcs_bodies.specs.Taking.{Named, named_as, in_hexadecimal}
+use Rattle.etcs_vars.specs.Vars.{width}
+use Rattle.etcs_bodies.specs.Taking.{Named, named_as}
 use Rattle.etcs_packet_text.specs.Show.{hex_digits}
 
 -- ---- What is written.
@@ -66,39 +67,42 @@ pair_in t =
     let number = before 93 (drop (length (name_front name)) t) in
     ((name, is_quoted number), number_in number)
 
--- the pair and what is after it, if the text begins with it
-abbrev pub taken_as : Named → Bool → List ℕ → Option (Named × List ℕ)
-taken_as p later t =
-    let front = comma_if later ++ pair_text p in
+-- the pair and what is after it, if the text begins with a comma and the pair
+abbrev pub taken_as : Named → List ℕ → Option (Named × List ℕ)
+taken_as p t =
+    let front = 44 ∷ pair_text p in
     if bytes_eq front (take (length front) t) && nat_lt p.1 (limit p.0.1) then Some (p, drop (length front) t) else None
 
--- the pair that a text begins with, and what is after it, if it begins with one
-unfoldable pub first_pair : Bool → List ℕ → Option (Named × List ℕ)
-first_pair later t = taken_as (pair_in (drop (length (comma_if later)) t)) later t
+-- the pair with which a text begins after a comma, and what is after it; a pair is looked for in 64 bytes
+unfoldable pub first_pair : List ℕ → Option (Named × List ℕ)
+first_pair t = if nat_lt 64 (length t) then taken_as (pair_in (drop 1 t)) t else None
 
--- what stands for a text that doesn't continue as a pair: no variable has this name
-abbrev pub unread : Named
-unread = (([], false), 0)
+-- what stands for a text that doesn't begin with a comma and a pair: no variable has this name
+abbrev pub stuck : List ℕ → Named
+stuck t = ((0 ∷ t, false), 0)
 
--- a pair and those after it; if there is none, what stands for such a text
-abbrev pub with_more : Option (Named × List ℕ) → (List ℕ → List Named) → List Named
-with_more None more = unread ∷ []
-with_more (Some x) more = x.0 ∷ more x.1
+-- a pair and those after it; if there is none, what stands for the text
+abbrev pub with_more : Option (Named × List ℕ) → List ℕ → (List ℕ → List Named) → List Named
+with_more None t more = stuck t ∷ []
+with_more (Some x) t more = x.0 ∷ more x.1
 
--- the pairs that a text is, if it has at most k
-abbrev pub named_from : ℕ → Bool → List ℕ → List Named
-named_from k later [] = []
-named_from zero later (c ∷ t) = unread ∷ []
-named_from (suc k) later (c ∷ t) = with_more (first_pair later (c ∷ t)) (λ s. named_from k true s)
+-- the pairs with which a text begins, at most k, each after a comma, and then what stands for the text after them
+abbrev pub named_from : ℕ → List ℕ → List Named
+named_from zero t = stuck t ∷ []
+named_from (suc k) t = with_more (first_pair t) t (λ s. named_from k s)
 
--- the pairs that a text is, the first of them after a comma if later is true
-unfoldable pub named_left : Bool → List ℕ → List Named
-named_left later t = named_from (length t) later t
+-- all of them
+unfoldable pub named_left : List ℕ → List Named
+named_left t = named_from (length t) t
 
--- the names with numbers that a text is; if it doesn't continue as a pair, something that no variable is
-abbrev pub named_in : List ℕ → List Named
-named_in t = named_left false t
+-- the pairs of a list of which those before this byte were taken, and what stands for the text after the list
+abbrev pub pairs_left : ℕ → List ℕ → List Named
+pairs_left after t = named_left (after ∷ t)
 
--- the text doesn't begin with a pair of the variable v, after a comma if later is true
-abbrev pub Lacks : Bool → Var → List ℕ → Type 0
-Lacks later v t = (n : ℕ) (s : List ℕ) → n < limit (in_hexadecimal v) → t ≡ comma_if later ++ (pair_text (named_as (v, n)) ++ s) → ⊥
+-- a text begins with a list of pairs: what is before the first of them and the rest; a bracket counts as a comma
+abbrev pub IsOpened : List ℕ → ℕ → List ℕ → Type 0
+IsOpened text after left = ((after ≡ 93) × (text ≡ 91 ∷ 93 ∷ left)) ⊎ ((after ≡ 44) × (text ≡ 91 ∷ left))
+
+-- the text doesn't begin with a comma and a pair of the variable v, or has no 64 bytes after the comma
+abbrev pub Lacks : Var → List ℕ → Type 0
+Lacks v t = (n : ℕ) (s : List ℕ) → n < 2 ^ width v → 64 < length t → t ≡ 44 ∷ (pair_text (named_as (v, n)) ++ s) → ⊥

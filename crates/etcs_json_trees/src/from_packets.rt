@@ -103,7 +103,7 @@ pub(crate) fn kept_members(way: Way, value: &Value) -> Option<(&Value, u8, u8)>
 }
 
 /// The packet of this number and direction that is kept as bits, if there is one.
-pub(crate) fn kept_by<P: AnyPacket>(nid: u8, dir: u8, bits: Bits) -> Option<P>
+fn kept_by<P: AnyPacket>(nid: u8, dir: u8, bits: Bits) -> Option<P>
     ensures made { IfSome result (λ p. (P.form p).made × IsPacketTo P.WAY (P.form p).value) }
     ensures some { IfSome result (λ p. (P.form p).value ≡ kept nid dir bits) }
     ensures only { IsPacketTo P.WAY (kept nid dir bits) → IsFound P.form (kept nid dir bits) result }
@@ -242,7 +242,7 @@ fn packets_by<P: AnyPacket>(alloc: Global, list: &[Value]) -> Result<Option<Vec<
 
 /// Puts an item after the others.
 #[inline]
-pub(crate) fn put<T: Drop>(list: &mut Vec<T>, item: T) -> Result<(), AllocError>
+fn put<T: Drop>(list: &mut Vec<T>, item: T) -> Result<(), AllocError>
     ensures { OnOk result (list.new.items ≡ list.old.items ++ item ∷ []) }
 {
     list.push(item)?;

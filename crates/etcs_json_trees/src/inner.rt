@@ -1,5 +1,5 @@
-//! For the crates above: packets read from their trees and from text, the trees of packets, and the parts of JSON from
-//! which items are made.
+//! For the crates above: packets read from their trees, the trees of packets, the parts of JSON from which items are made,
+//! and parts of lines that are exactly what `json_line` writes, put as bits.
 
 pub use crate::carried::{are_named, rename};
 pub use crate::digits::{bits_in, byte_in};
@@ -9,6 +9,7 @@ pub use crate::members::Rest;
 pub use crate::numbers::numbers_in;
 pub use crate::pairs::{bits_json, variables_json};
 pub use crate::trees::packets_json;
-pub use crate::written::packets::written_packets;
-pub use crate::written::rows::row_numbers;
-pub use crate::written::text::{Miss, Text};
+pub use crate::written::digits::put_digits;
+pub use crate::written::packets::put_packets;
+pub use crate::written::rows::{put_head, put_header, put_row};
+pub use crate::written::text::Text;

@@ -1,4 +1,4 @@
-//! What `json_line` writes, read without a tree.
+//! What `json_line` writes, read without a tree: lists of pairs and of packets, put as bits.
 
 pub(crate) mod digits;
 pub(crate) mod fronts;

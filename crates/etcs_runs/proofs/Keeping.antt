@@ -1,12 +1,14 @@
 -- Lines, piece by piece, whatever takes them.
 use Rattle.std.proofs.Common.{◌≡◌, ℕ, ◌+◌, ◌<◌, ◌≤◌, List, [], ◌∷◌, ◌++◌, length, Result, Ok, Err, refl, sym, ap, subst, ◌∙◌, arith, append_assoc, length-append, inl, inr}
-use Rattle.std.specs.Prelude.{OnOk, IfErr}
+use Rattle.std.specs.Prelude.{All, OnOk, IfErr}
 use Rattle.std.proofs.lemmas.List.{append-nil}
-use Rattle.std.proofs.lemmas.List.Elements.{All-append, All-nil}
+use Rattle.std.proofs.lemmas.List.Elements.{All-append, All-head, All-nil}
 use Rattle.etcs_runs.specs.declared.fault.RunFault.{RunFault}
+use Rattle.etcs_runs.specs.declared.fault.RunFault.TheVariants.{Memory}
 use Rattle.etcs_runs.specs.Lines.{IsLine, lines_text}
 use Rattle.etcs_runs.specs.Cutting.{IsKept, LinesStand}
-use Rattle.etcs_runs.proofs.LineTexts.{cut_given, lines_few, lines_text-append, one_line}
+use Rattle.etcs_runs.specs.Promises.{Promises, Sound}
+use Rattle.etcs_runs.proofs.LineTexts.{cut_given, cut_lf, first_of, lines_few, lines_text-append, one_line}
 
 -- ---- Answers.
 
@@ -27,11 +29,29 @@ longer_text front rest given more e = ap (λ (z : List ℕ). z ++ more) e ∙ ap
 pub none_output : (P : List ℕ → Type 0) (output t : List ℕ) → t ≡ [] → P output → P (output ++ t)
 none_output P output t e h = subst P (sym (ap (λ (z : List ℕ). output ++ z) e ∙ append-nil output)) h
 
+-- memory may be refused after the lines that were taken
+pub memory_stops : {T : Type 0} (p : Promises T) → Sound p → (lines : List (List ℕ)) (bytes output : List ℕ) → p.Outputs (lines_text lines ++ []) output → p.Stops (lines_text lines ++ bytes) output Memory
+memory_stops p sound lines bytes output h =
+    subst (λ (z : List ℕ). p.Stops z output Memory) (append_assoc (lines_text lines) [] bytes) (sound.starves (lines_text lines ++ []) bytes output h)
+
 -- ---- What is kept of a line.
 
-length-zero : (xs : List ℕ) → length xs ≡ 0 → xs ≡ []
+length-zero : {A : Type 0} (xs : List A) → length xs ≡ 0 → xs ≡ []
 length-zero [] h = refl
 length-zero (x ∷ xs) h = absurd (omega (arith, h))
+
+-- no line was taken
+pub none_taken : (Took : List (List ℕ) → List ℕ → Type 0) (lines taken : List (List ℕ)) (output : List ℕ) → length taken ≡ 0 → Took (lines ++ taken) output → Took lines output
+none_taken Took lines taken output none =
+    subst (λ (z : List (List ℕ)). Took z output) (ap (λ (z : List (List ℕ)). lines ++ z) (length-zero taken none) ∙ append-nil lines)
+
+-- all that is taken up to the first LF is the line before it
+pub one_taken : (raw after beyond : List ℕ) (taken : List (List ℕ)) → IsLine raw → All IsLine taken → raw ++ 10 ∷ after ≡ lines_text taken ++ beyond → length (lines_text taken) ≤ length raw + 1 → 0 < length taken → taken ≡ raw ∷ []
+one_taken raw after beyond [] l ls is within some = absurd (omega (arith, some))
+one_taken raw after beyond (line ∷ lines) l ls is within some =
+    let same = cut_lf raw line after (lines_text lines ++ beyond) l (All-head IsLine line lines ls) (is ∙ first_of line lines beyond) in
+    let none : length lines ≡ 0 = omega (arith, within, ap length same.0, lines_few lines, length-append (line ++ 10 ∷ []) (lines_text lines), length-append line (10 ∷ [])) in
+    ap (λ (z : List ℕ). z ∷ lines) (sym same.0) ∙ ap (λ (z : List (List ℕ)). raw ∷ z) (length-zero lines none)
 
 module _ {Took : List (List ℕ) → List ℕ → Type 0} {most : ℕ} {begun : List ℕ} {n line : ℕ} {given output : List ℕ} (h : LinesStand Took most begun n line given output) where
   -- there are no more lines than bytes
@@ -41,6 +61,10 @@ module _ {Took : List (List ℕ) → List ℕ → Type 0} {most : ℕ} {begun : 
   -- it has no character
   pub no_part : n ≡ 0 → h.part ≡ []
   no_part zero = length-zero h.part (sym h.n_is ∙ zero)
+
+  -- a piece begins with the next line
+  pub next_text : n ≡ 0 → (piece : List ℕ) → given ++ piece ≡ lines_text h.lines ++ piece
+  next_text zero piece = longer_text (lines_text h.lines) h.part given piece h.given_is ∙ ap (λ (z : List ℕ). lines_text h.lines ++ (z ++ piece)) (no_part zero)
 
   -- it isn't too long
   pub short_took : n ≤ most + 1 → Took h.lines output
@@ -64,6 +88,18 @@ module _ {Took : List (List ℕ) → List ℕ → Type 0} {most : ℕ} {begun : 
 
   pub whole_took : most + 1 < n → Took (h.lines ++ h.part ∷ []) output
   whole_took long = subst (λ (z : List ℕ). Took (h.lines ++ z ∷ []) output) (append-nil h.part) (long_took long [] (All-nil (λ c. c ≡ 10 → ⊥)))
+
+  -- lines of a piece are taken
+  pub lines_taken : (taken : List (List ℕ)) {Took' : List (List ℕ) → List ℕ → Type 0} {most' line' : ℕ} {output' : List ℕ} → n ≡ 0 → line' ≡ line + length taken → Took' (h.lines ++ taken) output' → LinesStand Took' most' begun n line' (given ++ lines_text taken) output'
+  lines_taken taken zero at took = record {
+    lines = h.lines ++ taken;
+    part = [];
+    given_is = next_text zero (lines_text taken) ∙ sym (lines_text-append h.lines taken) ∙ sym (append-nil (lines_text (h.lines ++ taken)));
+    is_line = All-nil (λ c. c ≡ 10 → ⊥);
+    n_is = zero;
+    line_is = omega (arith, at, h.line_is, length-append h.lines taken);
+    kept = inl (omega arith, short_begun (omega (arith, zero)) ∙ no_part zero, took);
+  }
 
   -- with a part more
   module _ (part : List ℕ) where

@@ -11,4 +11,5 @@ pub mod Printing
 pub mod Endings
 pub mod Running
 pub mod Keeping
+pub mod Several
 pub mod DigitExamples

@@ -38,7 +38,11 @@ module _ {H J T : Type 0} (h : HandlerOf H J T) where
     abbrev pub WhereGiven : (List ℕ → List ℕ → Type 0) → Type 0
     WhereGiven Holds = (given output : List ℕ) → Stands old given (output ++ text) → Holds given output
 
-    module _ (text' : List ℕ) (r : Result Unit RunFault) where
+    -- if it succeeds, some lines at the front of the piece are taken, and this is what is after them
+    abbrev pub TakesFront : (text' : List ℕ) → Lines H J T → (piece : List ℕ) → List ℕ → Type 0
+    TakesFront text' new piece beyond = (front : List ℕ) × (piece ≡ front ++ beyond) × WhereGiven (λ given output. Stands new (given ++ front) (output ++ text'))
+
+    module _ (text' : List ℕ) {U : Type 0} (r : Result U RunFault) where
       -- if it succeeds, this part is taken too
       abbrev pub TakesPart : Lines H J T → List ℕ → Type 0
       TakesPart new part = WhereGiven (λ given output. OnOk r (Stands new (given ++ part) (output ++ text')))

@@ -1,5 +1,5 @@
 -- The lines of a text.
-use Rattle.std.specs.Prelude.{◌≡◌, ℕ, List, [], ◌∷◌, ◌++◌, flat_map, All}
+use Rattle.std.specs.Prelude.{◌≡◌, ℕ, ◌+◌, List, [], ◌∷◌, ◌++◌, length, flat_map, All}
 use Rattle.std.specs.Io.BufRead.{strip_last}
 
 -- no character of the line is LF
@@ -13,3 +13,7 @@ strip_cr line = strip_last 13 line
 -- the text of lines, each with its LF
 abbrev pub lines_text : List (List ℕ) → List ℕ
 lines_text lines = flat_map (λ line. line ++ 10 ∷ []) lines
+
+-- there is a LF just before this place of the text
+abbrev pub IsAfterLf : List ℕ → ℕ → Type 0
+IsAfterLf text place = (front : List ℕ) × (beyond : List ℕ) × (text ≡ front ++ 10 ∷ beyond) × (place ≡ length front + 1)

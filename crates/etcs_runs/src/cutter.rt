@@ -1,12 +1,12 @@
 //! Cuts text into lines.
 
-ghost use Rattle.std.specs.Prelude.{◌≡◌, ◌+◌, ◌^◌, ◌<◌, ◌++◌, ◌∷◌, ℕ, List, [], length, OnErr};
-ghost use Rattle.etcs_runs.specs.Lines.{IsLine};
-ghost use Rattle.etcs_runs.specs.Handling.{EndsLong, EndsWith, SaysAfter, StopsAtLine, StopsAtLong, StopsLong, StopsWith, TakesLine, TakesLong, TookSome};
+ghost use Rattle.std.specs.Prelude.{◌≡◌, ◌+◌, ◌-◌, ◌^◌, ◌<◌, ◌≤◌, ◌++◌, ◌∷◌, ℕ, List, [], length, take, IfOk, OnErr};
+ghost use Rattle.etcs_runs.specs.Lines.{IsAfterLf, IsLine};
+ghost use Rattle.etcs_runs.specs.Handling.{EndsLong, EndsWith, SaysAfter, StopsAtKept, StopsAtLine, StopsAtLong, StopsIn, StopsLong, StopsWith, TakesKept, TakesLine, TakesLines, TakesLong, TookSome, TookWith};
 
 use crate::engine::{Engine, MOST_READ};
 use crate::fault::RunFault;
-use crate::lines::{split_line, without_cr};
+use crate::lines::{after_lines, split_line, without_cr};
 use std::alloc::{AllocError, Global};
 
 /// Takes the lines of a text one after another, each with its number, and reports the items in them. Each implementation is
@@ -41,6 +41,33 @@ pub trait LineHandler {
     fn most(&self) -> usize
         ensures value { result ≡ most (job self.now) }
         ensures fits { result < 2 ^ 62 };
+
+    /// Takes lines that come next from the front of a text, as `handle_line` takes each, and appends the text of them. It may
+    /// take fewer than there are, or none. Returns how many bytes they have in all, each with its LF, and how many they are.
+    /// All of them lie in the first `whole` bytes; what is after these isn't of the input.
+    ///
+    /// Requires that fewer than 2^62 lines were taken (`took`), and that the first `whole` bytes end with a LF.
+    ///
+    /// # Errors
+    ///
+    /// A fault other than `Read` and `Write`: each input that begins with the lines taken and the first `whole` bytes ends
+    /// with it after the text written, which is appended, and for which `said` holds.
+    #[inline(always)]
+    fn handle_lines(
+        &mut self,
+        rest: &[u8],
+        whole: usize,
+        text: &mut Vec<u8>,
+    ) -> Result<(usize, u64), RunFault>
+        requires took { TookSome (took self.old) }
+        requires whole { IsAfterLf rest.now whole }
+        ensures job { job self.new ≡ job self.old }
+        ensures ok { TakesLines (took self.old) (took self.new) rest.now whole text.old.items text.new.items result }
+        ensures err { StopsIn (took self.old) (promises (job self.old)) (take whole rest.now) text.old.items text.new.items result }
+        ensures said { SaysAfter (took self.old) (said self.new) text.old.items text.new.items result }
+    {
+        Ok((0, 0))
+    }
 
     /// Takes the next line, which had a LF and perhaps a CR before it, and appends the text of it. It may be longer
     /// than `most`. If it succeeds, the line was taken after those before.
@@ -124,6 +151,37 @@ pub trait LineHandler {
     ghost took_said: { (t : Self) (lines : List (List ℕ)) (output : List ℕ) → took t lines output → said t output };
 }
 
+/// A LF, and bytes after it: as many as a handler may look at beyond a line that it takes by itself.
+static AFTER: [u8; 65] = [b'\n'; 65];
+
+/// Gives the line that is kept to a handler, first with its LF and bytes after it. What `kept` has afterwards isn't promised.
+///
+/// # Errors
+///
+/// Those of the handler, and `Memory`.
+fn give_kept<T: LineHandler>(
+    handler: &mut T,
+    kept: &mut Vec<u8>,
+    number: u64,
+    text: &mut Vec<u8>,
+) -> Result<(), RunFault>
+    requires took { TookWith (T.took handler.old) text.old.items }
+    requires line { IsLine kept.old.items }
+    ensures job { T.job handler.new ≡ T.job handler.old }
+    ensures ok { TakesKept (T.took handler.old) (T.took handler.new) kept.old.items text.old.items text.new.items result }
+    ensures err { StopsAtKept (T.took handler.old) (T.promises (T.job handler.old)) kept.old.items number text.old.items text.new.items result }
+    ensures said { SaysAfter (T.took handler.old) (T.said handler.new) text.old.items text.new.items result }
+{
+    let count = kept.len();
+    kept.extend_from_slice(&AFTER)?;
+    let (_, lines) = handler.handle_lines(kept.as_slice(), count + 1, text)?;
+    if lines > 0 {
+        return Ok(());
+    }
+    kept.truncate(count);
+    handler.handle_line(without_cr(kept.as_slice()), number, text)
+}
+
 /// Cuts pieces of an input into lines, for whatever handler takes them: an engine ([`Engine`]) with the handler's
 /// promises. It holds the line that isn't whole yet, how many characters it has so far, and how many lines came before
 /// it.
@@ -136,7 +194,7 @@ pub struct Lines<T: LineHandler> {
 }
 
 impl<T: LineHandler> Lines<T> {
-    ghost use Rattle.etcs_runs.specs.Cutting.{HasRoom, SaysSo, StopsAt, TakesPart};
+    ghost use Rattle.etcs_runs.specs.Cutting.{HasRoom, SaysSo, StopsAt, TakesFront, TakesPart};
 
     /// Returns a cutter that was fed nothing, over a handler that has the same job.
     ///
@@ -183,8 +241,38 @@ impl<T: LineHandler> Lines<T> {
         }
     }
 
-    /// Ends a line, of which this is the last part. A line that is whole in it isn't kept.
-    fn end_line(&mut self, part: &[u8], text: &mut Vec<u8>) -> Result<(), RunFault>
+    /// Takes lines from the front of a piece, as many as the handler takes by itself, and returns what is after them. It
+    /// takes none if a line began before the piece. `after` bytes follow the last LF of the piece.
+    ///
+    /// # Errors
+    ///
+    /// Those of the handler.
+    #[inline(always)]
+    fn take_lines<'p>(
+        &mut self,
+        piece: &'p [u8],
+        after: usize,
+        text: &mut Vec<u8>,
+    ) -> Result<&'p [u8], RunFault>
+        requires stands { HasRoom T.LineHandler self.old text.old.items (length piece.now) }
+        requires after { after < length piece.now → IsAfterLf piece.now (length piece.now - after) }
+        ensures job { T.job self.new.handler ≡ T.job self.old.handler }
+        ensures ok { IfOk result (λ beyond. TakesFront T.LineHandler self.old text.old.items text.new.items self.new piece.now beyond.now) }
+        ensures err { StopsAt T.LineHandler self.old text.old.items text.new.items result piece.now }
+        ensures said { SaysSo T.LineHandler self.old text.old.items text.new.items result self.new }
+    {
+        if self.count > 0 || piece.len() <= after {
+            return Ok(piece);
+        }
+        let whole = piece.len() - after;
+        let (count, lines) = self.handler.handle_lines(piece, whole, text)?;
+        self.line += lines;
+        Ok(&piece[count..])
+    }
+
+    /// Ends a line, of which this is the last part; `after` bytes follow it in the piece. A line that is whole in this part
+    /// isn't kept if a handler may look at no more bytes than these.
+    fn end_line(&mut self, part: &[u8], after: usize, text: &mut Vec<u8>) -> Result<(), RunFault>
         requires stands { HasRoom T.LineHandler self.old text.old.items (length part.now) }
         requires line { IsLine part.now }
         ensures job { T.job self.new.handler ≡ T.job self.old.handler }
@@ -192,18 +280,16 @@ impl<T: LineHandler> Lines<T> {
         ensures err { (more : List ℕ) → StopsAt T.LineHandler self.old text.old.items text.new.items result (part.now ++ 10 ∷ more) }
         ensures said { SaysSo T.LineHandler self.old text.old.items text.new.items result self.new }
     {
-        if self.count == 0 {
+        if self.count == 0 && after >= AFTER.len() {
             self.line += 1;
             return self.handler.handle_line(without_cr(part), self.line, text);
         }
         self.keep(part, text)?;
         self.line += 1;
-        let count = self.count;
-        self.count = 0;
-        if count <= self.handler.most() + 1 {
-            self.handler
-                .handle_line(without_cr(self.begun.as_slice()), self.line, text)?;
+        if self.count <= self.handler.most() + 1 {
+            give_kept(&mut self.handler, &mut self.begun, self.line, text)?;
         }
+        self.count = 0;
         self.begun.clear();
         Ok(())
     }
@@ -230,10 +316,11 @@ impl<T: LineHandler> Engine for Lines<T> {
     }
 
     fn feed(&mut self, piece: &[u8], text: &mut Vec<u8>) -> Result<(), RunFault> {
-        let mut rest = piece;
+        let after = after_lines(piece);
+        let mut rest = self.take_lines(piece, after, text)?;
         while let Some((line, beyond)) = split_line(rest) {
-            self.end_line(line, text)?;
-            rest = beyond;
+            self.end_line(line, beyond.len(), text)?;
+            rest = self.take_lines(beyond, after, text)?;
         }
         self.keep(rest, text)
     }

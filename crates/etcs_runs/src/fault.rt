@@ -5,6 +5,7 @@ ghost use Rattle.std.specs.Io.KnownBytes.{Appends};
 ghost use Rattle.etcs_runs.specs.Faults.{fault_line};
 
 use etcs_vars::Var;
+use std::alloc::AllocError;
 use std::io::{self, Write};
 use thiserror::Error;
 
@@ -36,6 +37,18 @@ pub enum RunFault {
     /// Memory was refused.
     #[error("out of memory")]
     Memory,
+}
+
+impl From<AllocError> for RunFault {
+    ghost use Rattle.std.specs.Prelude.{◌≡◌};
+    ghost use Rattle.etcs_runs.specs.declared.fault.RunFault.TheVariants.{Memory};
+
+    ghost from_gives = { λ _ fault. fault ≡ Memory };
+
+    #[inline(always)]
+    fn from(_refused: AllocError) -> RunFault {
+        RunFault::Memory
+    }
 }
 
 /// Writes the line of the fault for standard error, with its LF (`fault_line`). If it succeeds, exactly this line was

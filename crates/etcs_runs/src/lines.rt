@@ -1,9 +1,9 @@
 //! Lines of a text.
 
-ghost use Rattle.std.specs.Prelude.{◌≡◌, ◌++◌, ◌∷◌, IfSome, IsNone};
-ghost use Rattle.etcs_runs.specs.Lines.{IsLine, strip_cr};
+ghost use Rattle.std.specs.Prelude.{◌≡◌, ◌-◌, ◌<◌, ◌≤◌, ◌++◌, ◌∷◌, drop, length, IfSome, IsNone};
+ghost use Rattle.etcs_runs.specs.Lines.{IsAfterLf, IsLine, strip_cr};
 
-use memchr::memchr;
+use memchr::{memchr, memrchr};
 
 /// How many characters a line has at most, except for lines of hexadecimal that `run` reads.
 pub const MOST_LINE: usize = 1_048_576;
@@ -15,6 +15,18 @@ pub fn split_line(text: &[u8]) -> Option<(&[u8], &[u8])>
 {
     let at = memchr(b'\n', text)?;
     Some((&text[..at], &text[at + 1..]))
+}
+
+/// Returns how many characters are after the last LF; all of them if there is no LF.
+pub(crate) fn after_lines(text: &[u8]) -> usize
+    ensures fits { result ≤ length text.now }
+    ensures last { IsLine (drop (length text.now - result) text.now) }
+    ensures before { result < length text.now → IsAfterLf text.now (length text.now - result) }
+{
+    match memrchr(b'\n', text) {
+        Some(at) => text.len() - (at + 1),
+        None => text.len(),
+    }
 }
 
 /// Returns the line without the one CR at its end, or as it is if it doesn't end with a CR.

@@ -20,3 +20,4 @@ pub mod Shortness
 pub mod OneLines
 pub mod OneJson
 pub mod OneItems
+pub mod LineItems

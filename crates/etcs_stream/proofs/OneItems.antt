@@ -42,7 +42,7 @@ one_item kind (of_message w m) (of_telegram u) r x y = absurd (telegram_message 
 one_item kind (of_message w m) (of_message z n) r x y = one_message w z m n r (way_same w z (x.0 ∙ sym y.0)) x.1 y.1
 
 -- items whose spellings begin the same bits are one, and so is what comes after them
-first_same : (kind : Kind) (e f : EntryValue) (r q : Reading) (b c : List Bool) → EntryReads kind e r → EntryReads kind f q → spelled r ++ b ≡ spelled q ++ c → (e ≡ f) × (b ≡ c)
+pub first_same : (kind : Kind) (e f : EntryValue) (r q : Reading) (b c : List Bool) → EntryReads kind e r → EntryReads kind f q → spelled r ++ b ≡ spelled q ++ c → (e ≡ f) × (b ≡ c)
 first_same kind e f r q b c x y is =
     let reg = kind_regular kind in
     let same = apart r q b c (reg.agree r q (e, x) (f, y)) (reg.fit r (e, x)) (reg.fit q (f, y)) is in

@@ -10,7 +10,8 @@ use Rattle.etcs_json.proofs.OneStored.{line_said, line_refused, line_not_both}
 use Rattle.etcs_runs.specs.Lines.{IsLine, strip_cr, lines_text}
 use Rattle.etcs_stream.specs.JsonItems.{IsItemLine, IsRefusedLine, AreItemLines, JsonFront, BeginsWith, WholeJson, EndedJson, FirstJson, FurtherLine}
 use Rattle.etcs_stream.specs.Inputs.{End, ended, refused, truncated, bad_hex, bad_json, endless, JsonItems}
-use Rattle.etcs_stream.proofs.OneLines.{Longer, fronts, first_of, cut_lf, has_lf}
+use Rattle.etcs_runs.proofs.LineTexts.{cut_lf, first_of}
+use Rattle.etcs_stream.proofs.OneLines.{Longer, fronts, has_lf}
 
 -- ---- One line.
 

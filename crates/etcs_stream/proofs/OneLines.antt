@@ -7,6 +7,7 @@ use Rattle.std.proofs.lemmas.List.{get_or-take, get_or_default, length-take-le, 
 use Rattle.std.proofs.lemmas.List.Elements.{All-nil, All-cons, All-head, All-tail}
 use Rattle.hex.specs.Hex.{is_hex_digit}
 use Rattle.etcs_runs.specs.Lines.{IsLine, strip_cr, lines_text}
+use Rattle.etcs_runs.proofs.LineTexts.{cut_lf, first_of, head_line, tail_line}
 use Rattle.etcs_stream.specs.Lines.{bad_place, line_bytes, lines_bytes, AreGood, IsHexText}
 use Rattle.etcs_stream.specs.Inputs.{IsBad, SaysSoFar, SaysFirst}
 use Rattle.etcs_runs.specs.declared.form.Form.TheVariants.{Hex}
@@ -45,21 +46,6 @@ good_line line h = stripped line (ends_with_byte 13 line) refl (good_last (strip
 
 -- ---- Cut at the first LF.
 
-tail_line : (c : ℕ) (x : List ℕ) → IsLine (c ∷ x) → IsLine x
-tail_line c x h = All-tail (λ c. c ≡ 10 → ⊥) c x h
-
-head_line : (c : ℕ) (x : List ℕ) → IsLine (c ∷ x) → c ≡ 10 → ⊥
-head_line c x h e = h 0 0 (omega arith) e
-
-pub cut_lf : (x y t u : List ℕ) → IsLine x → IsLine y → x ++ 10 ∷ t ≡ y ++ 10 ∷ u → (x ≡ y) × (t ≡ u)
-cut_lf [] [] t u hx hy e = (refl, cc)
-cut_lf [] (d ∷ y) t u hx hy e = let f : d ≡ 10 = cc in absurd (head_line d y hy f)
-cut_lf (c ∷ x) [] t u hx hy e = let f : c ≡ 10 = cc in absurd (head_line c x hx f)
-cut_lf (c ∷ x) (d ∷ y) t u hx hy e =
-    let tails : x ++ 10 ∷ t ≡ y ++ 10 ∷ u = cc in
-    let rest = cut_lf x y t u (tail_line c x hx) (tail_line d y hy) tails in
-    (cc, rest.1)
-
 pub has_lf : (x y u : List ℕ) → IsLine x → x ≡ y ++ 10 ∷ u → ⊥
 has_lf [] [] u h e = absurd cc
 has_lf [] (d ∷ y) u h e = absurd cc
@@ -67,9 +53,6 @@ has_lf (c ∷ x) [] u h e = let f : c ≡ 10 = cc in head_line c x h f
 has_lf (c ∷ x) (d ∷ y) u h e = let tails : x ≡ y ++ 10 ∷ u = cc in has_lf x y u (tail_line c x h) tails
 
 -- ---- Lines, and what is after the last of them.
-
-pub first_of : (line : List ℕ) (lines : List (List ℕ)) (t : List ℕ) → lines_text (line ∷ lines) ++ t ≡ line ++ 10 ∷ (lines_text lines ++ t)
-first_of line lines t = append_assoc (line ++ 10 ∷ []) (lines_text lines) t ∙ append_assoc line (10 ∷ []) (lines_text lines ++ t)
 
 -- the lines of one are the first of the other
 pub record Longer (lines lines' : List (List ℕ)) (t t' : List ℕ) : Type 0 where

@@ -50,7 +50,7 @@ whole line true e h =
     let some = not_empty (length line) tests.0 in
     absurd (h (length line - 1) 0 (omega (arith, some)) (eqb-true (slice_index line (length line - 1)) 13 tests.1))
 
-without_cr : (line : List ℕ) → All (λ c. c ≡ 13 → ⊥) line → strip_cr line ≡ line
+pub without_cr : (line : List ℕ) → All (λ c. c ≡ 13 → ⊥) line → strip_cr line ≡ line
 without_cr line h = whole line (ends_with_byte 13 line) refl h
 
 -- ---- Bytes.
@@ -152,7 +152,7 @@ is_object (of_message way (kept_message nid b)) = (_, refl)
 some_json : (e : EntryValue) → 0 < length (compact_text (json_tree e))
 some_json e = let (ms, is) = is_object e in rw is (omega arith)
 
-item_line : (kind : Kind) (e : EntryValue) (r : Reading) → EntryReads kind e r → IsItemLine kind (strip_cr (compact_text (json_tree e))) e
+pub item_line : (kind : Kind) (e : EntryValue) (r : Reading) → EntryReads kind e r → IsItemLine kind (strip_cr (compact_text (json_tree e))) e
 item_line kind e r reads =
     let line = compact_text (json_tree e) in
     let short : length line ≤ 1048576 = omega (arith, json_short e r reads.1) in

@@ -1,5 +1,5 @@
 -- How a run continues with each piece that it gets, and how it ends early.
-use Rattle.std.specs.Prelude.{◌≡◌, ℕ, ◌+◌, ◌<◌, ◌≤◌, Bool, List, [], ◌++◌, length, take}
+use Rattle.std.specs.Prelude.{◌≡◌, ℕ, ◌+◌, ◌<◌, ◌≤◌, Bool, List, [], ◌∷◌, ◌++◌, length, take}
 use Rattle.etcs_bits.specs.Bits.{bits}
 use Rattle.etcs_vars.specs.Reading.{readings_of}
 use Rattle.etcs_vars.specs.Walking.{Refuses}
@@ -13,6 +13,7 @@ use Rattle.etcs_stream.specs.declared.job.Job.{Job}
 use Rattle.etcs_stream.specs.JsonItems.{IsItemLine, IsRefusedLine}
 use Rattle.etcs_runs.specs.declared.fault.RunFault.{RunFault}
 use Rattle.etcs_runs.specs.declared.fault.RunFault.TheVariants.{Refused, Truncated, BadHex, BadJson, Read, Write, Endless, Memory}
+use Rattle.etcs_runs.specs.Lines.{IsLine, strip_cr}
 use Rattle.etcs_text.specs.Readers.{ReaderValue, seen_bits}
 use Rattle.etcs_stream.specs.Readers.{Awaits, HasRoom}
 use Rattle.etcs_stream.specs.Streams.{AreSpelled}
@@ -87,3 +88,12 @@ HaltsJson job line number before Read = ⊥
 HaltsJson job line number before (Write sent) = ⊥
 HaltsJson job line number before Endless = (before.count ≡ 1000000) × (0 < length line)
 HaltsJson job line number before Memory = Unit {0}
+
+-- the text begins with this line, with its LF, in so many bytes, and the item of the line was reported
+pub record TakesFirst (job : Job) (rest : List ℕ) (before after : Reported) (text text' : List ℕ) (n : ℕ) : Type 0 where
+  pub raw : List ℕ
+  pub beyond : List ℕ
+  pub rest_is : rest ≡ raw ++ 10 ∷ beyond
+  pub is_line : IsLine raw
+  pub bytes_is : n ≡ length raw + 1
+  pub takes : TakesJson job (strip_cr raw) before after text text'

@@ -1,12 +1,14 @@
 //! What is written of each item, and after the last one.
 
-ghost use Rattle.std.specs.Prelude.{◌≡◌, ◌+◌, ◌*◌, ◌<◌, ◌≤◌, ◌++◌, ◌∷◌, [], ℕ, List, Ok, Err, IfOk, IfSome, IsNone, OnErr, OnOk, length, true};
+ghost use Rattle.std.specs.Prelude.{◌≡◌, ◌+◌, ◌*◌, ◌<◌, ◌≤◌, ◌++◌, ◌∷◌, [], ℕ, List, Ok, Err, IfOk, IfSome, IsNone, IsTrue, OnErr, OnOk, false, length, take, true};
+ghost use Rattle.serde_json.specs.Written.{compact_text};
 ghost use Rattle.etcs_bits.specs.Bits.{bits};
 ghost use Rattle.etcs_vars.specs.Reading.{IsOutcome, done};
 ghost use Rattle.etcs_telegram.specs.Telegrams.{IsTelegram};
 ghost use Rattle.etcs_group.specs.Groups.{HeldAfter, IsGroup};
 ghost use Rattle.etcs_text.specs.Encodings.{IsEncoded, check_line};
 ghost use Rattle.etcs_text.specs.Entries.{EntryReads, EntryValue, entry_kind, entry_value};
+ghost use Rattle.etcs_text.specs.Trees.{json_tree};
 ghost use Rattle.hex.specs.Hex.{encode_upper};
 ghost use Rattle.etcs_stream.specs.Groups.{Answers, clashes_with};
 ghost use Rattle.etcs_stream.specs.Reported.{Reported};
@@ -88,6 +90,37 @@ impl Printer {
             self.count = item;
         }
         Ok(taken)
+    }
+
+    /// Appends what the command writes of the next item, whose JSON is this line and whose bytes are the first `count` of
+    /// these, and returns whether it did. It may always return `false`, and then nothing is appended.
+    ///
+    /// # Errors
+    ///
+    /// `AllocError` if out of memory. Nothing is appended then.
+    #[inline(always)]
+    pub(crate) fn print_line(
+        &mut self,
+        command: Command,
+        kind: Kind,
+        line: &[u8],
+        bytes: &[u8],
+        count: usize,
+        page: &mut Page,
+    ) -> Result<bool, AllocError>
+        requires few { self.old.count < 1000000 }
+        requires short { count < 1024 }
+        requires within { count ≤ length bytes.now }
+        ensures ok { (e : EntryValue) → IsOutcome (EntryReads kind) (bits bytes.now) (done e (8 * count)) → IsEncoded e (take count bytes.now) → line.now ≡ compact_text (json_tree e) → IfOk result (λ written. IsTrue written → (added : List ℕ) × OutputsItem command e self.old added self.new × (page.new ≡ page.old ++ added)) }
+        ensures none { IfOk result (λ written. written ≡ false → (self.new ≡ self.old) × (page.new ≡ page.old)) }
+        ensures err { OnErr result ((self.new ≡ self.old) × (page.new ≡ page.old)) }
+    {
+        let next = self.count + 1;
+        let written = write_line(command, kind, next, line, bytes, count, page)?;
+        if written {
+            self.count = next;
+        }
+        Ok(written)
     }
 
     /// Appends what the command writes of the next item, or nothing.
@@ -247,6 +280,55 @@ fn write_seen(
     }
 }
 
+/// Appends what a command writes of the item of this number, whose JSON is this line and whose bytes are the first `count`
+/// of these, and returns whether it did. It may always return `false`, and then nothing is appended, as in case of an error.
+#[inline(always)]
+fn write_line(
+    command: Command,
+    kind: Kind,
+    item: u64,
+    line: &[u8],
+    bytes: &[u8],
+    count: usize,
+    page: &mut Page,
+) -> Result<bool, AllocError>
+    requires short { count < 1024 }
+    requires within { count ≤ length bytes.now }
+    ensures ok { (s : Reported) (e : EntryValue) → item ≡ s.count + 1 → IsOutcome (EntryReads kind) (bits bytes.now) (done e (8 * count)) → IsEncoded e (take count bytes.now) → line.now ≡ compact_text (json_tree e) → IfOk result (λ written. IsTrue written → (added : List ℕ) × OutputsItem command e s added (one_more s) × (page.new ≡ page.old ++ added)) }
+    ensures none { IfOk result (λ written. written ≡ false → page.new ≡ page.old) }
+    ensures err { OnErr result (page.new ≡ page.old) }
+{
+    match command {
+        Command::Check => {
+            let bits = item_bits(kind, count);
+            page.put_checked(item, bits)?;
+            Ok(true)
+        }
+        Command::Convert(form) => {
+            convert_line(form, line, &bytes[..count], page)?;
+            Ok(true)
+        }
+        Command::Show => match show_seen(kind, item, bytes, page)? {
+            Some(_) => Ok(true),
+            None => Ok(false),
+        },
+        Command::Group => Ok(false),
+    }
+}
+
+/// Appends the item that has this line as its JSON, and these bytes, in the form asked for; or nothing.
+#[inline(always)]
+fn convert_line(form: Form, line: &[u8], bytes: &[u8], page: &mut Page) -> Result<(), AllocError>
+    ensures ok { (s : Reported) (e : EntryValue) → IsEncoded e bytes.now → line.now ≡ compact_text (json_tree e) → OnOk result ((added : List ℕ) × OutputsItem (Command.Convert form) e s added (one_more s) × (page.new ≡ page.old ++ added)) }
+    ensures err { OnErr result (page.new ≡ page.old) }
+{
+    match form {
+        Form::Hex => write_digits(bytes, page),
+        Form::Bin => write_bytes(bytes, page),
+        Form::Json => write_text(line, page),
+    }
+}
+
 /// Appends the item with which these bytes begin in this form, as [`write_seen`] does.
 #[inline(always)]
 fn convert_seen(
@@ -342,6 +424,31 @@ fn write_bytes(bytes: &[u8], page: &mut Page) -> Result<(), AllocError>
     let written = text.extend_from_slice(bytes);
     *page = Page::after(text);
     written
+}
+
+/// Appends a line and a LF to a page, or nothing.
+fn write_text(line: &[u8], page: &mut Page) -> Result<(), AllocError>
+    ensures ok { OnOk result (page.new ≡ page.old ++ (line.now ++ 10 ∷ [])) }
+    ensures err { OnErr result (page.new ≡ page.old) }
+{
+    let mut text = page.take_text();
+    let written = append_line(line, &mut text);
+    *page = Page::after(text);
+    written
+}
+
+/// Appends a line and a LF, or nothing.
+fn append_line(line: &[u8], text: &mut Vec<u8>) -> Result<(), AllocError>
+    ensures ok { OnOk result (text.new.items ≡ text.old.items ++ (line.now ++ 10 ∷ [])) }
+    ensures err { OnErr result (text.new.items ≡ text.old.items) }
+{
+    let start = text.len();
+    text.extend_from_slice(line)?;
+    let ended = text.extend_from_slice(b"\n");
+    if ended.is_err() {
+        text.truncate(start);
+    }
+    ended
 }
 
 /// Appends the digits of bytes and a LF to a page, or nothing.

@@ -1,20 +1,15 @@
 -- The text of trees of items, part by part.
-use Rattle.std.proofs.Common.{◌≡◌, ℕ, Bool, false, List, [], ◌∷◌, ◌++◌, fold, map, refl, sym, ap, ◌∙◌, append_assoc, Some}
+use Rattle.std.proofs.Common.{◌≡◌, ℕ, Bool, false, List, [], ◌∷◌, ◌++◌, fold, map, refl, sym, ap, ◌∙◌, append_assoc}
 use Rattle.std.specs.Prelude.{codes, decimal}
 use Rattle.json.specs.Print.{escape_byte, quoted}
 use Rattle.serde_json.specs.Data.{Data, array}
 use Rattle.serde_json.specs.View.{items_of}
 use Rattle.serde_json.specs.Written.{compact_text, items_text}
-use Rattle.etcs_bits.specs.Bits.{num}
 use Rattle.etcs_vars.specs.Reading.{Reading}
 use Rattle.etcs_tables.specs.declared.row.Way.{Way}
 use Rattle.etcs_tables.specs.declared.row.Way.TheVariants.{ToTrain, ToTrack}
-use Rattle.etcs_packets.specs.PacketValues.{PacketValue, Form}
-use Rattle.etcs_messages.specs.declared.message.Content.{Content}
-use Rattle.etcs_messages.specs.declared.message.Content.TheVariants.{Typed, Kept}
-use Rattle.etcs_messages.specs.Kinds.{HeadOf, OwnOf}
-use Rattle.etcs_messages.specs.Messages.{message_value, typed_message, kept_message, values_of}
-use Rattle.etcs_messages.specs.Readings.{body_of, head_of, kept_of, nid_of_message, packets_of, padding_bits_of, padding_of}
+use Rattle.etcs_packets.specs.PacketValues.{PacketValue}
+use Rattle.etcs_messages.specs.Messages.{typed_message, kept_message}
 use Rattle.etcs_telegram.specs.declared.size.Size.{Size}
 use Rattle.etcs_telegram.specs.declared.size.Size.TheVariants.{Short, Long}
 use Rattle.etcs_telegram.specs.Telegrams.{HeaderValue, header_reading}
@@ -51,7 +46,7 @@ way_is ToTrack rest = refl
 abbrev pub number_between : Way → ℕ → List ℕ
 number_between way nid = way_member way ++ (decimal nid ++ codes ",\"packets\":")
 
-typed_text : (way : Way) (nid : ℕ) (head body : Reading) (vs : List PacketValue) (padding : List Bool) → message_front body head ++ (number_between way nid ++ message_after way vs padding) ≡ compact_text (message_tree way (typed_message nid head body vs padding))
+pub typed_text : (way : Way) (nid : ℕ) (head body : Reading) (vs : List PacketValue) (padding : List Bool) → message_front body head ++ (number_between way nid ++ message_after way vs padding) ≡ compact_text (message_tree way (typed_message nid head body vs padding))
 unfolding escape_byte
 typed_text way nid head body vs padding =
     let x = compact_text (pairs_tree body) in
@@ -66,32 +61,12 @@ typed_text way nid head body vs padding =
     ∙ ap (λ (z : List ℕ). codes "{\"fields\":" ++ (x ++ (codes ",\"header\":" ++ (y ++ (codes ",\"kind\":" ++ (quoted (way_word way) ++ (codes ",\"nid\":" ++ (n ++ (codes ",\"packets\":" ++ (p ++ (codes ",\"padding\":" ++ z)))))))))))
     (sym (quoted_bits padding (codes "}")))
 
-kept_text : (way : Way) (nid : ℕ) (b : List Bool) → codes "{\"data\":\"" ++ (map bit_digit b ++ (codes "\"" ++ (way_member way ++ (decimal nid ++ codes "}")))) ≡ compact_text (message_tree way (kept_message nid b))
+pub kept_text : (way : Way) (nid : ℕ) (b : List Bool) → codes "{\"data\":\"" ++ (map bit_digit b ++ (codes "\"" ++ (way_member way ++ (decimal nid ++ codes "}")))) ≡ compact_text (message_tree way (kept_message nid b))
 unfolding escape_byte
 kept_text way nid b =
     let rest = decimal nid ++ codes "}" in
     ap (λ (z : List ℕ). codes "{\"data\":\"" ++ (map bit_digit b ++ (codes "\"" ++ z))) (way_is way rest)
     ∙ ap (λ (z : List ℕ). codes "{\"data\":" ++ z) (sym (quoted_bits b (codes ",\"kind\":" ++ (quoted (way_word way) ++ (codes ",\"nid\":" ++ rest)))))
-
-module _ {H B P : Type 0} (way : Way) (k : HeadOf H) (o : OwnOf B) (form : P → Form) where
-  -- a typed message around its number
-  pub typed_is : (m : Content H B P) (head : H) (body : B) → head_of m ≡ Some head → body_of m ≡ Some body → message_front (o.reading body) (k.reading head) ++ (number_between way (nid_of_message o m) ++ message_after way (values_of form (packets_of m)) (num (padding_bits_of way o form m) (padding_of m))) ≡ compact_text (message_tree way (message_value way k o form m))
-  typed_is (Typed head body ps padding) h b e g =
-      let m = Typed head body ps padding in
-      let same_head : h ≡ head = cc in
-      let same_body : b ≡ body = cc in
-      let vs = values_of form ps in
-      let bits = num (padding_bits_of way o form m) padding in
-      (λ i. message_front (o.reading (same_body i)) (k.reading (same_head i)) ++ (number_between way (o.nid body) ++ message_after way vs bits))
-      ∙ typed_text way (o.nid body) (k.reading head) (o.reading body) vs bits
-  typed_is (Kept nid bits) h b e g = absurd cc
-
-  pub kept_is : (m : Content H B P) (bits : List Bool) → kept_of m ≡ Some bits → codes "{\"data\":\"" ++ (map bit_digit bits ++ (codes "\"" ++ (way_member way ++ (decimal (nid_of_message o m) ++ codes "}")))) ≡ compact_text (message_tree way (message_value way k o form m))
-  kept_is (Typed head body ps padding) bits e = absurd cc
-  kept_is (Kept nid b) bits e =
-      let same : bits ≡ b = cc in
-      ap (λ (z : List Bool). codes "{\"data\":\"" ++ (map bit_digit z ++ (codes "\"" ++ (way_member way ++ (decimal nid ++ codes "}"))))) same
-      ∙ kept_text way nid b
 
 -- ---- Items, part by part.
 

@@ -1,48 +1,10 @@
 //! Digits, and the numbers and bits that they stand for.
 
-ghost use Rattle.std.specs.Prelude.{◌≡◌, ◌+◌, ◌*◌, ◌^◌, ◌<◌, ◌≤◌, ◌++◌, IfOk, IfSome, IsTrue, OnOk, length, map, take};
-ghost use Rattle.std.specs.Fmt.{decimal};
-ghost use Rattle.etcs_bits.specs.Bits.{bits, num};
+ghost use Rattle.std.specs.Prelude.{◌≡◌, ◌+◌, ◌-◌, ◌%◌, ◌^◌, ◌<◌, ◌≤◌, ◌++◌, Bool, List, IfSome, OnSome, length, map};
+ghost use Rattle.etcs_bits.specs.Bits.{num};
 ghost use Rattle.etcs_packet_text.specs.Show.{bit_digit};
 
-use crate::written::text::Miss;
-use etcs_bits::Bits;
-use etcs_bits::inner::{append, slice_in};
-use std::alloc::Global;
-
-/// The number of a decimal digit.
-#[inline(always)]
-fn digit_of(byte: u8) -> Option<u8>
-    ensures { IfSome result (λ d. (d < 10) × (byte ≡ 48 + d)) }
-{
-    let digit = byte.wrapping_sub(b'0');
-    if digit < 10 { Some(digit) } else { None }
-}
-
-/// The number below 256 whose decimal digits come first, as far as these go, and what is after them. `None` if there are
-/// none, a zero is before others, or the number is larger.
-#[inline(always)]
-pub fn byte_number(text: &[u8]) -> Option<(u8, &[u8])>
-    ensures { IfSome result (λ p. text.now ≡ decimal p.0 ++ p.1.now) }
-{
-    let (first, mut left) = text.split_first()?;
-    let mut number = digit_of(*first)?;
-    while let Some((byte, more)) = left.split_first() {
-        let Some(digit) = digit_of(*byte) else {
-            break;
-        };
-        if number == 0 {
-            return None;
-        }
-        let larger = u16::from(number) * 10 + u16::from(digit);
-        if larger > 255 {
-            return None;
-        }
-        number = larger as u8;
-        left = more;
-    }
-    Some((number, left))
-}
+use etcs_vars::BitPage;
 
 /// The number of a digit 0 or 1.
 #[inline(always)]
@@ -78,71 +40,70 @@ pub fn few_bits(text: &[u8]) -> Option<(usize, u8, &[u8])>
     Some((count, number, left))
 }
 
-/// The byte of the bits of eight digits 0 and 1, the first one the highest.
+/// The number of the bits of eight digits 0 and 1, the first one the highest.
 #[inline(always)]
-fn byte_of(eight: &[u8; 8]) -> Option<u8>
-    ensures { IfSome result (λ b. eight.now ≡ map bit_digit (num 8 b)) }
+fn byte_of(eight: &[u8; 8]) -> Option<u64>
+    ensures { IfSome result (λ b. (b < 256) × (eight.now ≡ map bit_digit (num 8 b))) }
 {
     let word = u64::from_le_bytes(*eight);
     if word & 0xfefe_fefe_fefe_fefe != 0x3030_3030_3030_3030 {
         return None;
     }
     let bits = (word & 0x0101_0101_0101_0101).wrapping_mul(0x8040_2010_0804_0201);
-    Some((bits >> 56) as u8)
+    Some(bits >> 56)
 }
 
-/// Writes the bits of digits over those of bytes, and returns whether they all are 0 or 1.
-fn pack(digits: &[u8], bytes: &mut [u8]) -> bool
-    requires { length digits.now < 8 * length bytes.old }
-    ensures { IsTrue result → digits.now ≡ map bit_digit (take (length digits.now) (bits bytes.new)) }
-{
-    let mut left = digits;
-    let mut at = 0usize;
-    while let Some((eight, more)) = left.split_first_chunk::<8>() {
-        let Some(byte) = byte_of(eight) else {
-            return false;
-        };
-        bytes[at] = byte;
-        at += 1;
-        left = more;
-    }
-    match few_bits(left) {
-        Some((count, number, [])) => {
-            bytes[at] = (u32::from(number) << (8 - count)) as u8;
-            true
-        }
-        _ => false,
-    }
-}
-
-/// How many digits are packed at a time, so that these and a few more are in 64 bytes.
-const BLOCK: usize = 504;
-
-/// Adds the bits of digits.
+/// The number of the bits of digits, at most 32, as far as they are whole eights, and the digits after these.
 #[inline(always)]
-fn add(bits: &mut Bits, digits: &[u8]) -> Result<(), Miss>
-    requires short { length digits.now ≤ BLOCK }
-    requires room { length bits.old + length digits.now < 2 ^ 64 }
-    ensures { OnOk result (map bit_digit bits.new ≡ map bit_digit bits.old ++ digits.now) }
+fn eights(digits: &[u8]) -> Option<(u64, &[u8])>
+    requires { length digits.now ≤ 32 }
+    ensures few { IfSome result (λ p. length p.1.now ≡ length digits.now % 8) }
+    ensures small { IfSome result (λ p. p.0 < 2 ^ (length digits.now - length p.1.now)) }
+    ensures bits { IfSome result (λ p. digits.now ≡ map bit_digit (num (length digits.now - length p.1.now) p.0) ++ p.1.now) }
 {
-    let mut bytes = [0u8; 64];
-    if !pack(digits, &mut bytes) {
-        return Err(Miss::Shape);
-    }
-    append(bits, &slice_in(&bytes, 0, digits.len()))?;
-    Ok(())
-}
-
-/// The bits of digits.
-pub fn bits_of(alloc: Global, digits: &[u8]) -> Result<Bits, Miss>
-    ensures { IfOk result (λ b. digits.now ≡ map bit_digit b) }
-{
-    let mut bits = Bits::new(alloc);
+    let mut number = 0u64;
     let mut left = digits;
-    while let Some((block, more)) = left.split_at_checked(BLOCK) {
-        add(&mut bits, block)?;
+    while let Some((eight, more)) = left.split_first_chunk::<8>() {
+        number = (number << 8) + byte_of(eight)?;
         left = more;
     }
-    add(&mut bits, left)?;
-    Ok(bits)
+    Some((number, left))
+}
+
+/// Puts the bits of digits, if each is 0 or 1. Otherwise those of some of them may be put.
+#[inline(never)]
+pub fn put_digits(digits: &[u8], out: &mut BitPage) -> Option<()>
+    ensures some { OnSome result ((b : List Bool) × (digits.now ≡ map bit_digit b) × (out.new ≡ out.old ++ b)) }
+    ensures more { (b : List Bool) × (out.new ≡ out.old ++ b) }
+{
+    let mut left = digits;
+    while let Some((block, more)) = left.split_first_chunk::<32>() {
+        put_few(block, out)?;
+        left = more;
+    }
+    put_few(left, out)
+}
+
+/// Puts the bits of at most 32 digits, if each is 0 or 1.
+#[inline(always)]
+fn put_few(digits: &[u8], out: &mut BitPage) -> Option<()>
+    requires { length digits.now ≤ 32 }
+    ensures some { OnSome result ((b : List Bool) × (digits.now ≡ map bit_digit b) × (out.new ≡ out.old ++ b)) }
+    ensures more { (b : List Bool) × (out.new ≡ out.old ++ b) }
+{
+    let number = few_number(digits)?;
+    out.put(digits.len(), number).ok()
+}
+
+/// The number of the bits of at most 32 digits.
+#[inline(always)]
+fn few_number(digits: &[u8]) -> Option<u64>
+    requires { length digits.now ≤ 32 }
+    ensures { IfSome result (λ n. (n < 2 ^ length digits.now) × (digits.now ≡ map bit_digit (num (length digits.now) n))) }
+{
+    let (mut number, left) = eights(digits)?;
+    for digit in left {
+        number = 2 * number + u64::from(bit_of(*digit)?);
+    }
+    Some(number)
 }

@@ -1,196 +1,190 @@
-//! Packets read from the text that `json_line` writes of them.
+//! Packets put as bits, read from the text that `json_line` writes of them.
 
-ghost use Rattle.std.specs.Prelude.{◌≡◌, ◌++◌, ◌∷◌, [], All, None, Some, IfOk, IfSome, IsTrue, map};
+ghost use Rattle.std.specs.Prelude.{◌≡◌, ◌-◌, ◌≤◌, ◌++◌, ℕ, List, All, IfSome, false, length, drop};
 ghost use Rattle.serde_json.specs.Written.{compact_text};
+ghost use Rattle.etcs_vars.specs.Reading.{Reading, spelled};
 ghost use Rattle.etcs_tables.specs.declared.row.Way.TheVariants.{ToTrain, ToTrack};
-ghost use Rattle.etcs_bodies.specs.Taking.{named_as};
-ghost use Rattle.etcs_packets.specs.PacketValues.{IsPacketTo, IsTypedOf, dir_of, kept_of, variables_of};
-ghost use Rattle.etcs_packet_text.specs.Trees.{packet_tree, packets_tree};
-ghost use Rattle.etcs_json_trees.specs.PacketTexts.{dir_then, fields_then};
-ghost use Rattle.etcs_json_trees.specs.PairTexts.{named_in};
+ghost use Rattle.etcs_tables.specs.Typed.{IsFramed};
+ghost use Rattle.etcs_packets.specs.PacketValues.{PacketValue, IsPacketTo, typed};
+ghost use Rattle.etcs_packets.specs.PacketReadings.{reading_to, readings_to};
+ghost use Rattle.etcs_packet_text.specs.Trees.{pairs_tree, packets_tree};
+ghost use Rattle.etcs_json_trees.specs.PacketTexts.{Leaves, IsRowOf, IsUnmarked, PutsMarker, PutsPacket, PutsTyped, dir_then};
 
-use crate::from_packets::{kept_by, put};
-use crate::written::pair_text::Pairs;
-use crate::written::text::{Miss, Text};
-use etcs_packets::inner::AnyPacket;
-use etcs_tables::Way;
-use std::alloc::Global;
+use crate::written::digits::put_digits;
+use crate::written::pair_text::PairText;
+use crate::written::text::Text;
+use etcs_flat::inner::check_other;
+use etcs_packets::inner::{AnyPacket, send_frame};
+use etcs_tables::{ROW_LIMIT, Way, frame_bits, is_direction};
+use etcs_vars::inner::VarSink;
+use etcs_vars::{BitPage, Var};
 
-/// Whether the packet of these pairs isn't kept as bits: if there are pairs, it isn't.
-#[inline(always)]
-fn is_typed<P: AnyPacket>(packet: &P, pairs: &[u8]) -> bool
-    requires { map named_as (variables_of (P.form packet.now).value) ≡ named_in pairs.now }
-    ensures { IsTrue result → kept_of (P.form packet.now).value ≡ None }
+/// Puts the variables of the packet of this number with the list of whose pairs a text begins, and returns how many bytes
+/// are after it.
+#[inline(never)]
+fn put_pairs<P: AnyPacket>(nid: u8, text: &[u8], out: &mut BitPage) -> Option<usize>
+    ensures { IfSome result (λ n. (r : Reading) × IsRowOf P.WAY nid r × Leaves n (λ s. text.now ≡ compact_text (pairs_tree r) ++ s) × (out.new ≡ out.old ++ spelled r)) }
 {
-    !pairs.is_empty() || packet.kept_bits().is_none()
+    let mut pairs = PairText::new(text)?;
+    let passed = P::pass(nid, &mut pairs, out).ok()?;
+    if !passed? {
+        return None;
+    }
+    Some(pairs.end()?.len())
 }
 
-/// What is between the brackets of a list.
+/// Puts the packet of this number and direction with the list of whose pairs a text begins, and returns how many bytes are
+/// after the list. L_PACKET is put when the length is known.
 #[inline(always)]
-fn in_brackets<'a>(text: &'a [u8]) -> Option<&'a [u8]>
-    ensures { IfSome result (λ t. text.now ≡ 91 ∷ (t.now ++ 93 ∷ [])) }
+fn put_body<P: AnyPacket>(nid: u8, dir: u8, text: &[u8], out: &mut BitPage) -> Option<usize>
+    ensures { IfSome result (λ n. (r : Reading) × IsFramed P.WAY nid dir r × Leaves n (λ s. text.now ≡ compact_text (pairs_tree r) ++ s) × (out.new ≡ out.old ++ spelled (reading_to P.WAY (typed nid dir r)))) }
 {
-    match text {
-        [b'[', inside @ .., b']'] => Some(inside),
-        _ => None,
+    if !is_direction(P::WAY, dir) {
+        return None;
     }
+    let start = out.len();
+    send_frame(P::WAY, u64::from(nid), dir, 0, out).ok()?;
+    let after = put_pairs::<P>(nid, text, out)?;
+    let len = out.len() - start;
+    if len > frame_bits(P::WAY) + ROW_LIMIT {
+        return None;
+    }
+    out.put_over(start + frame_bits(P::WAY) - 13, 13, len as u64);
+    Some(after)
 }
 
-/// The packet of this number and direction with these pairs.
-#[inline(always)]
-fn packet_of<P: AnyPacket>(alloc: Global, nid: u8, dir: u8, pairs: &[u8]) -> Result<P, Miss>
-    ensures made { IfOk result (λ p. (P.form p).made × IsPacketTo P.WAY (P.form p).value) }
-    ensures typed { IfOk result (λ p. (kept_of (P.form p).value ≡ None) × IsTypedOf nid dir (P.form p).value) }
-    ensures pairs { IfOk result (λ p. map named_as (variables_of (P.form p).value) ≡ named_in pairs.now) }
+/// Puts the packet of this direction with the list of whose pairs a text begins, and returns how many bytes are after the
+/// packet. Its number comes after the list, but is needed first.
+#[inline(never)]
+fn put_typed<P: AnyPacket>(dir: u8, text: &[u8], out: &mut BitPage) -> Option<usize>
+    ensures { IfSome result (λ n. PutsTyped P.WAY dir text.now n out.old out.new) }
 {
-    let found: Option<P> = P::of_source(alloc, nid, dir, &Pairs(pairs))?;
-    match found {
-        Some(packet) => {
-            packet.hold();
-            if !is_typed(&packet, pairs) {
-                return Err(Miss::Shape);
-            }
-            Ok(packet)
-        }
-        None => Err(Miss::Shape),
+    let mut left = Text::new(text);
+    left.before(b"nid\":")?;
+    let after = left.left().len() + 7;
+    let nid = left.byte_and(b'}')?;
+    if put_body::<P>(nid, dir, text, out)? != after {
+        return None;
     }
-}
-
-/// The packet of this direction whose pairs come next, up to its end.
-fn typed_packet<P: AnyPacket>(alloc: Global, dir: u8, text: &mut Text<'_>) -> Result<P, Miss>
-    ensures made { IfOk result (λ p. (P.form p).made × IsPacketTo P.WAY (P.form p).value) }
-    ensures typed { IfOk result (λ p. (kept_of (P.form p).value ≡ None) × (dir_of (P.form p).value ≡ Some dir)) }
-    ensures text { IfOk result (λ p. text.old ≡ fields_then (P.form p).value text.new) }
-{
-    let list = text.before(b"nid\":")?;
-    let nid = text.byte()?;
-    text.pass(b"}")?;
-    match in_brackets(list) {
-        Some(pairs) => packet_of(alloc, nid, dir, pairs),
-        None => Err(Miss::Shape),
-    }
+    let mut beyond = Text::new(text);
+    beyond.take(text.len() - after);
+    beyond.pass(b",\"")?;
+    Some(left.left().len())
 }
 
 /// Takes the direction that comes next, and the comma after it; to the track it isn't written, and is 0.
 #[inline(always)]
-fn direction(way: Way, text: &mut Text<'_>) -> Result<u8, Miss>
-    ensures { IfOk result (λ dir. text.old ≡ dir_then way dir text.new) }
+fn direction(way: Way, text: &mut Text<'_>) -> Option<u8>
+    ensures { IfSome result (λ dir. text.old ≡ dir_then way dir text.new) }
 {
     match way {
         Way::ToTrain => {
             text.pass(b"\"dir\":")?;
-            let dir = text.byte()?;
-            text.pass(b",")?;
-            Ok(dir)
+            text.byte_and(b',')
         }
-        Way::ToTrack => Ok(0),
+        Way::ToTrack => Some(0),
     }
 }
 
-/// The packet that is kept as bits and comes next.
-fn kept_packet<P: AnyPacket>(alloc: Global, text: &mut Text<'_>) -> Result<P, Miss>
-    ensures made { IfOk result (λ p. (P.form p).made × IsPacketTo P.WAY (P.form p).value) }
-    ensures text { IfOk result (λ p. text.old ≡ compact_text (packet_tree P.WAY (P.form p).value) ++ text.new) }
+/// Puts the packet that is kept as bits with which a text begins, and returns how many bytes are after it.
+#[inline(never)]
+fn put_kept(way: Way, text: &[u8], out: &mut BitPage) -> Option<usize>
+    ensures { IfSome result (λ n. PutsPacket way false text.now n out.old out.new) }
 {
-    text.pass(b"{\"data\":\"")?;
-    let bits = text.bits(alloc)?;
-    text.pass(b",")?;
-    let dir = direction(P::WAY, text)?;
-    text.pass(b"\"nid\":")?;
-    let nid = text.byte()?;
-    text.pass(b"}")?;
-    match kept_by(nid, dir, bits) {
-        Some(packet) => Ok(packet),
-        None => Err(Miss::Shape),
-    }
+    let mut left = Text::new(text);
+    left.pass(b"{\"data\":\"")?;
+    let digits = left.quoted()?;
+    left.pass(b",")?;
+    let dir = direction(way, &mut left)?;
+    left.pass(b"\"nid\":")?;
+    let nid = left.byte_and(b'}')?;
+    check_other(way, nid, dir, digits.len()).ok()?;
+    let len = frame_bits(way) + digits.len();
+    send_frame(way, u64::from(nid), dir, len as u64, out).ok()?;
+    put_digits(digits, out)?;
+    Some(left.left().len())
 }
 
-/// Packet 0 to the train, at its pair, up to its end.
-fn marker_packet<P: AnyPacket>(text: &mut Text<'_>) -> Result<P, Miss>
-    ensures made { IfOk result (λ p. (P.form p).made × IsPacketTo P.WAY (P.form p).value) }
-    ensures text { IfOk result (λ p. (kept_of (P.form p).value ≡ None) × (dir_of (P.form p).value ≡ None) × (text.old ≡ fields_then (P.form p).value text.new)) }
+/// Puts packet 0 to the train with the list of whose pair a text begins, and returns how many bytes are after the packet.
+#[inline(never)]
+fn put_marker(text: &[u8], out: &mut BitPage) -> Option<usize>
+    ensures { IfSome result (λ n. PutsMarker text.now n out.old out.new) }
 {
-    text.pass(b"[[\"NID_VBCMK\",")?;
-    let number = text.byte()?;
-    text.pass(b"]],\"nid\":0}")?;
-    match P::of_marker(number) {
-        Some(packet) => {
-            packet.hold();
-            Ok(packet)
-        }
-        None => Err(Miss::Shape),
+    let mut left = Text::new(text);
+    left.pass(b"[[\"NID_VBCMK\",")?;
+    let number = u64::from(left.byte_and(b']')?);
+    left.pass(b"],\"nid\":0}")?;
+    if !Var::NID_VBCMK.admits(number) {
+        return None;
     }
+    out.send(&[(Var::NID_PACKET, 0), (Var::NID_VBCMK, number)])
+        .ok()?;
+    Some(left.left().len())
 }
 
-/// The packet to the train that comes next.
+/// Puts the packet to the train with which a text begins, and returns how many bytes are after it.
 #[inline(always)]
-fn packet_to_train<P: AnyPacket>(alloc: Global, text: &mut Text<'_>) -> Result<P, Miss>
+fn put_to_train<P: AnyPacket>(has_marker: bool, text: &[u8], out: &mut BitPage) -> Option<usize>
     requires { P.WAY ≡ ToTrain }
-    ensures made { IfOk result (λ p. (P.form p).made × IsPacketTo P.WAY (P.form p).value) }
-    ensures text { IfOk result (λ p. text.old ≡ compact_text (packet_tree P.WAY (P.form p).value) ++ text.new) }
+    ensures { IfSome result (λ n. PutsPacket P.WAY has_marker text.now n out.old out.new) }
 {
-    if text.skip(b"{\"dir\":") {
-        let dir = text.byte()?;
-        text.pass(b",\"fields\":")?;
-        return typed_packet(alloc, dir, text);
+    let mut left = Text::new(text);
+    if left.skip(b"{\"dir\":") {
+        let dir = left.byte_and(b',')?;
+        left.pass(b"\"fields\":")?;
+        return put_typed::<P>(dir, left.left(), out);
     }
-    if text.skip(b"{\"fields\":") {
-        return marker_packet(text);
+    if has_marker && left.skip(b"{\"fields\":") {
+        return put_marker(left.left(), out);
     }
-    kept_packet(alloc, text)
+    put_kept(P::WAY, text, out)
 }
 
-/// The packet to the track that comes next.
+/// The same to the track.
 #[inline(always)]
-fn packet_to_track<P: AnyPacket>(alloc: Global, text: &mut Text<'_>) -> Result<P, Miss>
+fn put_to_track<P: AnyPacket>(text: &[u8], out: &mut BitPage) -> Option<usize>
     requires { P.WAY ≡ ToTrack }
-    ensures made { IfOk result (λ p. (P.form p).made × IsPacketTo P.WAY (P.form p).value) }
-    ensures text { IfOk result (λ p. text.old ≡ compact_text (packet_tree P.WAY (P.form p).value) ++ text.new) }
+    ensures { IfSome result (λ n. PutsPacket P.WAY false text.now n out.old out.new) }
 {
-    if text.skip(b"{\"fields\":") {
-        return typed_packet(alloc, 0, text);
+    let mut left = Text::new(text);
+    if left.skip(b"{\"fields\":") {
+        return put_typed::<P>(0, left.left(), out);
     }
-    kept_packet(alloc, text)
+    put_kept(P::WAY, text, out)
 }
 
-/// The packet that comes next.
-fn packet<P: AnyPacket>(alloc: Global, text: &mut Text<'_>) -> Result<P, Miss>
-    ensures made { IfOk result (λ p. (P.form p).made × IsPacketTo P.WAY (P.form p).value) }
-    ensures text { IfOk result (λ p. text.old ≡ compact_text (packet_tree P.WAY (P.form p).value) ++ text.new) }
+/// Puts the packet with which a text begins, and returns how many bytes are after it.
+#[inline(always)]
+fn put_packet<P: AnyPacket>(has_marker: bool, text: &[u8], out: &mut BitPage) -> Option<usize>
+    ensures { IfSome result (λ n. PutsPacket P.WAY has_marker text.now n out.old out.new) }
 {
     match P::WAY {
-        Way::ToTrain => packet_to_train(alloc, text),
-        Way::ToTrack => packet_to_track(alloc, text),
+        Way::ToTrain => put_to_train::<P>(has_marker, text, out),
+        Way::ToTrack => put_to_track::<P>(text, out),
     }
 }
 
 /// More packets than an item can have: 8,191 bits hold 585 of 14 bits.
 const MOST_PACKETS: usize = 600;
 
-/// Takes a list of packets, and returns them. If it succeeds, what was taken is exactly the list of these packets as
-/// `json_line` writes it, and they are packets of this way. When it succeeds isn't promised.
-///
-/// # Errors
-///
-/// - [`Miss::Shape`] if the text continues with something else;
-/// - [`Miss::Memory`] if out of memory.
-///
-/// What is left of the text after an error isn't promised.
-pub fn written_packets<P: AnyPacket>(alloc: Global, text: &mut Text<'_>) -> Result<Vec<P>, Miss>
-    ensures made { IfOk result (λ ps. All (λ p. (P.form p).made) ps.items × All (IsPacketTo P.WAY) (map (λ p. (P.form p).value) ps.items)) }
-    ensures text { IfOk result (λ ps. text.old ≡ compact_text (packets_tree P.WAY (map (λ p. (P.form p).value) ps.items)) ++ text.new) }
+/// Puts the packets of the list with which a text begins, and returns how many bytes are after it. Only a telegram has the
+/// marker, packet 0 to the train. When it succeeds isn't promised, nor what is put after `None`.
+#[inline(never)]
+pub fn put_packets<P: AnyPacket>(has_marker: bool, text: &[u8], out: &mut BitPage) -> Option<usize>
+    ensures { IfSome result (λ n. (vs : List PacketValue) × All (IsPacketTo P.WAY) vs × (has_marker ≡ false → All IsUnmarked vs) × (n ≤ length text.now) × (text.now ≡ compact_text (packets_tree P.WAY vs) ++ drop (length text.now - n) text.now) × (out.new ≡ out.old ++ spelled (readings_to P.WAY vs))) }
 {
-    let mut packets = Vec::new(alloc);
-    if text.skip(b"[]") {
-        return Ok(packets);
+    let mut left = Text::new(text);
+    if left.skip(b"[]") {
+        return Some(left.left().len());
     }
-    text.pass(b"[")?;
+    left.pass(b"[")?;
     for _ in 0..MOST_PACKETS {
-        put(&mut packets, packet(alloc, text)?)?;
-        if text.skip(b"]") {
-            return Ok(packets);
+        let after = put_packet::<P>(has_marker, left.left(), out)?;
+        left.take(left.left().len() - after);
+        if left.skip(b"]") {
+            return Some(left.left().len());
         }
-        text.pass(b",")?;
+        left.pass(b",")?;
     }
-    Err(Miss::Shape)
+    None
 }

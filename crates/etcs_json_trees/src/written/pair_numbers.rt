@@ -1,97 +1,121 @@
-//! The number of a pair and the bracket after it.
+//! The number of a pair and what is after it.
 
-ghost use Rattle.std.specs.Prelude.{◌≡◌, ◌↔◌, ◌+◌, ◌%◌, ◌^◌, ◌<◌, ◌≤◌, ◌⊎◌, ◌++◌, ◌∷◌, ℕ, List, true, IsTrue, IfSome, IfNone, length, take, drop, decimal};
-ghost use Rattle.std.specs.Str.Parse.{AllDigits, digits_value_after};
+ghost use Rattle.std.specs.Prelude.{◌≡◌, ◌+◌, ◌^◌, ◌<◌, ◌≤◌, ◌⊎◌, ◌++◌, ◌∷◌, ℕ, List, true, IfSome, IfNone, length, take, drop, decimal};
 ghost use Rattle.etcs_packet_text.specs.Show.{hex_digit};
 ghost use Rattle.etcs_json_trees.specs.PairTexts.{NoDigit, hex_text, number_text};
 
-use crate::written::fronts::after_bytes;
-
-/// The decimal number of at most nineteen digits that a text begins with, and what is after it and a bracket.
+/// The decimal number from a place on, of no more digits than a number of this many bits may have, and the place after it
+/// and this byte.
 #[inline(always)]
-pub(crate) fn decimal_number<'a>(text: &'a [u8]) -> Option<(u64, &'a [u8])>
-    ensures some { IfSome result (λ r. (r.0 < 10 ^ 19) × (text.now ≡ decimal r.0 ++ 93 ∷ r.1.now)) }
-    ensures none { IfNone result ((n : ℕ) (s : List ℕ) → n < 10 ^ 19 → text.now ≡ decimal n ++ 93 ∷ s → ⊥) }
+pub(crate) fn decimal_number(
+    text: &[u8; 64],
+    at: usize,
+    width: usize,
+    end: u8,
+) -> Option<(u64, usize)>
+    requires at { at ≤ 32 }
+    requires width { width ≤ 33 }
+    ensures place { IfSome result (λ r. (at < r.1) × (r.1 ≤ at + 11)) }
+    ensures small { IfSome result (λ r. r.0 < 10 ^ 10) }
+    ensures some { IfSome result (λ r. drop at text.now ≡ decimal r.0 ++ end ∷ drop r.1 text.now) }
+    ensures none { IfNone result (57 < end → (n : ℕ) (s : List ℕ) → n < 2 ^ width → drop at text.now ≡ decimal n ++ end ∷ s → ⊥) }
 {
-    let (first, after) = next_digit(text)?;
-    let (number, count, left) = more_digits(first, after);
-    if !is_written(first, count) {
+    let first = digit_at(text, at);
+    if first > 9 {
         return None;
     }
-    let more = after_bracket(left)?;
-    Some((number, more))
-}
-
-/// The digit that a text begins with, and what is after it.
-#[inline(always)]
-fn next_digit<'a>(text: &'a [u8]) -> Option<(u8, &'a [u8])>
-    ensures some { IfSome result (λ r. (r.0 < 10) × (text.now ≡ (48 + r.0) ∷ r.1.now)) }
-    ensures none { IfNone result (NoDigit text.now) }
-{
-    let (byte, after) = text.split_first()?;
-    let digit = byte.wrapping_sub(b'0');
-    if digit > 9 {
+    let (number, place) = more_digits(text, at, most_digits(width), first);
+    if text[place] != end {
         return None;
     }
-    Some((digit, after))
+    Some((number, place + 1))
 }
 
-/// The number that a digit and those after it are, modulo 2^64, how many are after it, and what is after all of them.
+/// The number that the digit at a place and those after it are, of at most `most` digits, and the place after them. After a
+/// zero there are no others.
 #[inline(always)]
-fn more_digits<'a>(first: u8, text: &'a [u8]) -> (u64, usize, &'a [u8])
-    requires { first < 10 }
-    ensures inside { result.1 ≤ length text.now }
-    ensures left { result.2.now ≡ drop result.1 text.now }
-    ensures digits { AllDigits 10 (take result.1 text.now) }
-    ensures number { result.0 ≡ digits_value_after 10 first (take result.1 text.now) % 2 ^ 64 }
-    ensures end { NoDigit result.2.now }
+fn more_digits(text: &[u8; 64], at: usize, most: usize, first: u64) -> (u64, usize)
+    requires at { at ≤ 32 }
+    requires some { 0 < most }
+    requires most { most ≤ 10 }
+    requires digit { first < 10 }
+    requires first { drop at text.now ≡ (48 + first) ∷ drop (at + 1) text.now }
+    ensures from { at < result.1 }
+    ensures place { result.1 ≤ at + most }
+    ensures small { result.0 < 10 ^ 10 }
+    ensures text { drop at text.now ≡ decimal result.0 ++ drop result.1 text.now }
+    ensures stops { (result.0 ≡ 0) ⊎ (NoDigit (drop result.1 text.now) ⊎ (result.1 ≡ at + most)) }
 {
-    let mut number = u64::from(first);
-    let mut count = 0usize;
-    let mut left = text;
-    while let Some((digit, after)) = next_digit(left) {
-        number = number.wrapping_mul(10).wrapping_add(u64::from(digit));
-        count += 1;
-        left = after;
+    let mut number = first;
+    let mut place = at + 1;
+    if first == 0 {
+        return (number, place);
     }
-    (number, count, left)
-}
-
-/// Whether `json_line` writes such digits: at most nineteen, and no zero before others.
-#[inline(always)]
-fn is_written(first: u8, count: usize) -> bool
-    ensures { IsTrue result ↔ ((count ≡ 0) ⊎ ((0 < first) × (count ≤ 18))) }
-{
-    count == 0 || (first != 0 && count <= 18)
-}
-
-/// What is after the bracket that a text begins with.
-#[inline(always)]
-fn after_bracket<'a>(text: &'a [u8]) -> Option<&'a [u8]>
-    ensures some { IfSome result (λ r. text.now ≡ 93 ∷ r.now) }
-    ensures none { IfNone result ((s : List ℕ) → text.now ≡ 93 ∷ s → ⊥) }
-{
-    let (byte, after) = text.split_first()?;
-    if *byte != b']' {
-        return None;
+    while place < at + most {
+        let digit = digit_at(text, place);
+        if digit > 9 {
+            break;
+        }
+        number = 10 * number + digit;
+        place += 1;
     }
-    Some(after)
+    (number, place)
 }
 
-/// The number of sixteen hexadecimal digits in quotes that a text begins with, and what is after it and a bracket.
+/// How many digits a number of this many bits has at most, or a few more.
+#[inline(always)]
+fn most_digits(width: usize) -> usize
+    requires { width ≤ 33 }
+    ensures some { 0 < result }
+    ensures few { result ≤ 10 }
+    ensures most { 2 ^ width ≤ 10 ^ result }
+{
+    match width {
+        0..=3 => 1,
+        4..=6 => 2,
+        7..=9 => 3,
+        10..=13 => 4,
+        14..=16 => 5,
+        17..=19 => 6,
+        20..=26 => 8,
+        _ => 10,
+    }
+}
+
+/// What the byte at a place is above the digit zero, 0 to 9 if it is a digit.
+#[inline(always)]
+fn digit_at(text: &[u8; 64], at: usize) -> u64
+    requires { at < 64 }
+    ensures digit { result < 10 → drop at text.now ≡ (48 + result) ∷ drop (at + 1) text.now }
+    ensures none { 9 < result → NoDigit (drop at text.now) }
+{
+    u64::from(text[at]).wrapping_sub(48)
+}
+
+/// The number of sixteen hexadecimal digits in quotes from a place on, and the place after it and a bracket.
 #[inline(never)]
-pub(crate) fn hexadecimal_number<'a>(text: &'a [u8]) -> Option<(u64, &'a [u8])>
-    ensures some { IfSome result (λ r. (r.0 < 2 ^ 64) × (text.now ≡ number_text true r.0 ++ 93 ∷ r.1.now)) }
-    ensures none { IfNone result ((n : ℕ) (s : List ℕ) → n < 2 ^ 64 → text.now ≡ number_text true n ++ 93 ∷ s → ⊥) }
+pub(crate) fn hexadecimal_number(text: &[u8; 64], at: usize) -> Option<(u64, usize)>
+    requires { at ≤ 32 }
+    ensures place { IfSome result (λ r. r.1 ≡ at + 19) }
+    ensures small { IfSome result (λ r. r.0 < 2 ^ 64) }
+    ensures some { IfSome result (λ r. drop at text.now ≡ number_text true r.0 ++ 93 ∷ drop r.1 text.now) }
+    ensures none { IfNone result ((n : ℕ) (s : List ℕ) → n < 2 ^ 64 → drop at text.now ≡ number_text true n ++ 93 ∷ s → ⊥) }
 {
-    let quoted = after_bytes(text, b"\"")?;
-    let (digits, after) = quoted.split_at_checked(16)?;
-    let number = hex_number(digits)?;
-    let more = after_bytes(after, b"\"]")?;
-    Some((number, more))
+    if text[at] != b'"' {
+        return None;
+    }
+    if text[at + 17] != b'"' {
+        return None;
+    }
+    if text[at + 18] != b']' {
+        return None;
+    }
+    let number = hex_number(&text[at + 1..at + 17])?;
+    Some((number, at + 19))
 }
 
 /// The number of sixteen hexadecimal digits in lower case.
+#[inline(always)]
 fn hex_number(text: &[u8]) -> Option<u64>
     requires { length text.now ≡ 16 }
     ensures some { IfSome result (λ n. (n < 2 ^ 64) × (text.now ≡ hex_text n)) }

@@ -1,29 +1,14 @@
-use Rattle.std.proofs.lemmas.Bool.{both_ways}
-use Rattle.etcs_json_trees.proofs.DecimalTexts.{first_digit, read_back, read_is}
+use Rattle.std.proofs.Common.{drop, arith}
+use Rattle.etcs_json_trees.proofs.DecimalTexts.{begins_digit, end_there, in_word}
 use Rattle.etcs_json_trees.proofs.written.pair_numbers.decimal_number.Goals as goal
 
-pub returns-in_err-first-clause-none : goal.returns-in_err-first-clause-none
-returns-in_err-first-clause-none c =
-    rw c.from_residual.ensures (λ n s small e. first_digit n s c.args.text.now small c.in_err-first.ensures.none e)
+pub returns-then-first-gt9-clause-none : goal.returns-then-first-gt9-clause-none
+returns-then-first-gt9-clause-none c = λ large n s small e.
+    begins_digit n (drop c.args.at c.args.text.now) _ (in_word n c.args.width c.requires.width small) (c.digit_at-first.ensures.none c.if-first-gt9.true) e
 
-pub returns-then-not-is_written-clause-none : goal.returns-then-not-is_written-clause-none
-returns-then-not-is_written-clause-none c = λ n s small e.
-    (let first = c.in_ok-first.ensures.some in
-    let m = c.more_digits-number in
-    let back = read_back c.in_ok-first.first m.result.1 n c.args.text.now c.in_ok-first.after.now m.result.2.now s first.0 first.1 m.ensures.inside m.ensures.left m.ensures.digits m.ensures.end small e in
-    both_ways _ c.if-not-is_written.true (c.is_written.ensures.1 back.0))
-
-pub returns-in_err-more-clause-none : goal.returns-in_err-more-clause-none
-returns-in_err-more-clause-none c =
-    rw c.from_residual-in_err-more.ensures (λ n s small e.
-    (let first = c.in_ok-first.ensures.some in
-    let m = c.more_digits-number in
-    let back = read_back c.in_ok-first.first m.result.1 n c.args.text.now c.in_ok-first.after.now m.result.2.now s first.0 first.1 m.ensures.inside m.ensures.left m.ensures.digits m.ensures.end small e in
-    c.in_err-more.ensures.none s back.1))
-
-pub returns-clause-some : goal.returns-clause-some
-returns-clause-some c =
-    let first = c.in_ok-first.ensures.some in
-    let m = c.more_digits-number in
-    read_is c.in_ok-first.first m.result.1 m.result.0 c.args.text.now c.in_ok-first.after.now m.result.2.now c.in_ok-more.more.now first.0 first.1 m.ensures.inside m.ensures.left m.ensures.digits m.ensures.number
-    (c.is_written.ensures.0 c.if-not-is_written.false) c.in_ok-more.ensures.some
+pub returns-then-text-place-clause-none : goal.returns-then-text-place-clause-none
+returns-then-text-place-clause-none c = λ large n s small e.
+    (let m = c.more_digits-number in
+    let most = c.most_digits in
+    let same = end_there m.result.0 n c.args.at m.result.1 most.result c.args.width c.args.end c.args.text.now s (omega arith) c.requires.at m.ensures.place most.ensures.few most.ensures.some m.ensures.small most.ensures.most small large m.ensures.text m.ensures.stops e in
+    omega (arith, c.if-text-place.true, same))

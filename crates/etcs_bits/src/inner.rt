@@ -7,6 +7,7 @@ use super::bits::Bits;
 use super::bytes::byte_of;
 use super::poker;
 use super::slice::BitSlice;
+pub use super::walker::{peek_at_end, peek_word};
 use std::alloc::AllocError;
 
 /// Writes a number into `width` bits of `bytes` from the bit `start` on, most significant bit first. All other bits stay.

@@ -49,8 +49,8 @@ pub fn peek(bytes: &[u8], start: usize, width: usize) -> Option<u64>
 }
 
 /// As `peek`, if the eight bytes from the first bit on hold the bits. It may always return `None`.
-#[inline(always)]
-pub(crate) fn peek_word(bytes: &[u8], start: usize, width: usize) -> Option<u64>
+#[inline]
+pub fn peek_word(bytes: &[u8], start: usize, width: usize) -> Option<u64>
     requires { width ≤ 64 }
     ensures { IfSome result (λ n. number_at start width (bits bytes.now) ≡ Some n) }
 {
@@ -76,7 +76,7 @@ fn peek_in_word(bytes: &[u8], at: usize, offset: usize, width: usize) -> Option<
 
 /// As `peek`, for bits near the end.
 #[inline(never)]
-fn peek_at_end(bytes: &[u8], start: usize, width: usize) -> Option<u64>
+pub fn peek_at_end(bytes: &[u8], start: usize, width: usize) -> Option<u64>
     requires { width ≤ 64 }
     ensures { result ≡ number_at start width (bits bytes.now) }
 {

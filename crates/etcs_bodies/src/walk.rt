@@ -3,7 +3,8 @@
 ghost use Rattle.std.specs.Prelude.{◌≡◌, ◌^◌, ◌<◌, length, drop};
 ghost use Rattle.etcs_bits.specs.Bits.{bits};
 
-use etcs_bits::{SliceWalker, peek};
+use etcs_bits::SliceWalker;
+use etcs_bits::inner::{peek_at_end, peek_word};
 use std::marker::Model;
 
 /// Reads numbers from bits, one after another.
@@ -84,7 +85,10 @@ impl<'a> Walk for PieceWalker<'a> {
 
     #[inline(always)]
     fn take(&mut self, width: usize) -> Option<u64> {
-        let number = peek(self.piece, self.place, width)?;
+        let number = match peek_word(self.piece, self.place, width) {
+            Some(number) => number,
+            None => peek_at_end(self.piece, self.place, width)?,
+        };
         self.place += width;
         Some(number)
     }

@@ -1,7 +1,6 @@
 //! Tables of packets without groups: what is in them, with its numbers.
 
 ghost use Rattle.etcs_bodies.specs.Passing.{Begun};
-ghost use Rattle.etcs_bodies.specs.Taking.{next_number};
 ghost use Rattle.std.specs.Prelude.{◌≡◌, ◌*◌, ◌≤◌, Some, None, length, map, sum_by, OnOk, OnErr, IfSome, IfNone, IsSome, ℕ, List, false, IsTrue, IfOk};
 ghost use Rattle.std.specs.Option.{option_map};
 ghost use Rattle.etcs_tables.specs.declared.item.RowItem.TheVariants.{One};
@@ -12,7 +11,6 @@ use crate::flat::flat_row;
 use arrayvec::ArrayVec;
 use etcs_bodies::Numbers;
 use etcs_tables::{RowItem, Way};
-use etcs_vars::Var;
 use etcs_vars::inner::VarSink;
 use std::alloc::AllocError;
 
@@ -89,71 +87,12 @@ pub fn take_table<L: Numbers>(table: &[RowItem], numbers: &mut L) -> Option<Arra
     Some(taken)
 }
 
-/// An item's variable with the number that comes next, if the item is a variable and admits it.
-#[inline(always)]
-fn next_pair<L: Numbers>(item: &RowItem, numbers: &mut L) -> Option<(Var, u64)>
-    ensures { IfSome result (λ p. (item.now ≡ One p.0) × (next_number p.0 (L.left numbers.old) ≡ Some (p.1, L.left numbers.new))) }
-{
-    let RowItem::One(var) = item else {
-        return None;
-    };
-    let number = numbers.next(*var)?;
-    Some((*var, number))
-}
-
-/// Sends the variables of a table together, each with the number that comes next, and returns whether the sink took
-/// them. `None` if a variable doesn't admit its number, or the table has a group or more than six items; nothing is then
-/// sent.
-#[inline(always)]
-fn send_next<L: Numbers, S: VarSink>(
-    table: &[RowItem],
-    numbers: &mut L,
-    out: &mut S,
-) -> Option<Result<(), AllocError>>
-    ensures ok { IfSome result (λ sent. OnOk sent ((ns : List ℕ) × (table_from table.now (L.left numbers.old) ≡ Some (ns, L.left numbers.new)) × (out.new ≡ S.with out.old (table_pairs table.now ns)))) }
-    ensures err { IfSome result (λ sent. OnErr sent (S.failed out.old out.new)) }
-    ensures none { IfNone result (out.new ≡ out.old) }
-{
-    match table {
-        [] => Some(Ok(())),
-        [a] => Some(out.send(&[next_pair(a, numbers)?])),
-        [a, b] => Some(out.send(&[next_pair(a, numbers)?, next_pair(b, numbers)?])),
-        [a, b, c] => Some(out.send(&[
-            next_pair(a, numbers)?,
-            next_pair(b, numbers)?,
-            next_pair(c, numbers)?,
-        ])),
-        [a, b, c, d] => Some(out.send(&[
-            next_pair(a, numbers)?,
-            next_pair(b, numbers)?,
-            next_pair(c, numbers)?,
-            next_pair(d, numbers)?,
-        ])),
-        [a, b, c, d, e] => Some(out.send(&[
-            next_pair(a, numbers)?,
-            next_pair(b, numbers)?,
-            next_pair(c, numbers)?,
-            next_pair(d, numbers)?,
-            next_pair(e, numbers)?,
-        ])),
-        [a, b, c, d, e, f] => Some(out.send(&[
-            next_pair(a, numbers)?,
-            next_pair(b, numbers)?,
-            next_pair(c, numbers)?,
-            next_pair(d, numbers)?,
-            next_pair(e, numbers)?,
-            next_pair(f, numbers)?,
-        ])),
-        _ => None,
-    }
-}
-
-/// Sends the variables of a table, at most six, each with the number that comes next, and returns whether each variable
-/// admits it.
+/// Sends the variables of a table, each with the number that comes next, and returns whether each variable admits it.
 ///
 /// # Errors
 ///
 /// That of the sink, whose `failed` then holds.
+#[tactic(auto, using(crate::specs::laws::TableLaws::taken_more, crate::specs::laws::TableLaws::pairs_more))]
 #[inline(always)]
 pub fn pass_table<L: Numbers, S: VarSink>(
     table: &[RowItem],
@@ -164,13 +103,16 @@ pub fn pass_table<L: Numbers, S: VarSink>(
     ensures begun { IfOk result (λ b. b ≡ false → Begun S.with out.old out.new) }
     ensures err { OnErr result (S.failed out.old out.new) }
 {
-    match send_next(table, numbers, out) {
-        Some(sent) => {
-            sent?;
-            Ok(true)
-        }
-        None => Ok(false),
+    for item in table {
+        let RowItem::One(var) = item else {
+            return Ok(false);
+        };
+        let Some(number) = numbers.next(*var) else {
+            return Ok(false);
+        };
+        out.send(&[(*var, number)])?;
     }
+    Ok(true)
 }
 
 /// The same numbers as an array. Requires that there are at most six.

@@ -1,6 +1,6 @@
 -- What comes before a message's packets, taken at once.
 use Rattle.std.proofs.Common.{◌≡◌, ℕ, suc, ◌+◌, ◌-◌, ◌<◌, ◌≤◌, Bool, true, false, List, [], ◌∷◌, ◌++◌, length, take, drop, get_or, map, Some, None, leb, refl, sym, ap, subst, ◌∙◌, arith, length-append, append_assoc, append-nil}
-use Rattle.std.specs.Prelude.{IsTrue, Option, option_map, is_some, if◌then◌else◌}
+use Rattle.std.specs.Prelude.{IsTrue, Option, option_map, if◌then◌else◌}
 use Rattle.std.proofs.lemmas.Bool.{leb-true}
 use Rattle.std.proofs.lemmas.List.{length-map, length-take, take_all, map-append}
 use Rattle.std.proofs.Math.Seq.{take-suc, take-append_seam, drop-append_seam}
@@ -24,7 +24,7 @@ use Rattle.etcs_sequence.specs.Labels.{labelled, widths}
 use Rattle.etcs_sequence.specs.Fronts.{FrontAt}
 use Rattle.etcs_sequence.proofs.LabelLaws.{numbers_labelled}
 use Rattle.etcs_tables.specs.Headers.{head_row}
-use Rattle.etcs_messages.specs.Lefts.{own_row, front_after, front_row, front_vars, front_bits, some_row}
+use Rattle.etcs_messages.specs.Lefts.{own_row, front_after, front_row, front_bits, some_row}
 use Rattle.etcs_messages.specs.Fronts.{WholeFront}
 use Rattle.etcs_messages.proofs.Ways.{head_short}
 use Rattle.etcs_messages.proofs.Fields.{fields_append, fields_length}
@@ -167,8 +167,8 @@ table_is way nid table e =
     let head = head_short way in
     (own, is, ap (λ (l : List RowItem). variables (layout l)) all ∙ table_variables own, omega (arith, long, few, head))
 
-pub whole_front : (way : Way) (nid : ℕ) (vars : List Var) (table : List RowItem) (xs : List Bool) (hs f : List ℕ) (mid end : ℕ) → front_row way nid ≡ Some vars → length xs ≡ front_bits vars → Some table ≡ option_map items (message_row_to way nid) → FrontAt (head_row way) xs 18 hs mid → ((own : List Var) → variables (layout table) ≡ Some own → (ns : List ℕ) × (f ≡ hs ++ ns) × FrontAt own xs mid ns end) → WholeFront way nid xs f
-whole_front way nid vars table xs hs f mid end typed long found h o =
+pub whole_front : (way : Way) (nid : ℕ) (table : List RowItem) (xs : List Bool) (hs f : List ℕ) (mid end : ℕ) → Some table ≡ option_map items (message_row_to way nid) → FrontAt (head_row way) xs 18 hs mid → ((own : List Var) → variables (layout table) ≡ Some own → (ns : List ℕ) × (f ≡ hs ++ ns) × FrontAt own xs mid ns end) → WholeFront way nid xs f
+whole_front way nid table xs hs f mid end found h o =
     let row = head_row way in
     let (own, is, its, few) = table_is way nid table found in
     let (ns, f_is, g) = o own its in
@@ -177,26 +177,17 @@ whole_front way nid vars table xs hs f mid end typed long found h o =
     let firsts : take n f ≡ hs = ap (take n) f_is ∙ ap (λ k. take k (hs ++ ns)) (sym count) ∙ take-append_seam hs ns in
     let others : drop n f ≡ ns = ap (drop n) f_is ∙ ap (λ k. drop k (hs ++ ns)) (sym count) ∙ drop-append_seam hs ns in
     let all : front_row way nid ≡ Some (row ++ own) = ap (option_map (front_after way)) is in
-    let both : Some vars ≡ Some (row ++ own) = sym typed ∙ all in
-    let same : vars ≡ row ++ own = cc in
-    let front = front_both row own xs 18 mid end hs ns h g in
-    let last : end ≡ length xs = front_span (row ++ own) xs 18 (hs ++ ns) end front ∙ ap (λ (vs : List Var). 18 + widths vs) (sym same) ∙ sym long in
+    let both = front_both row own xs 18 mid end hs ns h g in
+    let last : end ≡ front_bits (row ++ own) = front_span (row ++ own) xs 18 (hs ++ ns) end both in
+    let front : FrontAt (row ++ own) xs 18 f (front_bits (row ++ own)) = subst (λ k. FrontAt (row ++ own) xs 18 f k) last (subst (λ (x : List ℕ). FrontAt (row ++ own) xs 18 x end) (sym f_is) both) in
     record {
       there = omega (arith, ap length f_is, length-append hs ns, count);
       head = (labelled row hs, h.reads, numbers_labelled row hs count ∙ sym firsts);
       own = (as_row own, labelled own ns, rows_alike way nid ∙ ap (option_map as_row) is, fields_row own [] (labelled own ns) g.reads, numbers_labelled own ns g.count ∙ sym others);
-      front = subst (λ (k : ℕ). FrontAt (front_vars way nid) xs 18 f k) last (subst (λ (x : List ℕ). FrontAt (front_vars way nid) xs 18 x end) (sym f_is) (subst (λ (vs : List Var). FrontAt vs xs 18 (hs ++ ns) end) (sym (ap some_row all)) front));
+      front = subst (λ (vs : List Var). FrontAt vs xs 18 f (front_bits vs)) (sym (ap some_row all)) front;
     }
 
 -- ---- A walker that comes by the front.
-
--- after NID_MESSAGE and L_MESSAGE
-pub numbers_passed : (xs : List Bool) (w next : SliceWalk) (r : Option ℕ) (n : ℕ) → w ≡ record { bits = xs; place = 0 } → r ≡ number_at w.place 18 w.bits → next ≡ record w { place = if is_some r then w.place + 18 else w.place } → r ≡ Some n → (next ≡ record { bits = xs; place = 18 }) × (18 ≤ length xs)
-numbers_passed xs w next r n first found moved some =
-    let inside : number_at 0 18 xs ≡ Some n = ap (λ (x : SliceWalk). number_at x.place 18 x.bits) (sym first) ∙ sym found ∙ some in (
-      moved ∙ ap (λ (o : Option ℕ). record w { place = if is_some o then w.place + 18 else w.place }) some ∙ ap (λ (x : SliceWalk). record x { place = x.place + 18 }) first,
-      found_inside 0 18 n xs inside,
-    )
 
 -- the numbers of these variables come after others, and the walker passes them
 abbrev pub Passes : List Var → SliceWalk → List ℕ → List ℕ → ℕ → Type 0
@@ -221,11 +212,11 @@ own_room way nid table before mid w end found none (hs, mid_is, h) =
     let count = h.count in
     (omega (arith, long, empty, count, few), h.inside)
 
-pub front_passed : (way : Way) (nid : ℕ) (vars : List Var) (table : List RowItem) (xs : List Bool) (w w' : SliceWalk) (before mid now : List ℕ) (end : ℕ) → front_row way nid ≡ Some vars → length xs ≡ front_bits vars → Some table ≡ option_map items (message_row_to way nid) → w ≡ record { bits = xs; place = 18 } → before ≡ [] → Passes (head_row way) w before mid w'.place → w'.bits ≡ w.bits → PassesTable table w' mid now end → WholeFront way nid xs now
-front_passed way nid vars table xs w w' before mid now end typed long found start none (hs, mid_is, h) same o =
+pub front_passed : (way : Way) (nid : ℕ) (table : List RowItem) (xs : List Bool) (w w' : SliceWalk) (before mid now : List ℕ) (end : ℕ) → Some table ≡ option_map items (message_row_to way nid) → w ≡ record { bits = xs; place = 18 } → before ≡ [] → Passes (head_row way) w before mid w'.place → w'.bits ≡ w.bits → PassesTable table w' mid now end → WholeFront way nid xs now
+front_passed way nid table xs w w' before mid now end found start none (hs, mid_is, h) same o =
     let mid' : mid ≡ hs = mid_is ∙ ap (λ (l : List ℕ). l ++ hs) none in
     let first = subst (λ (x : SliceWalk). FrontAt (head_row way) x.bits x.place hs w'.place) start h in
     let place : w'.bits ≡ xs = same ∙ ap (λ (x : SliceWalk). x.bits) start in
-    whole_front way nid vars table xs hs now w'.place end typed long found first
+    whole_front way nid table xs hs now w'.place end found first
     (λ own its. (let (ns, now_is, g) = o own its in
     (ns, now_is ∙ ap (λ (l : List ℕ). l ++ ns) mid', subst (λ (b : List Bool). FrontAt own b w'.place ns end) place g)))

@@ -2,7 +2,7 @@
 use Rattle.std.proofs.Common.{◌≡◌, ℕ, ◌+◌, ◌-◌, ◌*◌, ◌^◌, ◌<◌, ◌≤◌, Bool, List, [], ◌++◌, length, Some, None, refl, sym, ap, subst, ◌∙◌, arith, append-nil}
 use Rattle.std.specs.Prelude.{Option, option_map, take, drop}
 use Rattle.etcs_bits.specs.Bits.{num, part}
-use Rattle.etcs_bits.proofs.Lists.{length-part, part-part, part-add}
+use Rattle.etcs_bits.proofs.Lists.{length-part, part-add}
 use Rattle.etcs_bits.proofs.Numbers.{length-num}
 use Rattle.etcs_vars.specs.declared.var.Var.{Var}
 use Rattle.etcs_vars.specs.declared.var.Var.TheVariants.{PADDING, OTHER_DATA}
@@ -92,22 +92,16 @@ pub untyped_front : (o : Option (List Var)) → None ≡ option_map front_bits o
 untyped_front None e = refl
 untyped_front (Some vars) e = absurd cc
 
--- and these bits, where they lie among the message's, are as many as its variables have
-pub front_long : (o : Option (List Var)) (front len : ℕ) (b xs : List Bool) → Some front ≡ option_map front_bits o → front ≤ 8 * len → 8 * len ≤ length xs → b ≡ part 0 front xs → (vars : List Var) × (o ≡ Some vars) × (length b ≡ front_bits vars)
-front_long o front len b xs e within inside is =
-    let (vars, typed, wide) = typed_front o front e in
-    (vars, typed, ap length is ∙ length-part 0 front xs (omega (arith, within, inside)) ∙ wide)
-
 -- its front, its packets and PADDING, and the bits that they are
 record TypedAtOnce (way : Way) (nid len : ℕ) (vars : List Var) (f : List ℕ) (vs : List PacketValue) (pad xs : List Bool) : Type 0 where
   count : length f ≡ length vars
   lang : MessageLanguage way (headed nid len (labelled vars f ++ (readings_to way vs ++ kept PADDING pad)))
   bits : spelled (headed nid len (labelled vars f ++ (readings_to way vs ++ kept PADDING pad))) ≡ part 0 (8 * len) xs
 
-module _ (way : Way) (nid len front left : ℕ) (vars : List Var) (f : List ℕ) (holds : Holds) (pad xs : List Bool) (typed : front_row way nid ≡ Some vars) (small : nid < 2 ^ 8) (most : len < 2 ^ 10) (wide : front ≡ front_bits vars) (within : front ≤ 8 * len) (inside : 8 * len ≤ length xs) (first : num 8 nid ≡ part 0 8 xs) (second : num 10 len ≡ part 8 10 xs) (there : FrontAt (front_vars way nid) (part 0 front xs) 18 f (length (part 0 front xs))) (run : RunAt (Message way) (8 * len - front) holds xs front left) (padded : pad ≡ part (8 * len - left) left xs) where
+module _ (way : Way) (nid len front left : ℕ) (vars : List Var) (f : List ℕ) (holds : Holds) (pad xs : List Bool) (typed : front_row way nid ≡ Some vars) (small : nid < 2 ^ 8) (most : len < 2 ^ 10) (wide : front ≡ front_bits vars) (within : front ≤ 8 * len) (inside : 8 * len ≤ length xs) (first : num 8 nid ≡ part 0 8 xs) (second : num 10 len ≡ part 8 10 xs) (there : FrontAt (front_vars way nid) xs 18 f (front_bits (front_vars way nid))) (run : RunAt (Message way) (8 * len - front) holds xs front left) (padded : pad ≡ part (8 * len - left) left xs) where
   typed_parts : TypedAtOnce way nid len vars f run.packets pad xs
   typed_parts =
-      let here = subst (λ (o : Option (List Var)). FrontAt (some_row o) (part 0 front xs) 18 f (length (part 0 front xs))) typed there in
+      let here : FrontAt vars xs 18 f (front_bits vars) = subst (λ (o : Option (List Var)). FrontAt (some_row o) xs 18 f (front_bits (some_row o))) typed there in
       let vs = run.packets in
       let p = readings_to way vs in
       let q = p ++ kept PADDING pad in
@@ -118,9 +112,7 @@ module _ (way : Way) (nid len front left : ℕ) (vars : List Var) (f : List ℕ)
       let whole : ReadsPackets (Message way) (8 * len - front_bits vars) vs p = subst (λ k. ReadsPackets (Message way) (8 * len - k) vs p) wide (subst (λ (r : Reading). ReadsPackets (Message way) room vs r) none run.run) in
       let reads = subst (λ (r : Reading). spelled r ≡ part front (room - left) xs) none run.bits in
       let long : length (spelled p) + left ≡ room = subst (λ (r : Reading). length (spelled r) + left ≡ room) none run.long in
-      let size : length (part 0 front xs) ≡ front = length-part 0 front xs (omega (arith, within, inside)) in
-      let own : spelled (labelled vars f) ≡ part 18 (front - 18) xs =
-      here.bits ∙ ap (λ k. part 18 (k - 18) (part 0 front xs)) size ∙ part-part 0 front 18 (front - 18) xs (omega (arith, least)) in
+      let own : spelled (labelled vars f) ≡ part 18 (front - 18) xs = here.bits ∙ ap (λ k. part 18 (k - 18) xs) (sym wide) in
       let start : 8 * len - left ≡ front + (room - left) = omega (arith, within, left_within) in
       let last : pad ≡ part (front + (room - left)) left xs = padded ∙ ap (λ k. part k left xs) start in
       let wide_pad : length pad ≡ left = ap length padded ∙ length-part (8 * len - left) left xs (omega (arith, within, left_within, inside)) in
@@ -139,7 +131,7 @@ module _ (way : Way) (nid len front left : ℕ) (vars : List Var) (f : List ℕ)
         bits = headed_bits nid len (8 * len) (labelled vars f ++ q) xs first second (omega (arith, least, within)) all;
       }
 
-pub typed_seen : (way : Way) (nid len front left : ℕ) (vars : List Var) (f : List ℕ) (holds : Holds) (xs : List Bool) → front_row way nid ≡ Some vars → nid < 2 ^ 8 → len < 2 ^ 10 → front ≡ front_bits vars → front ≤ 8 * len → 8 * len ≤ length xs → num 8 nid ≡ part 0 8 xs → num 10 len ≡ part 8 10 xs → FrontAt (front_vars way nid) (part 0 front xs) 18 f (length (part 0 front xs)) → RunAt (Message way) (8 * len - front) holds xs front left → SeenAtOnce way len xs
+pub typed_seen : (way : Way) (nid len front left : ℕ) (vars : List Var) (f : List ℕ) (holds : Holds) (xs : List Bool) → front_row way nid ≡ Some vars → nid < 2 ^ 8 → len < 2 ^ 10 → front ≡ front_bits vars → front ≤ 8 * len → 8 * len ≤ length xs → num 8 nid ≡ part 0 8 xs → num 10 len ≡ part 8 10 xs → FrontAt (front_vars way nid) xs 18 f (front_bits (front_vars way nid)) → RunAt (Message way) (8 * len - front) holds xs front left → SeenAtOnce way len xs
 typed_seen way nid len front left vars f holds xs typed small most wide within inside first second there run =
     let whole = typed_parts way nid len front left vars f holds (part (8 * len - left) left xs) xs typed small most wide within inside first second there run refl in
     let (m, reads) = whole.lang in
@@ -153,7 +145,7 @@ padding_few way room left holds xs at run =
     (omega (arith, fills.1, run.long), within)
 
 pub typed_at_once : {H B P : Type 0} (way : Way) (hd : HeadOf H) (bd : OwnOf B) (form : P → Form) {sent_head : H → Reading} {sent_own : B → Reading} (hl : HeadLaws way H sent_head hd) (ol : OwnLaws way B sent_own bd) (nid len front left number : ℕ) (vars : List Var) (f : List ℕ) (head : H) (body : B) (list : PacketList P) (holds : Holds) (ps : List P) (xs : List Bool) → front_row way nid ≡ Some vars → nid < 2 ^ 8 → len < 2 ^ 10 → front ≡ front_bits vars → front ≤ 8 * len → 8 * len ≤ length xs → num 8 nid ≡ part 0 8 xs → num 10 len ≡ part 8 10 xs
-    → FrontAt (front_vars way nid) (part 0 front xs) 18 f (length (part 0 front xs)) → IsFrontBy way hd bd nid f head body → RunAt (Message way) (8 * len - front) holds xs front left → ((vs : List PacketValue) (g : List ℕ) (k : List Bool) → holds vs g k → list_holds form list.packets.items list.numbers.items list.bits vs g k) → num left number ≡ part (8 * len - left) left xs → number < 2 ^ left → ps ≡ list.packets.items → ReadAtOnce way hd bd form (Typed head body ps number) len xs
+    → FrontAt (front_vars way nid) xs 18 f (front_bits (front_vars way nid)) → IsFrontBy way hd bd nid f head body → RunAt (Message way) (8 * len - front) holds xs front left → ((vs : List PacketValue) (g : List ℕ) (k : List Bool) → holds vs g k → list_holds form list.packets.items list.numbers.items list.bits vs g k) → num left number ≡ part (8 * len - left) left xs → number < 2 ^ left → ps ≡ list.packets.items → ReadAtOnce way hd bd form (Typed head body ps number) len xs
 typed_at_once {H} {B} {P} way hd bd form hl ol nid len front left number vars f head body list holds ps xs typed small most wide within inside first second there made run listed padded fits same =
     let pad = num left number in
     let vs = run.packets in
@@ -191,7 +183,7 @@ kept_outline way head_of body_of bd nid len b xs untyped small least most inside
     let (k, is) = kept_parts way nid len b xs untyped small least most inside first second e in
     (headed nid len (kept OTHER_DATA b), k, is)
 
-pub typed_outline : {H B : Type 0} (way : Way) (hd : HeadOf H) (bd : OwnOf B) {sent_head : H → Reading} {sent_own : B → Reading} (hl : HeadLaws way H sent_head hd) (ol : OwnLaws way B sent_own bd) (nid len front : ℕ) (vars : List Var) (f : List ℕ) (head : H) (body : B) (xs : List Bool) → front_row way nid ≡ Some vars → nid < 2 ^ 8 → len < 2 ^ 10 → front ≡ front_bits vars → front ≤ 8 * len → 8 * len ≤ length xs → num 8 nid ≡ part 0 8 xs → num 10 len ≡ part 8 10 xs → FrontAt (front_vars way nid) (part 0 front xs) 18 f (length (part 0 front xs)) → IsFrontBy way hd bd nid f head body → IsOutline way sent_head sent_own bd xs len (outline.Typed head body front)
+pub typed_outline : {H B : Type 0} (way : Way) (hd : HeadOf H) (bd : OwnOf B) {sent_head : H → Reading} {sent_own : B → Reading} (hl : HeadLaws way H sent_head hd) (ol : OwnLaws way B sent_own bd) (nid len front : ℕ) (vars : List Var) (f : List ℕ) (head : H) (body : B) (xs : List Bool) → front_row way nid ≡ Some vars → nid < 2 ^ 8 → len < 2 ^ 10 → front ≡ front_bits vars → front ≤ 8 * len → 8 * len ≤ length xs → num 8 nid ≡ part 0 8 xs → num 10 len ≡ part 8 10 xs → FrontAt (front_vars way nid) xs 18 f (front_bits (front_vars way nid)) → IsFrontBy way hd bd nid f head body → IsOutline way sent_head sent_own bd xs len (outline.Typed head body front)
 typed_outline {H} {B} way hd bd {sent_head} {sent_own} hl ol nid len front vars f head body xs typed small most wide within inside first second there made = (
   within,
   inside,

@@ -23,8 +23,8 @@ use crate::phase::front_bits;
 use crate::reader::front_by;
 use crate::rest::MessageRest;
 use arrayvec::ArrayVec;
-use etcs_bits::{BitSlice, Bits, SliceWalker};
-use etcs_bodies::ListOf;
+use etcs_bits::{BitSlice, Bits};
+use etcs_bodies::{ListOf, PieceWalker, Walk};
 use etcs_packets::inner::AnyPacket;
 use etcs_reader::inner::pass_front;
 use etcs_rows::inner::Carrier;
@@ -79,7 +79,7 @@ pub fn message_seen<H: Head, B: Own<Front = H>>(piece: &[u8]) -> Option<usize>
     if front > end {
         return None;
     }
-    front_numbers(H::Packet::WAY, nid, bits_at(piece, 0, front))?;
+    front_numbers(H::Packet::WAY, nid, piece)?;
     let mut store = PacketCount::<H::Packet>::new();
     match take_run(
         &mut store,
@@ -121,7 +121,7 @@ pub fn outline_of<H: Head, B: Own<Front = H>>(piece: &[u8]) -> Option<(Outline<'
     if front > end {
         return None;
     }
-    let (head, body) = front_at(nid, bits_at(piece, 0, front))?;
+    let (head, body) = front_at(nid, piece)?;
     Some((Outline::Typed { head, body, front }, bytes))
 }
 
@@ -201,7 +201,7 @@ fn typed_at<H: Head, B: Own<Front = H>>(
     if front > end {
         return None;
     }
-    let (head, body) = front_at(nid, bits_at(piece, 0, front))?;
+    let (head, body) = front_at(nid, piece)?;
     let mut store = H::Store::over(PacketList::new(alloc));
     let carrier = Carrier::Message(H::Packet::WAY);
     let left = match take_run(&mut store, carrier, end - front, piece, front)? {
@@ -254,26 +254,27 @@ fn resume<H: Head, B: Own<Front = H>>(
     *part = Some((rest, end - left));
 }
 
-/// What comes before the packets of a typed message of this number, after L_MESSAGE, if each variable admits its
-/// number. The bits are those of the message before its packets.
+/// What comes before the packets of a message of this number, after L_MESSAGE, if the number is typed and each variable
+/// admits its number.
 #[inline(always)]
-fn front_at<H: Head, B: Own<Front = H>>(nid: u8, bits: BitSlice<'_>) -> Option<(H, B)>
-    requires typed { (vars : List Var) × (front_row H.Packet.WAY nid ≡ Some vars) × (length bits ≡ front_bits vars) }
-    ensures { IfSome result (λ t. (f : List ℕ) × FrontAt (front_vars H.Packet.WAY nid) bits.entry 18 f (length bits.entry) × IsFrontBy H.Packet.WAY H.head B.own nid f t.0 t.1) }
+fn front_at<H: Head, B: Own<Front = H>>(nid: u8, piece: &[u8]) -> Option<(H, B)>
+    requires inside { 18 ≤ length (bits piece.now) }
+    requires small { length (bits piece.now) < 2 ^ 64 }
+    ensures { IfSome result (λ t. (f : List ℕ) × FrontAt (front_vars H.Packet.WAY nid) (bits piece.now) 18 f (front_bits (front_vars H.Packet.WAY nid)) × IsFrontBy H.Packet.WAY H.head B.own nid f t.0 t.1) }
 {
-    let numbers = front_numbers(H::Packet::WAY, nid, bits)?;
+    let numbers = front_numbers(H::Packet::WAY, nid, piece)?;
     Some(front_by(nid, numbers.as_slice()))
 }
 
-/// The numbers of the variables before the packets of a typed message of this number, after L_MESSAGE, if each is
-/// admitted. The bits are those of the message before its packets.
+/// The numbers of the variables before the packets of a message of this number, after L_MESSAGE, if the number is typed
+/// and each is admitted.
 #[inline(always)]
-fn front_numbers(way: Way, nid: u8, bits: BitSlice<'_>) -> Option<ArrayVec<u64, 5>>
-    requires typed { (vars : List Var) × (front_row way nid ≡ Some vars) × (length bits ≡ front_bits vars) }
-    ensures { IfSome result (λ f. WholeFront way nid bits.entry f.items) }
+fn front_numbers(way: Way, nid: u8, piece: &[u8]) -> Option<ArrayVec<u64, 5>>
+    requires inside { 18 ≤ length (bits piece.now) }
+    requires small { length (bits piece.now) < 2 ^ 64 }
+    ensures { IfSome result (λ f. WholeFront way nid (bits piece.now) f.items) }
 {
-    let mut walker = SliceWalker::new(bits);
-    walker.next(NUMBER_BITS + LENGTH_BITS)?;
+    let mut walker = PieceWalker::new(piece, NUMBER_BITS + LENGTH_BITS);
     let mut numbers = ArrayVec::new();
     take_items(head_row(way).items, &mut walker, &mut numbers)?;
     let row = message_row(way, nid)?;
@@ -283,13 +284,13 @@ fn front_numbers(way: Way, nid: u8, bits: BitSlice<'_>) -> Option<ArrayVec<u64, 
 
 /// Takes the number of a variable, if it is admitted.
 #[inline(always)]
-fn take_number(var: Var, walker: &mut SliceWalker<'_>, numbers: &mut ArrayVec<u64, 5>) -> Option<()>
+fn take_number(var: Var, walker: &mut PieceWalker<'_>, numbers: &mut ArrayVec<u64, 5>) -> Option<()>
     requires room { length numbers.old.items < 5 }
     requires place { walker.old.place ≤ length walker.old.bits }
     ensures front { OnSome result ((n : ℕ) × (numbers.new.items ≡ numbers.old.items ++ n ∷ []) × FrontAt (var ∷ []) walker.old.bits walker.old.place (n ∷ []) walker.new.place) }
     ensures bits { walker.new.bits ≡ walker.old.bits }
 {
-    let number = walker.next(var.width())?;
+    let number = walker.take(var.width())?;
     if !var.admits(number) {
         return None;
     }
@@ -301,7 +302,7 @@ fn take_number(var: Var, walker: &mut SliceWalker<'_>, numbers: &mut ArrayVec<u6
 #[inline(always)]
 fn take_items(
     items: &[RowItem],
-    walker: &mut SliceWalker<'_>,
+    walker: &mut PieceWalker<'_>,
     numbers: &mut ArrayVec<u64, 5>,
 ) -> Option<()>
     requires room { length numbers.old.items + length items.now ≤ 5 }

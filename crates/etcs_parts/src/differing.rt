@@ -147,7 +147,11 @@ impl Plain for Differing {
     #[inline(always)]
     fn read<L: Numbers>(numbers: &mut L) -> Option<Differing> {
         let q_diff = numbers.next(Var::Q_DIFF)? as u8;
-        let (category, v_diff) = numbers.run((category_var(q_diff), Var::V_DIFF))?;
+        let (category, v_diff) = if q_diff == 0 {
+            numbers.run((Var::NC_CDDIFF, Var::V_DIFF))?
+        } else {
+            numbers.run((Var::NC_DIFF, Var::V_DIFF))?
+        };
         Some(Differing {
             q_diff,
             category: category as u8,

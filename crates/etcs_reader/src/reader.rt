@@ -1,13 +1,14 @@
 //! Bits of a piece, after what is left of a language.
 
 ghost use Rattle.std.specs.Prelude.{◌≡◌, ℕ, ◌+◌, ◌-◌, ◌*◌, ◌/◌, ◌^◌, ◌<◌, ◌≤◌, ◌++◌, Bool, List, length, take, Some, MatchResult, IfOk, IfErr};
+ghost use Rattle.etcs_bits.specs.Bits as bit_lists;
 ghost use Rattle.etcs_bits.specs.Bits.{bits, part, num};
 ghost use Rattle.etcs_vars.specs.Vars.{width};
 ghost use Rattle.etcs_vars.specs.Walking.{Refuses};
 ghost use Rattle.etcs_reader.specs.Rests.{Starts, Goes};
 
 use crate::rest::Rest;
-use etcs_bits::peek;
+use etcs_bits::inner::{peek_at_end, peek_word};
 use etcs_vars::Var;
 
 /// Why a reader takes no more of a piece. Bits count from the piece's first.
@@ -38,7 +39,20 @@ pub fn number_at(piece: &[u8], at: usize, count: usize) -> u64
     ensures bits { num count result ≡ part at count (bits piece.now) }
     ensures fits { result < 2 ^ count }
 {
-    match peek(piece, at, count) {
+    match peek_word(piece, at, count) {
+        Some(number) => number,
+        None => number_at_end(piece, at, count),
+    }
+}
+
+/// As [`number_at`], near the end of the piece.
+#[inline(always)]
+fn number_at_end(piece: &[u8], at: usize, count: usize) -> u64
+    requires width { count ≤ 64 }
+    requires inside { at + count ≤ length (bits piece.now) }
+    ensures { bit_lists.number_at at count (bits piece.now) ≡ Some result }
+{
+    match peek_at_end(piece, at, count) {
         Some(number) => number,
         None => unreachable!(),
     }

@@ -144,7 +144,7 @@ impl Header {
 /// The header that has these ten numbers, in the order of sending.
 ///
 /// Requires exactly ten numbers, each admitted by its variable.
-pub fn header_by(numbers: &[u64]) -> Header
+pub(crate) fn header_by(numbers: &[u64]) -> Header
     requires { IsHeaderNumbers numbers.now }
     ensures { result ≡ header_of numbers.now }
 {

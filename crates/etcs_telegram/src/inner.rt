@@ -6,7 +6,6 @@ ghost use Rattle.etcs_telegram.specs.Telegrams.{header_reading, telegram_value, 
 ghost use Rattle.etcs_telegram.specs.Writing.{telegram_reading};
 
 use crate::header::Header;
-pub use crate::header::header_by;
 pub use crate::header_bits::HEADER_BITS;
 pub use crate::rest::TelegramRest;
 pub use crate::store::TelegramStore;

@@ -1,5 +1,7 @@
 //! Sizes.
 
+use crate::whole::{sees_long, sees_short};
+
 /// How many user bits a telegram has (SUBSET-036): 210 or 830.
 #[derive(Clone, Copy, Debug, PartialEq, Eq)]
 pub enum Size {
@@ -49,13 +51,16 @@ impl Size {
     /// [`TelegramReader`](crate::TelegramReader) decides. Takes no memory.
     ///
     /// Requires that a word counts the bits of the piece.
-    #[inline(never)]
+    #[inline]
     pub fn sees(self, piece: &[u8]) -> bool
         requires small { length (bits piece.now) < 2 ^ 64 }
         ensures within { IsTrue result → container_bytes self ≤ length piece.now }
         ensures reads { IsTrue result → (t : TelegramValue) × (r : Reading) × ReadsAs self t r × (spelled r ≡ part 0 (8 * container_bytes self) (bits piece.now)) }
     {
-        crate::whole::sees(self, piece)
+        match self {
+            Size::Short => sees_short(piece),
+            Size::Long => sees_long(piece),
+        }
     }
 
     /// How many user bits the header leaves to packets, packet 255 and FILL: 160 or 780.

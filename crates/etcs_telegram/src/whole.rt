@@ -6,6 +6,7 @@ ghost use Rattle.etcs_bits.specs.Bits.{num, bits};
 ghost use Rattle.etcs_vars.specs.Reading.{Reading, spelled};
 ghost use Rattle.etcs_sequence.specs.AtOnce.{RunFirst};
 ghost use Rattle.etcs_telegram.specs.Telegrams.{IsAdmitted, IsTelegram, ReadsAs, TelegramValue, telegram_value, header_reading, user_bits, pad_bits, container_bytes, packet_room};
+ghost use Rattle.etcs_telegram.specs.declared.size.Size.TheVariants.{Long, Short};
 ghost use Rattle.etcs_telegram.specs.Readers.{store_holds, IsTelegramPart};
 
 use crate::header::Header;
@@ -71,16 +72,47 @@ pub fn front_of(size: Size, piece: &[u8]) -> Option<Header>
     ensures admitted { IfSome result (λ h. IsAdmitted (header_reading h)) }
     ensures bits { IfSome result (λ h. spelled (header_reading h) ≡ bit_lists.part 0 50 (bits piece.now)) }
 {
-    if piece.len() < size.container_bytes()
-        || number_at(piece, size.user_bits(), size.pad_bits()) > 0
-    {
+    if piece.len() < size.container_bytes() || pad_at_end(size, piece) > 0 {
         return None;
     }
     header_at_front(piece)
 }
 
+/// The bits of PAD of a telegram of this size, as a number.
+#[inline(always)]
+fn pad_at_end(size: Size, piece: &[u8]) -> u64
+    requires { container_bytes size ≤ length piece.now }
+    ensures { num (pad_bits size) result ≡ bit_lists.part (user_bits size) (pad_bits size) (bits piece.now) }
+{
+    match size {
+        Size::Short => number_at(piece, 210, 6),
+        Size::Long => number_at(piece, 830, 2),
+    }
+}
+
+/// [`sees`] of a short telegram.
+#[inline(never)]
+pub(crate) fn sees_short(piece: &[u8]) -> bool
+    requires small { length (bits piece.now) < 2 ^ 64 }
+    ensures within { IsTrue result → container_bytes Short ≤ length piece.now }
+    ensures reads { IsTrue result → (t : TelegramValue) × (r : Reading) × ReadsAs Short t r × (spelled r ≡ bit_lists.part 0 (8 * container_bytes Short) (bits piece.now)) }
+{
+    sees(Size::Short, piece)
+}
+
+/// [`sees`] of a long telegram.
+#[inline(never)]
+pub(crate) fn sees_long(piece: &[u8]) -> bool
+    requires small { length (bits piece.now) < 2 ^ 64 }
+    ensures within { IsTrue result → container_bytes Long ≤ length piece.now }
+    ensures reads { IsTrue result → (t : TelegramValue) × (r : Reading) × ReadsAs Long t r × (spelled r ≡ bit_lists.part 0 (8 * container_bytes Long) (bits piece.now)) }
+{
+    sees(Size::Long, piece)
+}
+
 /// If true, the piece begins with a telegram of this size. It may always return false. Takes no memory.
-pub(crate) fn sees(size: Size, piece: &[u8]) -> bool
+#[inline(always)]
+fn sees(size: Size, piece: &[u8]) -> bool
     requires small { length (bits piece.now) < 2 ^ 64 }
     ensures within { IsTrue result → container_bytes size ≤ length piece.now }
     ensures reads { IsTrue result → (t : TelegramValue) × (r : Reading) × ReadsAs size t r × (spelled r ≡ bit_lists.part 0 (8 * container_bytes size) (bits piece.now)) }

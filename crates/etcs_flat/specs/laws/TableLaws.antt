@@ -1,5 +1,5 @@
 -- What loops over the table of a packet without groups compute, by the packet's variables.
-use Rattle.std.proofs.Common.{◌≡◌, ℕ, ◌+◌, ◌≤◌, List, [], ◌∷◌, ◌++◌, length, map, Option, Some, None, refl, sym, ap, ◌∙◌, arith, Bool, true, false}
+use Rattle.std.proofs.Common.{◌≡◌, ℕ, ◌+◌, ◌≤◌, List, [], ◌∷◌, ◌++◌, length, map, drop, Option, Some, None, refl, sym, ap, ◌∙◌, append_assoc, arith, Bool, true, false}
 use Rattle.std.specs.Prelude.{IsSome, sum_by, if◌then◌else◌}
 use Rattle.std.specs.Option.{option_map, option_and_then}
 use Rattle.std.proofs.lemmas.List.Sums.{sum_by-cons}
@@ -14,7 +14,7 @@ use Rattle.etcs_tables.specs.declared.item.RowItem.TheVariants.{One, When, Many}
 use Rattle.etcs_tables.specs.declared.row.Way.{Way}
 use Rattle.etcs_flat.specs.Flats.{flat_row_to, flat_fault_to, pairs, row_reading, flat_reading_to, variables, is_one}
 use Rattle.etcs_flat.specs.laws.FlatLaws.{nothing_wrong, row_short}
-use Rattle.etcs_flat.specs.Tables.{item_width, table_pairs, table_from}
+use Rattle.etcs_flat.specs.Tables.{item_width, item_pair, table_pairs, table_from}
 use Rattle.etcs_bodies.specs.Taking.{Left, next_number}
 use Rattle.etcs_bodies.specs.Repeats.{beyond}
 use Rattle.etcs_bodies.specs.laws.Repeats.{after_more}
@@ -53,6 +53,13 @@ taken_more ns v n table s t h = rw h (after_more ns n (table_from table t))
 
 pub taken_none : (ns : List ℕ) (v : Var) (table : List RowItem) (s : Left) → next_number v s ≡ None → beyond ns (table_from (One v ∷ table) s) ≡ None
 taken_none ns v table s h = rw h refl
+
+-- one more pair
+pub pairs_more : (table rest : List RowItem) (v : Var) (n : ℕ) (ns : List ℕ) → drop (length ns) table ≡ One v ∷ rest → table_pairs table (ns ++ n ∷ []) ≡ table_pairs table ns ++ (v, n) ∷ []
+pairs_more [] rest v n [] e = absurd cc
+pairs_more [] rest v n (m ∷ ns) e = absurd cc
+pairs_more (item ∷ table) rest v n [] e = let first : item ≡ One v = cc in rw first (ap (λ (r : Reading). (v, n) ∷ r) (pairs_of_none table))
+pairs_more (item ∷ table) rest v n (m ∷ ns) e = ap (λ (r : Reading). item_pair item m ++ r) (pairs_more table rest v n ns e) ∙ sym (append_assoc (item_pair item m) (table_pairs table ns) ((v, n) ∷ []))
 
 -- ---- The table of a row without groups.
 

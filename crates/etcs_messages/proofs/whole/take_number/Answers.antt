@@ -12,6 +12,6 @@ returns-clause-front c =
     let w = c.args.walker.now in
     let v = c.args.var in
     let n = c.in_ok-number.number in
-    let found : number_at w.place (width v) w.bits ≡ Some n = ap (λ k. number_at w.place k w.bits) (sym c.width.ensures) ∙ sym c.next.ensures.number ∙ c.in_ok-number.was in
-    let moved : c.next.new.self.place ≡ w.place + width v = ap (λ (x : SliceWalk). x.place) c.next.ensures.moved ∙ ap (λ (r : Option ℕ). if is_some r then w.place + c.width.result else w.place) c.in_ok-number.was ∙ ap (λ k. w.place + k) c.width.ensures in
+    let found : number_at w.place (width v) w.bits ≡ Some n = ap (λ k. number_at w.place k w.bits) (sym c.width.ensures) ∙ sym c.take.ensures.number ∙ c.in_ok-number.was in
+    let moved : c.take.new.self.place ≡ w.place + width v = ap (λ (x : SliceWalk). x.place) c.take.ensures.moved ∙ ap (λ (r : Option ℕ). if is_some r then w.place + c.width.result else w.place) c.in_ok-number.was ∙ ap (λ k. w.place + k) c.width.ensures in
     (n, c.push.ensures.items, subst (λ k. FrontAt (v ∷ []) w.bits w.place (n ∷ []) k) (sym moved) (front_one v w.bits w.place n found (sym c.admits.ensures ∙ c.if-not-admits.false)))

@@ -6,10 +6,8 @@ use Rattle.etcs_telegram.proofs.Encoding.{room_more}
 use Rattle.etcs_telegram.proofs.WholeTelegram.{container_inside}
 use Rattle.etcs_telegram.proofs.whole.front_of.Goals as goal
 
-pub number_at-requires-clause-inside : goal.number_at-requires-clause-inside
-number_at-requires-clause-inside c =
-    let long = container_inside c.args.size c.args.piece.now (omega (arith, c.if-piece-container_bytes.false, c.container_bytes.ensures)) in
-    omega (arith, long, c.user_bits.ensures, c.pad_bits.ensures)
+pub pad_at_end-requires : goal.pad_at_end-requires
+pad_at_end-requires c = omega (arith, c.if-piece-container_bytes.false, c.container_bytes.ensures)
 
 pub header_at_front-requires : goal.header_at_front-requires
 header_at_front-requires c =
@@ -22,6 +20,6 @@ returns-clause-within c =
 
 pub returns-clause-pad : goal.returns-clause-pad
 returns-clause-pad c =
-    let none : c.number_at.result ≡ 0 = (let test = c.if-number_at-gt0.false in omega (arith, test)) in
-    let zeros = sym (rw (c.user_bits.ensures, c.pad_bits.ensures) at c.number_at.ensures.bits) ∙ ap (λ (n : ℕ). num (pad_bits c.args.size) n) none in
+    let none : c.pad_at_end.result ≡ 0 = (let test = c.if-pad_at_end-gt0.false in omega (arith, test)) in
+    let zeros = sym c.pad_at_end.ensures ∙ ap (λ (n : ℕ). num (pad_bits c.args.size) n) none in
     IfSome_then c.header_at_front.result c.header_at_front.ensures.admitted (λ _ _. zeros)

@@ -1,4 +1,4 @@
-use Rattle.std.proofs.Common.{◌≡◌, [], arith}
+use Rattle.std.proofs.Common.{[], arith}
 use Rattle.etcs_telegram.proofs.Encoding.{room_more}
 use Rattle.etcs_telegram.proofs.WholeTelegram.{container_inside, fill_fits, whole_value, whole_reads}
 use Rattle.etcs_telegram.proofs.whole.telegram_at.Goals as goal

@@ -1,5 +1,8 @@
+use Rattle.std.proofs.Common.{IfOk}
 use Rattle.std.proofs.lemmas.Result.{IfOk-weaker}
+use Rattle.std.specs.Prelude.{IsTrue}
 use Rattle.etcs_tables.specs.declared.row.Way.TheVariants.{ToTrain}
+use Rattle.etcs_bodies.specs.Passing.{PassedRow}
 use Rattle.etcs_flat.specs.laws.FlatCodes.{table_row}
 use Rattle.etcs_flat.proofs.flat.FlatBody.pass.Goals as goal
 

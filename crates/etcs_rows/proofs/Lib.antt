@@ -4,6 +4,7 @@ pub mod Blocks
 pub mod CursorLemmas
 pub mod Cuts
 pub mod Doubling
+pub mod EntryLemmas
 pub mod FitLemmas
 pub mod Flags
 pub mod FrameLemmas

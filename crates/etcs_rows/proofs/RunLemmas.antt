@@ -6,7 +6,7 @@ use Rattle.etcs_bits.proofs.Lists.{part-add}
 use Rattle.etcs_vars.specs.declared.var.Var.{Var}
 use Rattle.etcs_vars.specs.Vars.{width}
 use Rattle.etcs_vars.specs.Walking.{Residual}
-use Rattle.etcs_vars.specs.Reading.{Sent, Reading, spelled}
+use Rattle.etcs_vars.specs.Reading.{Sent, Reading, spelled, numbers}
 use Rattle.etcs_vars.specs.laws.Spellings.{spelled-append}
 use Rattle.etcs_tables.specs.Layouts.{Layout, ReadsIn}
 use Rattle.etcs_rows.specs.Places.{after_number}
@@ -31,3 +31,13 @@ run_more row len xs at count f left bits x n new more r k after much d =
           ∙ ap (λ (t : List Bool). part at count xs ++ t) (append-nil (num (width x) n) ∙ k.bits)
           ∙ sym (part-add at count (width x) xs);
     }
+
+-- several variables more
+pub runs_along : (row : Layout) (len : ℕ) (xs : List Bool) (at c : ℕ) (f : List ℕ) (mid : Layout) (more d : ℕ) (g : List ℕ) (left : Layout) (bits : ℕ) → RunsTo row len xs at c f mid more → RunsTo mid more xs (at + c) d g left bits → RunsTo row len xs at (c + d) (f ++ g) left bits
+runs_along row len xs at c f mid more d g left bits a b = record {
+  inside = (let i = b.inside in omega (arith, i));
+  run = a.run ++ b.run;
+  numbers_are = map-append (λ (s : Sent). s.1) a.run b.run ∙ ap (λ (t : List ℕ). t ++ numbers b.run) a.numbers_are ∙ ap (λ (t : List ℕ). f ++ t) b.numbers_are;
+  follows = follows_along row len a.run mid more b.run left bits a.follows b.follows;
+  spelling = spelled-append a.run b.run ∙ ap (λ (t : List Bool). t ++ spelled b.run) a.spelling ∙ ap (λ (t : List Bool). part at c xs ++ t) b.spelling ∙ sym (part-add at c d xs);
+}

@@ -1,4 +1,5 @@
 pub mod Cursors
+pub mod Entries
 pub mod Frames
 pub mod Heads
 pub mod Lengths

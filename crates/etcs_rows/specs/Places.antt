@@ -14,6 +14,13 @@ append (one v rest) tail = one v (append rest tail)
 append (guarded g group rest) tail = guarded g group (append rest tail)
 append (counted group rest) tail = counted group (append rest tail)
 
+-- no group in front
+abbrev pub Open : Layout → Type 0
+Open whole = Unit {0}
+Open (one v rest) = Unit {0}
+Open (guarded g group rest) = ⊥
+Open (counted group rest) = ⊥
+
 -- n times f, of x
 abbrev pub iterate : ℕ → (Layout → Layout) → Layout → Layout
 iterate zero f x = x

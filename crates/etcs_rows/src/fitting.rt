@@ -51,7 +51,7 @@ fn waiting_steps(waiting: &[Pending]) -> Option<Progression>
 }
 
 /// How many bits may be left after the current items, if that is known without a walk over the groups that wait.
-fn known_steps(outer: &[Pending]) -> Option<Progression>
+pub(crate) fn known_steps(outer: &[Pending]) -> Option<Progression>
     requires { WaitsNest (reverse outer.now) }
     ensures { IfSome result (λ s. IsProgression s (LengthsBy (waiting (reverse outer.now)) 0)) }
 {

@@ -17,6 +17,7 @@ mod place;
 mod progression;
 mod rest;
 mod row_run;
+mod speeds;
 mod takers;
 mod total;
 mod walk;

@@ -1,20 +1,25 @@
 //! Places in rows.
 
-ghost use Rattle.std.specs.Prelude.{◌≡◌, ◌↔◌, false, ℕ, ◌+◌, ◌-◌, ◌<◌, ◌≤◌, [], ◌∷◌, length, take, drop, IsTrue, IsSome, Some, None, option_map};
-ghost use Rattle.etcs_tables.specs.Layouts.{layout, passes, guarded, counted, looks, Lengths};
+ghost use Rattle.std.specs.Prelude.{◌≡◌, ◌↔◌, false, ℕ, ◌+◌, ◌-◌, ◌^◌, ◌<◌, ◌≤◌, [], ◌∷◌, length, take, drop, IsTrue, IsSome, IfSome, IsNone, Some, None, option_map};
+ghost use Rattle.etcs_bits.specs.Bits.{bits};
+ghost use Rattle.etcs_reader.specs.Rests.{Goes};
+ghost use Rattle.etcs_tables.specs.Layouts.{layout, passes, guarded, counted, looks, Lengths, ReadsIn};
 ghost use Rattle.etcs_rows.specs.Lengths.{FitsWithin, is_free};
 ghost use Rattle.etcs_rows.specs.Sets.{In};
 ghost use Rattle.etcs_rows.specs.Nearest.{IsNear};
 ghost use Rattle.etcs_rows.specs.Places.{first_variable, after_any, after_number};
+ghost use Rattle.etcs_rows.specs.Runs.{RunsTo};
 
 use crate::fitting::{
-    Around, around_first, fits_at, fits_by_steps, kept_by_steps, meets_by_steps, tail_steps,
+    Around, around_first, fits_at, fits_by_steps, kept_by_steps, known_steps, meets_by_steps,
+    tail_steps,
 };
 use crate::head::{Head, first_item, has_group};
 use crate::length_set::LengthSet;
 use crate::measure::{first_lengths, lengths_of};
 use crate::near::Near;
 use crate::progression::{Progression, steps_again};
+use crate::speeds::{EntryNumbers, differing_at, is_differing, is_speed, speed_at};
 use crate::takers::Kept;
 use arrayvec::ArrayVec;
 use etcs_tables::{Guard, Row, RowItem};
@@ -187,6 +192,63 @@ impl Cursor {
 
 impl Cursor {
     ghost use Rattle.std.specs.Prelude.{reverse};
+    ghost use Rattle.etcs_rows.specs.Cursors.{waiting, left_of, Nests, IsSettled};
+    ghost use Rattle.etcs_rows.specs.Lengths.{LengthsBy};
+    ghost use Rattle.etcs_rows.specs.Entries.{TakenTo};
+
+    /// How many bits the entry of a speed profile has that is all of the current list, if the piece has it from `at` on,
+    /// its numbers are admitted, and the row can end in its `len` bits with it if it can do so at all. It puts the numbers
+    /// after the others. It may always return `None`.
+    #[inline(always)]
+    fn entry(
+        &self,
+        piece: &[u8],
+        at: usize,
+        len: usize,
+        numbers: &mut EntryNumbers,
+    ) -> Option<usize>
+        requires nests { Nests self.now }
+        requires inside { at ≤ length (bits piece.now) }
+        requires small { length (bits piece.now) < 2 ^ 64 }
+        requires none { numbers.old.items ≡ [] }
+        ensures some { IfSome result (λ n. 0 < n) }
+        ensures within { IfSome result (λ n. n ≤ len) }
+        ensures taken { IfSome result (λ n. TakenTo (left_of self.now) len (bits piece.now) at n numbers.new.items (waiting (reverse self.now.pending.items)) (len - n)) }
+        ensures lengths { IfSome result (λ n. LengthsBy (left_of self.now) 0 len → LengthsBy (waiting (reverse self.now.pending.items)) 0 (len - n)) }
+    {
+        if is_differing(self.items) {
+            let count = differing_at(piece, at, numbers)?;
+            return if count <= len { Some(count) } else { None };
+        }
+        if !is_speed(self.items) {
+            return None;
+        }
+        let count = speed_at(piece, at, numbers)?;
+        if count > len {
+            return None;
+        }
+        let left = known_steps(self.pending.as_slice())?;
+        if left.holds(len - count) {
+            Some(count)
+        } else {
+            None
+        }
+    }
+
+    /// Past all of the current list.
+    fn skip(&mut self)
+        requires { Nests self.old }
+        ensures left { left_of self.new ≡ waiting (reverse self.old.pending.items) }
+        ensures nests { Nests self.new }
+        ensures settled { IsSettled self.new }
+    {
+        self.items = &[];
+        self.settle();
+    }
+}
+
+impl Cursor {
+    ghost use Rattle.std.specs.Prelude.{reverse};
     ghost use Rattle.etcs_rows.specs.Cursors.{waiting, left_of};
     ghost use Rattle.etcs_rows.specs.Lengths.{LengthsBy};
     ghost use Rattle.etcs_rows.specs.Sets.{IsSet};
@@ -299,6 +361,37 @@ impl Place {
             self.cursor.items = rest;
             self.cursor.settle();
         }
+    }
+
+    /// Whether all of an entry of a speed profile comes next.
+    #[inline(always)]
+    pub(crate) fn is_at_entry(&self) -> bool {
+        is_differing(self.cursor.items) || is_speed(self.cursor.items)
+    }
+
+    /// Moves past the entry of a speed profile that comes next, if the piece has it from `at` on, its numbers are admitted,
+    /// and the row can end in its `len` bits with it if it can do so at all; and returns how many bits it has. The numbers
+    /// are then those of the entry. It may always return `None`.
+    pub(crate) fn pass_entry(
+        &mut self,
+        piece: &[u8],
+        at: usize,
+        len: usize,
+        numbers: &mut EntryNumbers,
+    ) -> Option<usize>
+        requires inside { at ≤ length (bits piece.now) }
+        requires small { length (bits piece.now) < 2 ^ 64 }
+        ensures none { IsNone result → self.new ≡ self.old }
+        ensures some { IfSome result (λ n. 0 < n) }
+        ensures within { IfSome result (λ n. n ≤ len) }
+        ensures looks { IsTrue (looks None self.new) }
+        ensures run { IfSome result (λ n. RunsTo self.old len (bits piece.now) at n numbers.new.items self.new (len - n)) }
+        ensures goes { IfSome result (λ n. Goes (ReadsIn self.old len) → Goes (ReadsIn self.new (len - n))) }
+    {
+        numbers.clear();
+        let count = self.cursor.entry(piece, at, len, numbers)?;
+        self.cursor.skip();
+        Some(count)
     }
 
     /// Whether no group looks at the number of the next variable.

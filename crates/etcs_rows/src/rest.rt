@@ -1,16 +1,19 @@
 //! What is left of a row of a known number of bits.
 
-ghost use Rattle.std.specs.Prelude.{◌≡◌, ◌↔◌, ◌<◌, ◌≤◌, ◌+◌, ◌-◌, ◌*◌, ◌^◌, [], ◌∷◌, Some, IsTrue, IsSome, IfSome, None};
+ghost use Rattle.std.specs.Prelude.{◌≡◌, ◌↔◌, ◌<◌, ◌≤◌, ◌+◌, ◌-◌, ◌*◌, ◌^◌, [], ◌∷◌, length, Some, IsTrue, IsSome, IfSome, IsNone, None};
+ghost use Rattle.etcs_bits.specs.Bits.{bits};
 ghost use Rattle.etcs_vars.specs.Vars.{width, admits};
 ghost use Rattle.etcs_vars.specs.Walking.{Residual};
 ghost use Rattle.etcs_reader.specs.Rests.{Goes, Starts};
 ghost use Rattle.etcs_tables.specs.Layouts.{layout, looks, Lengths, ReadsIn};
 ghost use Rattle.etcs_rows.specs.Lengths.{FitsWithin};
 ghost use Rattle.etcs_rows.specs.Places.{first_variable, after_number};
+ghost use Rattle.etcs_rows.specs.Runs.{RunsTo};
 ghost use Rattle.etcs_rows.specs.Walks.{Follows};
 ghost use Rattle.etcs_rows.specs.laws.RestLaws.{regular, row_begins_with, row_ended, follows_none, follows_along};
 
 use crate::place::{Place, reaches};
+use crate::speeds::EntryNumbers;
 use etcs_reader::Rest;
 use etcs_tables::Row;
 use etcs_vars::Var;
@@ -73,6 +76,36 @@ impl RowRest {
             place: Place::start(row),
             len,
         }
+    }
+
+    /// Whether all of an entry of a speed profile comes next.
+    #[inline(always)]
+    pub fn is_at_entry(&self) -> bool {
+        self.place.is_at_entry()
+    }
+
+    /// Moves past the entry of a speed profile that comes next, if the piece has it from `at` on, its numbers are admitted,
+    /// and the row can end in its bits with it; and returns how many bits it has. The numbers are then those of the entry.
+    /// It may always return `None`.
+    #[inline(always)]
+    pub(crate) fn pass_entry(
+        &mut self,
+        piece: &[u8],
+        at: usize,
+        numbers: &mut EntryNumbers,
+    ) -> Option<usize>
+        requires inside { at ≤ length (bits piece.now) }
+        requires small { length (bits piece.now) < 2 ^ 64 }
+        requires goes { Goes (ReadsIn self.old.place self.old.len) }
+        ensures none { IsNone result → self.new ≡ self.old }
+        ensures some { IfSome result (λ n. 0 < n) }
+        ensures len { IfSome result (λ n. self.new.len + n ≡ self.old.len) }
+        ensures goes { IfSome result (λ n. Goes (ReadsIn self.new.place self.new.len)) }
+        ensures run { IfSome result (λ n. RunsTo self.old.place self.old.len (bits piece.now) at n numbers.new.items self.new.place self.new.len) }
+    {
+        let count = self.place.pass_entry(piece, at, self.len, numbers)?;
+        self.len -= count;
+        Some(count)
     }
 
     /// The same once more.

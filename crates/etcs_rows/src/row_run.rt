@@ -1,6 +1,6 @@
 //! Several variables of a row at once.
 
-ghost use Rattle.std.specs.Prelude.{◌≡◌, ◌+◌, ◌<◌, ◌≤◌, ◌^◌, length, IfSome};
+ghost use Rattle.std.specs.Prelude.{◌≡◌, ◌+◌, ◌<◌, ◌≤◌, ◌^◌, length, IfSome, IsNone};
 ghost use Rattle.arrayvec.specs.ArrayVec.{array_vec_len};
 ghost use Rattle.etcs_bits.specs.Bits.{bits};
 ghost use Rattle.etcs_reader.specs.Rests.{Goes, Starts};
@@ -9,6 +9,7 @@ ghost use Rattle.etcs_rows.specs.Runs.{NextIn, RunsTo};
 
 use crate::place::reaches;
 use crate::rest::RowRest;
+use crate::speeds::EntryNumbers;
 use arrayvec::ArrayVec;
 use etcs_bits::peek;
 use etcs_reader::Rest;
@@ -26,7 +27,7 @@ pub struct RowRun {
 
 impl RowRun {
     /// The variable that comes next with its number, if the piece has it whole from `at` on, the number is admitted and
-    /// the row has room for it. It may always return `None`.
+    /// the row has room for it. It may always return `None`, as it does where an entry begins that is taken at once.
     #[inline(always)]
     fn next(&self, piece: &[u8], at: usize) -> Option<(Var, u64)>
         requires inside { at ≤ length (bits piece.now) }
@@ -35,6 +36,9 @@ impl RowRun {
         ensures next { IfSome result (λ p. NextIn self.now.rest.place self.now.rest.len (bits piece.now) at p.0 p.1) }
     {
         if self.numbers.is_full() {
+            return None;
+        }
+        if self.bits > 0 && self.rest.is_at_entry() {
             return None;
         }
         let var = self.rest.place.var()?;
@@ -125,5 +129,42 @@ impl RowRun {
             return None;
         }
         Some(run)
+    }
+}
+
+/// Entries of a row's speed profile, one after another: the numbers of the last one, and what is left of the row then.
+#[derive(Drop)]
+pub struct EntryRun {
+    pub rest: RowRest,
+    pub numbers: EntryNumbers,
+}
+
+impl EntryRun {
+    /// Before the first one, which begins where the row is.
+    #[inline(always)]
+    pub fn new(row: &RowRest) -> EntryRun
+        ensures place { result.rest.place ≡ row.now.place }
+        ensures len { result.rest.len ≡ row.now.len }
+    {
+        EntryRun {
+            rest: row.copied(),
+            numbers: ArrayVec::new(),
+        }
+    }
+
+    /// Takes the next one, if bits of the piece from `at` on spell it and the row can end in its bits after it, and returns
+    /// how many bits it has. It may always return `None`, and then the row stays as it was.
+    #[inline(always)]
+    pub fn next(&mut self, piece: &[u8], at: usize) -> Option<usize>
+        requires inside { at ≤ length (bits piece.now) }
+        requires small { length (bits piece.now) < 2 ^ 64 }
+        requires goes { Goes (ReadsIn self.old.rest.place self.old.rest.len) }
+        ensures none { IsNone result → self.new.rest ≡ self.old.rest }
+        ensures some { IfSome result (λ n. 0 < n) }
+        ensures len { IfSome result (λ n. self.new.rest.len + n ≡ self.old.rest.len) }
+        ensures goes { IfSome result (λ n. Goes (ReadsIn self.new.rest.place self.new.rest.len)) }
+        ensures run { IfSome result (λ n. RunsTo self.old.rest.place self.old.rest.len (bits piece.now) at n self.new.numbers.items self.new.rest.place self.new.rest.len) }
+    {
+        self.rest.pass_entry(piece, at, &mut self.numbers)
     }
 }

@@ -18,8 +18,10 @@ use Rattle.etcs_tables.specs.Frames.{frame_bits, is_kept, is_direction, directed
 use Rattle.etcs_rows.specs.Frames.{may_be_left, way_of}
 use Rattle.etcs_rows.proofs.PlaceLemmas.{and_both}
 use Rattle.etcs_rows.specs.declared.rest.RowRest.{RowRest}
+use Rattle.etcs_rows.specs.Runs.{RunsTo}
 use Rattle.etcs_rows.specs.Walks.{ReadTo}
-use Rattle.etcs_tables.specs.Layouts.{ReadsIn}
+use Rattle.etcs_rows.proofs.RunLemmas.{no_run, runs_along}
+use Rattle.etcs_tables.specs.Layouts.{Layout, ReadsIn}
 use Rattle.etcs_sequence.proofs.LeftBodies.{then_run}
 use Rattle.etcs_sequence.proofs.ThenLaws.{then_goes}
 use Rattle.etcs_packets.specs.PacketValues as packets
@@ -38,6 +40,7 @@ use Rattle.etcs_sequence.specs.declared.stage.Stage.TheVariants.{Number, Row, Ke
 use Rattle.etcs_sequence.specs.declared.stage.Event.{Event}
 use Rattle.etcs_sequence.specs.Lefts.{left_of, is_stage, keeps_at, Becomes, Here, After, HoldsAt, Moved}
 use Rattle.etcs_sequence.specs.AtOnce.{FrameAt, Holds, WholeAt}
+use Rattle.etcs_sequence.specs.Leaps.{EntriesTo, BeginsAt}
 use Rattle.etcs_sequence.proofs.PacketLemmas.{Taken, taken}
 use Rattle.etcs_sequence.proofs.PacketLemmas.{held_whole}
 use Rattle.etcs_sequence.specs.laws.Framed.{typed_framed, kept_three, kept_two_hundred, some_direction}
@@ -158,7 +161,45 @@ pub run_taken : (c : Carrier) (s s' : Stage) (p : Reading) (n : List ℕ) (e : E
     → ((f : List ℕ) (k : List Bool) (h : Reading) → Here c s f k h → After c s' (f ++ numbers p) k (h ++ p) e) → (q : Reading) → HoldsAt c s H q → Taken c s' M e (q ++ p)
 run_taken c s s' p n e H M is absorbed here = taken c s s' (λ f. f ++ numbers p) (λ k. k) p e H M (rw is absorbed) here
 
-module _ (c : Carrier) (room : ℕ) (s : Stage) (nid dir : ℕ) (row left : RowRest) (p : Reading) (e : s ≡ Row nid dir row) (goes : Goes (left_of c room s)) (more : Goes (ReadsIn left.place left.len)) (to : ReadTo row.place row.len p left.place left.len) where
+-- of a row that is being read something is left
+pub row_goes : (c : Carrier) (room : ℕ) (s : Stage) (nid dir : ℕ) (row : RowRest) → s ≡ Row nid dir row → Goes (left_of c room s) → Goes (ReadsIn row.place row.len)
+row_goes c room s nid dir row e goes =
+    let g : Goes (left_of c room (Row nid dir row)) = rw e at goes in
+    (then_goes (ReadsIn row.place row.len) (PacketsIn c room) g).0
+
+-- ---- Entries of a row, one after another.
+
+pub entries_none : (row : Layout) (len : ℕ) (xs : List Bool) (at : ℕ) (left : Layout) (bits : ℕ) (H : Holds) → at ≤ length xs → Goes (ReadsIn row len) → left ≡ row → bits ≡ len → EntriesTo row len xs at 0 left bits H H
+entries_none row len xs at left bits H within goes same much = record {
+  numbers = [];
+  run = no_run row len xs at left bits within same much;
+  goes = rw (same, much) goes;
+  held = λ vs f k h. subst (λ (t : List ℕ). H vs t k) (sym (append-nil f)) h;
+}
+
+-- one more
+pub entries_more : (row : Layout) (len : ℕ) (xs : List Bool) (at taken : ℕ) (left : Layout) (bits : ℕ) (H M : Holds) (n : ℕ) (g : List ℕ) (new : Layout) (more : ℕ) (N : Holds) (kept : List ℕ) → EntriesTo row len xs at taken left bits H M → RunsTo left bits xs (at + taken) n g new more → Goes (ReadsIn new more)
+    → kept ≡ g → ((vs : List PacketValue) (f : List ℕ) (k : List Bool) → M vs f k → N vs (f ++ kept) k) → EntriesTo row len xs at (taken + n) new more H N
+entries_more row len xs at taken left bits H M n g new more N kept e run goes is step = record {
+  numbers = e.numbers ++ g;
+  run = runs_along row len xs at taken e.numbers left bits n g new more e.run run;
+  goes = goes;
+  held = λ vs f k h. (let all : f ++ (e.numbers ++ kept) ≡ f ++ (e.numbers ++ g) = ap (λ (t : List ℕ). f ++ (e.numbers ++ t)) is in
+      subst (λ (t : List ℕ). N vs t k) (append_assoc f e.numbers kept ∙ all) (step vs (f ++ e.numbers) k (e.held vs f k h)));
+}
+
+pub entries_begin : (row : Layout) (len : ℕ) (xs : List Bool) (at taken : ℕ) (left : Layout) (bits : ℕ) (H M : Holds) (n : ℕ) (g : List ℕ) (new : Layout) (more : ℕ) → EntriesTo row len xs at taken left bits H M → RunsTo left bits xs (at + taken) n g new more → Goes (ReadsIn new more) → 0 < n → BeginsAt row len xs at
+entries_begin row len xs at taken left bits H M n g new more e run goes some = record {
+  count = taken + n;
+  some = omega (arith, some);
+  numbers = e.numbers ++ g;
+  left = new;
+  bits = more;
+  run = runs_along row len xs at taken e.numbers left bits n g new more e.run run;
+  goes = goes;
+}
+
+module _ (c : Carrier) (room : ℕ) (s : Stage) (nid dir : ℕ) (row : RowRest) (left : Layout) (bits : ℕ) (p : Reading) (e : s ≡ Row nid dir row) (goes : Goes (left_of c room s)) (more : Goes (ReadsIn left bits)) (to : ReadTo row.place row.len p left bits) where
   -- something continues after them
   after_run : (q : Reading) × left_of c room s (p ++ q)
   after_run =
@@ -166,7 +207,7 @@ module _ (c : Carrier) (room : ℕ) (s : Stage) (nid dir : ℕ) (row left : RowR
       let g : Goes (left_of c room (Row nid dir row)) = rw e at goes in
       let tail = (then_goes (ReadsIn row.place row.len) Q g).1 in
       let q = more.0 ++ tail.0 in
-      rw e (q, (then_run row.place row.len p left.place left.len Q row.looks_well to).from q (more.0, tail.0, refl, more.1, tail.1))
+      rw e (q, (then_run row.place row.len p left bits Q row.looks_well to).from q (more.0, tail.0, refl, more.1, tail.1))
 
   -- so it does after their first bit
   pub run_viable : (xs : List Bool) (at count : ℕ) → 0 < count → spelled p ≡ part at count xs → Viable (left_of c room s) (part at 1 xs)

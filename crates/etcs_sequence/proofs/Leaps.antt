@@ -1,9 +1,11 @@
 -- What a leap over packets comes to, for what reads them in a frame of its own.
 use Rattle.std.proofs.Common.{◌≡◌, ℕ, Bool, List, [], None, Some, Result, Ok, Err, OnErr, refl}
 use Rattle.std.specs.Prelude.{IsNone, IfSome, Option}
-use mathlib.Core.HLevel.{is_prop→PathP}
+use mathlib.Core.HLevel.{is_prop→PathP, Discrete, hedberg}
 use Rattle.etcs_vars.specs.Reading.{Reading}
 use Rattle.etcs_reader.specs.Rests.{Goes, LeapsBy}
+use Rattle.etcs_tables.specs.declared.row.Way.{Way}
+use Rattle.etcs_tables.specs.declared.row.Way.TheVariants.{ToTrain, ToTrack}
 use Rattle.etcs_sequence.specs.declared.state.PacketsState.{PacketsState}
 use Rattle.etcs_sequence.specs.AtOnce.{Holds}
 use Rattle.etcs_sequence.specs.Leaps.{Follows}
@@ -41,3 +43,13 @@ leaps_on l l' holds holds' xs at (Some n) goes on h = record {
 -- what is made of the same, and of two facts about it, is the same
 pub same_made : {A R : Type 0} (P Q : A → Type 0) → ((a : A) (x y : P a) → x ≡ y) → ((a : A) (x y : Q a) → x ≡ y) → (make : (a : A) → P a → Q a → R) → (a b : A) → a ≡ b → (h : P a) (k : Q a) (h' : P b) (k' : Q b) → make a h k ≡ make b h' k'
 same_made P Q one two make a b e h k h' k' i = make (e i) (is_prop→PathP (λ j. P (e j)) (λ j. one (e j)) h h' i) (is_prop→PathP (λ j. Q (e j)) (λ j. two (e j)) k k' i)
+
+-- two ways are the same in one way
+two_ways : Discrete Way
+two_ways ToTrain ToTrain = yes refl
+two_ways ToTrain ToTrack = no (λ e. absurd cc)
+two_ways ToTrack ToTrain = no (λ e. absurd cc)
+two_ways ToTrack ToTrack = yes refl
+
+pub ways_alike : (a b : Way) (p q : a ≡ b) → p ≡ q
+ways_alike a b p q = hedberg two_ways a b p q

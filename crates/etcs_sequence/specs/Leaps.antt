@@ -1,9 +1,12 @@
 -- From one variable of packets to another by several (SUBSET-026, 7.4 and 8).
-use Rattle.std.specs.Prelude.{◌≡◌, ℕ, ◌-◌, Bool, List, ◌++◌, length}
+use Rattle.std.specs.Prelude.{◌≡◌, ℕ, ◌-◌, ◌<◌, Bool, List, ◌++◌, length}
 use Rattle.etcs_vars.specs.declared.var.Var.TheVariants.{OTHER_DATA}
 use Rattle.etcs_vars.specs.Reading.{Reading, spelled, numbers, kept}
 use Rattle.etcs_vars.specs.Walking.{Residual}
-use Rattle.etcs_reader.specs.Rests.{LeapsBy}
+use Rattle.etcs_reader.specs.Rests.{LeapsBy, Goes}
+use Rattle.etcs_tables.specs.Layouts.{Layout, ReadsIn}
+use Rattle.etcs_packets.specs.PacketValues.{PacketValue}
+use Rattle.etcs_rows.specs.Runs.{RunsTo}
 use Rattle.etcs_rows.specs.declared.frames.Carrier.{Carrier}
 use Rattle.etcs_sequence.specs.AtOnce.{Holds}
 use Rattle.etcs_sequence.specs.Contents.{PacketsIn}
@@ -36,3 +39,21 @@ Follows s H p t H' = Moves s p t × ((q : Reading) → HoldsAt s.carrier s.stage
 -- what H holds becomes what H' holds
 abbrev pub Leaps : PacketsState → Holds → PacketsState → Holds → List Bool → ℕ → ℕ → Type 0
 Leaps s H t H' xs at n = LeapsBy (left_of t.carrier t.room t.stage) (λ p. Follows s H p t H') xs at n
+
+-- n bits of xs from at on spell the next variables of a row of len bits: left is what is left of it then, in this many
+-- bits, and something is; and H' holds their numbers after those that H holds
+pub record EntriesTo (row : Layout) (len : ℕ) (xs : List Bool) (at n : ℕ) (left : Layout) (bits : ℕ) (H H' : Holds) : Type 0 where
+  pub numbers : List ℕ
+  pub run : RunsTo row len xs at n numbers left bits
+  pub goes : Goes (ReadsIn left bits)
+  pub held : (vs : List PacketValue) (f : List ℕ) (k : List Bool) → H vs f k → H' vs (f ++ numbers) k
+
+-- bits of xs from at on spell variables of a row of len bits, and something is left of it then
+pub record BeginsAt (row : Layout) (len : ℕ) (xs : List Bool) (at : ℕ) : Type 0 where
+  pub count : ℕ
+  pub some : 0 < count
+  pub numbers : List ℕ
+  pub left : Layout
+  pub bits : ℕ
+  pub run : RunsTo row len xs at count numbers left bits
+  pub goes : Goes (ReadsIn left bits)

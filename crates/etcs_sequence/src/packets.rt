@@ -12,19 +12,20 @@ ghost use Rattle.etcs_rows.specs.declared.rest.RowRest.{RowRest};
 ghost use Rattle.etcs_reader.specs.Rests.{Goes};
 ghost use Rattle.etcs_sequence.specs.declared.stage.Stage.{Stage};
 ghost use Rattle.etcs_sequence.specs.AtOnce.{RunFirst};
-ghost use Rattle.etcs_sequence.specs.Leaps.{Follows, Leaps};
+ghost use Rattle.etcs_sequence.specs.Leaps.{Follows, Leaps, EntriesTo, BeginsAt};
+ghost use Rattle.etcs_tables.specs.Layouts.{ReadsIn};
 ghost use Rattle.etcs_sequence.specs.Lefts.{next_of, left_of, ahead, is_closed, may_grow, numbers_with, bits_with, MayFinish, Finishes, HoldsAt};
 ghost use Rattle.etcs_sequence.specs.laws.LeftLaws.{left_regular, left_begins, left_ended};
 ghost use Rattle.etcs_sequence.specs.laws.Leaps.{follows_none, follows_along};
 
 use crate::inner::{bits_at, number_at, run_at};
-use crate::run::take_framed;
+use crate::run::{is_long_profile, take_framed};
 use crate::stage::{Event, Keep, Stage};
 use crate::state::PacketsState;
 use crate::store::PacketStore;
 use etcs_bits::next_bits;
 use etcs_reader::Rest;
-use etcs_rows::inner::{Carrier, RowRun};
+use etcs_rows::inner::{Carrier, EntryRun, RowRest, RowRun};
 use etcs_tables::{CLOSING, CLOSING_BITS};
 use etcs_vars::Var;
 use std::alloc::AllocError;
@@ -81,6 +82,36 @@ fn absorb_numbers<S: PacketStore>(store: &mut S, numbers: &[u64]) -> Result<(), 
         store.number(*number)?;
     }
     Ok(())
+}
+
+/// Takes the next entries of a row's speed profile as far as the piece has them whole and the row can end in its bits
+/// after them, keeps their numbers, and returns how many bits they have and what is left of the row then.
+///
+/// # Errors
+///
+/// `AllocError`: out of memory. No clause says what the store holds then.
+#[inline(always)]
+fn take_entries<S: PacketStore>(
+    store: &mut S,
+    row: &RowRest,
+    piece: &[u8],
+    at: usize,
+) -> Result<(usize, RowRest), AllocError>
+    requires inside { at ≤ length (bits piece.now) }
+    requires small { length (bits piece.now) < 2 ^ 64 }
+    requires goes { Goes (ReadsIn row.now.place row.now.len) }
+    ensures taken { IfOk result (λ t. EntriesTo row.now.place row.now.len (bits piece.now) at t.0 t.1.place t.1.len (S.holds store.old) (S.holds store.new)) }
+    ensures none { IfOk result (λ t. t.0 ≡ 0 → store.new ≡ store.old) }
+    ensures err { OnErr result S.fails }
+    ensures begun { OnErr result (BeginsAt row.now.place row.now.len (bits piece.now) at) }
+{
+    let mut run = EntryRun::new(row);
+    let mut taken = 0;
+    while let Some(count) = run.next(piece, at + taken) {
+        absorb_numbers(store, run.numbers.as_slice())?;
+        taken += count;
+    }
+    Ok((taken, run.rest))
 }
 
 /// Makes the packet that is whole.
@@ -177,6 +208,9 @@ impl<S: PacketStore> PacketsRest<S> {
         ensures viable { OnErr result (Viable (left_of self.old.left.carrier self.old.left.room self.old.left.stage) (part at 1 (bits piece.now))) }
     {
         let word = next_bits(piece, at);
+        if is_long_profile(self.left.carrier, word) {
+            return Ok(None);
+        }
         let (carrier, room) = (self.left.carrier, self.left.room);
         let count = piece.len() * 8 - at;
         let taken = stored!(
@@ -220,6 +254,42 @@ impl<S: PacketStore> PacketsRest<S> {
         Ok(Some(place - at))
     }
 
+    /// Takes the next entries of a row's speed profile as far as the piece has them whole and the row can end in its bits
+    /// after them, and returns how many bits they have. It may always return `None`.
+    ///
+    /// # Errors
+    ///
+    /// `AllocError`: out of memory. Nothing more is expected then, and no clause says what the store holds.
+    #[inline(never)]
+    fn leap_entries(
+        &mut self,
+        nid: u8,
+        dir: u8,
+        piece: &[u8],
+        at: usize,
+    ) -> Result<Option<usize>, AllocError>
+        requires row { (row : RowRest) × (self.old.left.stage ≡ Stage.Row nid dir row) }
+        requires inside { at < length (bits piece.now) }
+        requires small { length (bits piece.now) < 2 ^ 64 }
+        requires goes { Goes (left_of self.old.left.carrier self.old.left.room self.old.left.stage) }
+        ensures none { IfOk result (λ o. IsNone o → self.new ≡ self.old) }
+        ensures some { IfOk result (λ o. IfSome o (λ n. Leaps self.old.left (S.holds self.old.store) self.new.left (S.holds self.new.store) (bits piece.now) at n)) }
+        ensures err { OnErr result (S.fails × IsTrue (may_grow self.old.left.stage)) }
+        ensures viable { OnErr result (Viable (left_of self.old.left.carrier self.old.left.room self.old.left.stage) (part at 1 (bits piece.now))) }
+    {
+        let left = &self.left;
+        let Stage::Row(_, _, row) = &left.stage else {
+            unreachable!()
+        };
+        let (taken, rest) = stored!(self, take_entries(&mut self.store, row, piece, at));
+        if taken == 0 {
+            return Ok(None);
+        }
+        let event = self.left.pass_to(nid, dir, rest);
+        stored!(self, finish(&mut self.store, event));
+        Ok(Some(taken))
+    }
+
     /// Takes the next variables of a row as far as the piece has them whole, if the row can end in its bits after them,
     /// and returns how many bits they have.
     ///
@@ -258,6 +328,34 @@ impl<S: PacketStore> PacketsRest<S> {
         stored!(self, finish(&mut self.store, event));
         self.tried = run.singly;
         Ok(Some(taken))
+    }
+
+    /// Takes the next entries of a row's speed profile, or, if it takes none, the next variables, and returns how many
+    /// bits they have.
+    ///
+    /// # Errors
+    ///
+    /// As of [`PacketsRest::leap_row`].
+    fn leap_profile(
+        &mut self,
+        nid: u8,
+        dir: u8,
+        piece: &[u8],
+        at: usize,
+    ) -> Result<Option<usize>, AllocError>
+        requires row { (row : RowRest) × (self.old.left.stage ≡ Stage.Row nid dir row) }
+        requires inside { at < length (bits piece.now) }
+        requires small { length (bits piece.now) < 2 ^ 64 }
+        requires goes { Goes (left_of self.old.left.carrier self.old.left.room self.old.left.stage) }
+        ensures none { IfOk result (λ o. IsNone o → self.new ≡ self.old) }
+        ensures some { IfOk result (λ o. IfSome o (λ n. Leaps self.old.left (S.holds self.old.store) self.new.left (S.holds self.new.store) (bits piece.now) at n)) }
+        ensures err { OnErr result (S.fails × IsTrue (may_grow self.old.left.stage)) }
+        ensures viable { OnErr result (Viable (left_of self.old.left.carrier self.old.left.room self.old.left.stage) (part at 1 (bits piece.now))) }
+    {
+        match self.leap_entries(nid, dir, piece, at)? {
+            Some(taken) => Ok(Some(taken)),
+            None => self.leap_row(nid, dir, piece, at),
+        }
     }
 
     /// Takes a run of OTHER_DATA, of which `left` bits are left, and returns how many bits it took.
@@ -354,9 +452,13 @@ impl<S: PacketStore> Rest for PacketsRest<S> {
                 let (nid, dir, left) = (*nid, *dir, *left);
                 self.leap_kept(nid, dir, left, piece, at)
             }
-            Stage::Row(nid, dir, _) => {
-                let (nid, dir) = (*nid, *dir);
-                self.leap_row(nid, dir, piece, at)
+            Stage::Row(nid, dir, row) => {
+                let (nid, dir, at_entry) = (*nid, *dir, row.is_at_entry());
+                if at_entry {
+                    self.leap_profile(nid, dir, piece, at)
+                } else {
+                    self.leap_row(nid, dir, piece, at)
+                }
             }
             _ => Ok(None),
         }

@@ -184,6 +184,24 @@ fn fits(carrier: Carrier, room: usize, len: usize) -> bool
     }
 }
 
+/// NID_PACKET of a static speed profile, and the bits above which one is long: so many that a message has only one.
+const PROFILE: u8 = 27;
+
+const LONG_PROFILE: usize = 4096;
+
+/// Whether the word has the first bits of a long static speed profile. A row takes its entries whole, which costs no more
+/// than to take the packet whole, and if it is refused, it hasn't been read in vain.
+#[inline(always)]
+pub(crate) fn is_long_profile(carrier: Carrier, word: u64) -> bool {
+    match carrier.way() {
+        Way::ToTrain => {
+            let frame = frame_in(Way::ToTrain, word);
+            frame.nid == PROFILE && frame.len > LONG_PROFILE
+        }
+        Way::ToTrack => false,
+    }
+}
+
 /// Takes the packet with a frame that begins at `at`, if it lies whole in this many bits of the piece, and in the room,
 /// and leaves what may be left of that; and returns how many bits it has. The word has its first bits. It may always
 /// return `None`, and then the store stays as it was.
@@ -217,7 +235,7 @@ pub(crate) fn take_framed<S: PacketSink>(
     let way = carrier.way();
     let Frame { nid, dir, len } = frame_in(way, word);
     let front = frame_bits(way);
-    if len < front || len > count || !fits(carrier, room, len) {
+    if len < front || !fits(carrier, room, len) || len > count {
         return Ok(None);
     }
     let put = put_packet(store, way, nid, dir, piece, at + front, len - front)?;

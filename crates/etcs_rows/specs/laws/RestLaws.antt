@@ -40,7 +40,7 @@ head_of v n m q q' e = (
 pub follows_none : (row : Layout) (len : ℕ) → Follows row len [] row len
 follows_none row len = record { residual = residual_none (ReadsIn row len); read = (refl, refl) }
 
-read_along : (row : Layout) (len : ℕ) (p : Reading) (mid : Layout) (more : ℕ) (q : Reading) (left : Layout) (bits : ℕ) → ReadTo row len p mid more → ReadTo mid more q left bits → ReadTo row len (p ++ q) left bits
+pub read_along : (row : Layout) (len : ℕ) (p : Reading) (mid : Layout) (more : ℕ) (q : Reading) (left : Layout) (bits : ℕ) → ReadTo row len p mid more → ReadTo mid more q left bits → ReadTo row len (p ++ q) left bits
 read_along row len [] mid more q left bits (same, count) h = subst (λ (l : Layout). ReadTo l len q left bits) same (subst (λ (n : ℕ). ReadTo mid n q left bits) count h)
 read_along row len ((v, n) ∷ p) mid more q left bits (next, first, after, wide, h) k = (next, first, after, wide, read_along next (len - width v) p mid more q left bits h k)
 

@@ -11,10 +11,10 @@ pub fits-requires : goal.fits-requires
 fits-requires g c = frame_short c.way-way.result c.args.word c.frame_in-nid.result c.frame_in-nid.ensures
 
 pub overflow_add-at : goal.overflow_add-at
-overflow_add-at g c = omega (arith, c.requires.inside, c.requires.small, c.if-len-front.false, c.fits.ensures.within c.if-not-fits.false)
+overflow_add-at g c = omega (arith, c.requires.inside, c.requires.small, c.if-len-front.false, c.if-len-count.false)
 
 pub put_packet-requires-clause-inside : goal.put_packet-requires-clause-inside
-put_packet-requires-clause-inside g c = omega (arith, c.requires.inside, c.if-len-front.false, c.fits.ensures.within c.if-not-fits.false)
+put_packet-requires-clause-inside g c = omega (arith, c.requires.inside, c.if-len-front.false, c.if-len-count.false)
 
 pub put_packet-requires-clause-short : goal.put_packet-requires-clause-short
 put_packet-requires-clause-short g c =
@@ -32,6 +32,6 @@ returns-then-put-clause-whole g c =
     let front : c.frame_bits-front.result ≡ frame_bits way = c.frame_bits-front.ensures.bits ∙ ap frame_bits c.way-way.ensures in
     let is-frame : IsFrameIn way a.word f = subst (λ (w : Way). IsFrameIn w a.word f) c.way-way.ensures c.frame_in-nid.ensures in
     let least : frame_bits way ≤ f.len = omega (arith, front, c.if-len-front.false) in
-    let within : a.at + f.len ≤ length xs = omega (arith, c.requires.inside, c.fits.ensures.within c.if-not-fits.false) in
+    let within : a.at + f.len ≤ length xs = omega (arith, c.requires.inside, c.if-len-count.false) in
     let frame : FrameAt way f.nid f.dir f.len a.at xs = word_frame way a.word a.at xs f c.requires.word is-frame least within in
     c.in_ok-put.ensures.whole c.if-put.true a.carrier xs a.at f.len (sym c.way-way.ensures) frame within (ap (λ k. part (a.at + k) (f.len - k) xs) front)

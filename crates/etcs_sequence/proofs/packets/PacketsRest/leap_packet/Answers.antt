@@ -1,12 +1,9 @@
 use Rattle.std.proofs.Common.{◌≡◌, ◌++◌, ◌-◌, refl, sym, ap, subst, ◌∙◌, arith}
 use Rattle.std.specs.Prelude.{IsTrue}
 use Rattle.std.proofs.Math.Logic.{∥∥₁_map, ∥∥₁_prop}
-use mathlib.Core.HLevel.{Discrete, hedberg}
 use Rattle.etcs_bits.specs.Bits.{part, bits}
 use Rattle.etcs_bits.proofs.Lists.{length-part}
 use Rattle.etcs_bits.proofs.Positions.{length-bits}
-use Rattle.etcs_tables.specs.declared.row.Way.{Way}
-use Rattle.etcs_tables.specs.declared.row.Way.TheVariants.{ToTrain, ToTrack}
 use Rattle.etcs_packets.specs.PacketReadings.{reading_to}
 use Rattle.etcs_packets.specs.laws.PacketReadings.{bits_are}
 use Rattle.etcs_rows.specs.Frames.{way_of}
@@ -14,19 +11,10 @@ use Rattle.etcs_sequence.proofs.Carried.{after_whole}
 use Rattle.etcs_rows.specs.Frames.{may_be_left}
 use Rattle.etcs_sequence.proofs.Fits.{run_some}
 use Rattle.etcs_sequence.specs.AtOnce.{WholeAt}
+use Rattle.etcs_sequence.proofs.Leaps.{ways_alike}
 use Rattle.etcs_sequence.proofs.LeapLemmas.{leapt_held, packet_viable}
 use Rattle.etcs_sequence.specs.declared.packets.PacketsRest.{PacketsRest, held-type}
 use Rattle.etcs_sequence.proofs.packets.PacketsRest.leap_packet.Goals as goal
-
--- two ways are the same in one way
-two_ways : Discrete Way
-two_ways ToTrain ToTrain = yes refl
-two_ways ToTrain ToTrack = no (λ e. absurd cc)
-two_ways ToTrack ToTrain = no (λ e. absurd cc)
-two_ways ToTrack ToTrack = yes refl
-
-ways_alike : (a b : Way) (p q : a ≡ b) → p ≡ q
-ways_alike a b p q = hedberg two_ways a b p q
 
 pub overflow_mul-count : goal.overflow_mul-count
 overflow_mul-count g c = omega (arith, c.requires.small, length-bits c.args.piece.now)

@@ -12,7 +12,7 @@ returns-in-Err-clause-viable g c =
     let row = c.in-Row.row in
     let stage = same_row s.stage c.in-Row.field-0 c.in-Row.field-1 c.args.nid c.args.dir row c.in-Row.is c.requires.row in
     let run = c.in-Some.ensures.run in
-    run_viable s.carrier s.room s.stage c.args.nid c.args.dir row c.in-Some.run'.rest run.run stage c.requires.goes c.in-Some.ensures.goes run.follows.read (bits c.args.piece.now) c.args.at c.in-Some.run'.bits c.in-Some.ensures.some run.spelling
+    run_viable s.carrier s.room s.stage c.args.nid c.args.dir row c.in-Some.run'.rest.place c.in-Some.run'.rest.len run.run stage c.requires.goes c.in-Some.ensures.goes run.follows.read (bits c.args.piece.now) c.args.at c.in-Some.run'.bits c.in-Some.ensures.some run.spelling
 
 pub finish-requires : goal.finish-requires
 finish-requires g c =
@@ -52,7 +52,7 @@ returns-clause-some g c =
     record {
       some = c.in-Some.ensures.some;
       inside = run.inside;
-      goes = run_goes s.carrier s.room s.stage c.args.nid c.args.dir c.in-Row.row c.in-Some.run'.rest run.run stage c.requires.goes c.in-Some.ensures.goes run.follows.read _ moved.residual;
+      goes = run_goes s.carrier s.room s.stage c.args.nid c.args.dir c.in-Row.row c.in-Some.run'.rest.place c.in-Some.run'.rest.len run.run stage c.requires.goes c.in-Some.ensures.goes run.follows.read _ moved.residual;
       whole = run.run;
       follows = (moved, λ q h. more_held g.S.PacketSink.WAY c.args.self.now.way (g.S.PacketSink.holds c.finish.new.store) e.new.self.carrier moved.same c.in-Ok-finish.ensures.ok (by q h));
       bits = run.spelling;
@@ -64,4 +64,4 @@ returns-in-Err-finish-clause-viable g c =
     let row = c.in-Row.row in
     let stage = same_row s.stage c.in-Row.field-0 c.in-Row.field-1 c.args.nid c.args.dir row c.in-Row.is c.requires.row in
     let run = c.in-Some.ensures.run in
-    run_viable s.carrier s.room s.stage c.args.nid c.args.dir row c.in-Some.run'.rest run.run stage c.requires.goes c.in-Some.ensures.goes run.follows.read (bits c.args.piece.now) c.args.at c.in-Some.run'.bits c.in-Some.ensures.some run.spelling
+    run_viable s.carrier s.room s.stage c.args.nid c.args.dir row c.in-Some.run'.rest.place c.in-Some.run'.rest.len run.run stage c.requires.goes c.in-Some.ensures.goes run.follows.read (bits c.args.piece.now) c.args.at c.in-Some.run'.bits c.in-Some.ensures.some run.spelling

@@ -20,6 +20,7 @@ use crate::seen::Seen;
 use crate::task::Task;
 use crate::titles::{wanted, write_heading, write_title};
 use etcs_json::{JsonFault, from_line};
+use etcs_packet_text::inner::Page;
 use etcs_reasons::inner::{
     FOOT, HEAD, MOST_BYTES, Sheet, way_of, write_bytes, write_cause, write_no_bytes, write_table,
 };
@@ -145,17 +146,16 @@ impl Explainer {
     /// # Errors
     ///
     /// If memory runs out. Nothing was appended.
-    fn pass_on(&self, is_item: bool, line: u64, text: &mut Vec<u8>) -> Result<(), AllocError>
-        ensures ok { OnOk result (Writes HEAD.now self.now.task self.now.seen.is_begun is_item (counted (self.now.seen.items + 1)) line text.old.items text.new.items) }
-        ensures err { OnErr result (text.new.items ≡ text.old.items) }
+    fn pass_on(&self, is_item: bool, line: u64, page: &mut Page) -> Result<(), AllocError>
+        ensures ok { OnOk result (Writes HEAD.now self.now.task self.now.seen.is_begun is_item (counted (self.now.seen.items + 1)) line page.old page.new) }
+        ensures err { OnErr result (page.new ≡ page.old) }
     {
         let opening = opening(self.task.layout, is_item);
         let rest = self.sheet.whole()?;
         let (head, number) = (self.head(), self.number());
         let place = place(self.alloc, self.task.from, number, line)?;
         let part = joined(self.alloc, head, opening, place.as_str(), rest)?;
-        text.extend_from_slice(part.as_bytes())?;
-        Ok(())
+        page.put(part.as_bytes())
     }
 
     /// Appends the title, the table and the reason of an item.
@@ -168,12 +168,12 @@ impl Explainer {
         bytes: &[u8],
         account: &Account,
         line: u64,
-        text: &mut Vec<u8>,
+        page: &mut Page,
     ) -> Result<(), AllocError>
         ensures task { self.new.task ≡ self.old.task }
         ensures seen { self.new.seen ≡ self.old.seen }
-        ensures ok { OnOk result (Writes HEAD.now self.old.task self.old.seen.is_begun true (counted (self.old.seen.items + 1)) line text.old.items text.new.items) }
-        ensures err { OnErr result (text.new.items ≡ text.old.items) }
+        ensures ok { OnOk result (Writes HEAD.now self.old.task self.old.seen.is_begun true (counted (self.old.seen.items + 1)) line page.old page.new) }
+        ensures err { OnErr result (page.new ≡ page.old) }
     {
         self.clear();
         let Task { kind, layout, .. } = self.task;
@@ -190,7 +190,7 @@ impl Explainer {
         let usual = write_cause(kind, bytes, account, &mut self.sheet.meaning)?;
         let often = last_telegram(self.alloc, self.task, bytes, account.end)?.or(usual);
         self.sheet.close_item(often);
-        self.pass_on(true, line, text)
+        self.pass_on(true, line, page)
     }
 
     /// Appends the line of what is not an item, whose reason is on the sheet, and notes its fault and how many items it counts
@@ -204,15 +204,15 @@ impl Explainer {
         fault: RunFault,
         items: u64,
         line: u64,
-        text: &mut Vec<u8>,
+        page: &mut Page,
     ) -> Result<(), AllocError>
         ensures task { self.new.task ≡ self.old.task }
         ensures seen { OnOk result (IsAfter self.old.seen items (Some fault) self.new.seen) }
-        ensures ok { OnOk result (Writes HEAD.now self.old.task self.old.seen.is_begun false (counted (self.old.seen.items + 1)) line text.old.items text.new.items) }
-        ensures err { OnErr result (text.new.items ≡ text.old.items) }
+        ensures ok { OnOk result (Writes HEAD.now self.old.task self.old.seen.is_begun false (counted (self.old.seen.items + 1)) line page.old page.new) }
+        ensures err { OnErr result (page.new ≡ page.old) }
     {
         self.sheet.heading();
-        self.pass_on(false, line, text)?;
+        self.pass_on(false, line, page)?;
         self.seen = self.seen.after(items, Some(fault));
         Ok(())
     }
@@ -228,7 +228,7 @@ impl Explainer {
         bytes: &[u8],
         lines: &[u64],
         account: &Account,
-        text: &mut Vec<u8>,
+        page: &mut Page,
     ) -> Result<usize, AllocError>
         requires some { 0 < length bytes.now }
         requires even { length lines.now ≡ length bytes.now }
@@ -236,13 +236,13 @@ impl Explainer {
         ensures task { self.new.task ≡ self.old.task }
         ensures some { IfOk result (λ n. 0 < n) }
         ensures most { IfOk result (λ n. n ≤ length bytes.now) }
-        ensures ok { IfOk result (λ n. AddsOne HEAD.now self.old.task self.old.seen self.new.seen (placed (take n lines.now) (take n bytes.now)) [] text.old.items text.new.items) }
+        ensures ok { IfOk result (λ n. AddsOne HEAD.now self.old.task self.old.seen self.new.seen (placed (take n lines.now) (take n bytes.now)) [] page.old page.new) }
         ensures uncut { ((part : Part) → account.now.end ≡ End.Open part → ⊥) → IsUncut self.old.seen.first → OnOk result (IsUncut self.new.seen.first) }
-        ensures err { OnErr result (text.new.items ≡ text.old.items) }
+        ensures err { OnErr result (page.new ≡ page.old) }
     {
         let (count, fault) = item_part(self.task.kind, bytes, account, self.number());
         let shown = &bytes[..count.min(MOST_BYTES)];
-        self.write_item(shown, account, lines[0], text)?;
+        self.write_item(shown, account, lines[0], page)?;
         self.seen = self.seen.after(1, fault);
         Ok(count)
     }
@@ -258,7 +258,7 @@ impl Explainer {
         bytes: &[u8],
         lines: &[u64],
         is_last: bool,
-        text: &mut Vec<u8>,
+        page: &mut Page,
     ) -> Result<usize, AllocError>
         requires even { length lines.now ≡ length bytes.now }
         ensures task { self.new.task ≡ self.old.task }
@@ -267,8 +267,8 @@ impl Explainer {
         ensures last { IsTrue is_last → IfOk result (λ n. n ≡ length bytes.now) }
         ensures uncut { is_last ≡ false → IsUncut self.old.seen.first → OnOk result (IsUncut self.new.seen.first) }
         ensures kept { (fault : RunFault) → self.old.seen.first ≡ Some fault → OnOk result (self.new.seen.first ≡ Some fault) }
-        ensures ok { IfOk result (λ n. Explains HEAD.now self.old.task self.old.seen text.old.items (placed (take n lines.now) (take n bytes.now)) self.new.seen text.new.items) }
-        ensures err { OnErr result (ExplainsSome HEAD.now self.old.task self.old.seen text.old.items (placed lines.now bytes.now) text.new.items) }
+        ensures ok { IfOk result (λ n. Explains HEAD.now self.old.task self.old.seen page.old (placed (take n lines.now) (take n bytes.now)) self.new.seen page.new) }
+        ensures err { OnErr result (ExplainsSome HEAD.now self.old.task self.old.seen page.old (placed lines.now bytes.now) page.new) }
     {
         let mut at = 0;
         while at < bytes.len() {
@@ -280,7 +280,7 @@ impl Explainer {
             if !is_last && waits(self.task.from, &account, rest.len()) {
                 break;
             }
-            at += self.item(rest, &lines[at..], &account, text)?;
+            at += self.item(rest, &lines[at..], &account, page)?;
         }
         Ok(at)
     }
@@ -294,15 +294,15 @@ impl Explainer {
         &mut self,
         line: &[u8],
         number: u64,
-        text: &mut Vec<u8>,
+        page: &mut Page,
     ) -> Result<(), AllocError>
         requires json { self.old.task.from ≡ form.Json }
         ensures task { self.new.task ≡ self.old.task }
-        ensures ok { OnOk result (AddsOne HEAD.now self.old.task self.old.seen self.new.seen (of_line number line.now ∷ []) [] text.old.items text.new.items) }
-        ensures err { OnErr result (text.new.items ≡ text.old.items) }
+        ensures ok { OnOk result (AddsOne HEAD.now self.old.task self.old.seen self.new.seen (of_line number line.now ∷ []) [] page.old page.new) }
+        ensures err { OnErr result (page.new ≡ page.old) }
     {
         let fault = match from_line(self.alloc, self.task.kind, line) {
-            Ok(entry) => return self.json_item(&entry, number, text),
+            Ok(entry) => return self.json_item(&entry, number, page),
             Err(fault) => fault,
         };
         self.clear();
@@ -310,10 +310,10 @@ impl Explainer {
         match fault {
             JsonFault::Refused { bit, var } => {
                 let item = self.number();
-                self.write_wrong(RunFault::Refused { item, bit, var }, 1, number, text)
+                self.write_wrong(RunFault::Refused { item, bit, var }, 1, number, page)
             }
             JsonFault::Shape => {
-                self.write_wrong(RunFault::BadJson { line: number }, 0, number, text)
+                self.write_wrong(RunFault::BadJson { line: number }, 0, number, page)
             }
             JsonFault::Memory => Err(AllocError),
         }
@@ -324,21 +324,16 @@ impl Explainer {
     /// # Errors
     ///
     /// If memory runs out. Nothing was appended.
-    fn json_item(
-        &mut self,
-        entry: &Entry,
-        number: u64,
-        text: &mut Vec<u8>,
-    ) -> Result<(), AllocError>
+    fn json_item(&mut self, entry: &Entry, number: u64, page: &mut Page) -> Result<(), AllocError>
         ensures task { self.new.task ≡ self.old.task }
         ensures seen { OnOk result (IsAfter self.old.seen 1 None self.new.seen) }
-        ensures ok { OnOk result (Writes HEAD.now self.old.task self.old.seen.is_begun true (counted (self.old.seen.items + 1)) number text.old.items text.new.items) }
-        ensures err { OnErr result (text.new.items ≡ text.old.items) }
+        ensures ok { OnOk result (Writes HEAD.now self.old.task self.old.seen.is_begun true (counted (self.old.seen.items + 1)) number page.old page.new) }
+        ensures err { OnErr result (page.new ≡ page.old) }
     {
         let mut bytes = Vec::new(self.alloc);
         encoded(entry, &mut bytes)?;
         let account = Account::read(self.alloc, self.task.kind, bytes.as_slice())?;
-        self.write_item(bytes.as_slice(), &account, number, text)?;
+        self.write_item(bytes.as_slice(), &account, number, page)?;
         self.seen = self.seen.after(1, None);
         Ok(())
     }
@@ -353,12 +348,12 @@ impl Explainer {
         line: &[u8],
         number: u64,
         why: NoBytes,
-        text: &mut Vec<u8>,
+        page: &mut Page,
     ) -> Result<(), AllocError>
         requires lines { self.old.task.from ≡ form.Json → ⊥ }
         ensures task { self.new.task ≡ self.old.task }
-        ensures ok { OnOk result (AddsOne HEAD.now self.old.task self.old.seen self.new.seen (of_line number line.now ∷ []) [] text.old.items text.new.items) }
-        ensures err { OnErr result (text.new.items ≡ text.old.items) }
+        ensures ok { OnOk result (AddsOne HEAD.now self.old.task self.old.seen self.new.seen (of_line number line.now ∷ []) [] page.old page.new) }
+        ensures err { OnErr result (page.new ≡ page.old) }
     {
         self.clear();
         let mut reason = String::new(self.alloc);
@@ -375,7 +370,7 @@ impl Explainer {
             },
             0,
             number,
-            text,
+            page,
         )
     }
 
@@ -384,14 +379,14 @@ impl Explainer {
     /// # Errors
     ///
     /// If memory runs out. Nothing was appended.
-    pub(crate) fn long_line(&mut self, number: u64, text: &mut Vec<u8>) -> Result<(), AllocError>
+    pub(crate) fn long_line(&mut self, number: u64, page: &mut Page) -> Result<(), AllocError>
         ensures task { self.new.task ≡ self.old.task }
-        ensures ok { OnOk result (AddsOne HEAD.now self.old.task self.old.seen self.new.seen [] (number ∷ []) text.old.items text.new.items) }
-        ensures err { OnErr result (text.new.items ≡ text.old.items) }
+        ensures ok { OnOk result (AddsOne HEAD.now self.old.task self.old.seen self.new.seen [] (number ∷ []) page.old page.new) }
+        ensures err { OnErr result (page.new ≡ page.old) }
     {
         self.clear();
         self.sheet.meaning.push("line longer than 1,048,576 bytes");
-        self.write_wrong(long_fault(self.task.from, number), 0, number, text)
+        self.write_wrong(long_fault(self.task.from, number), 0, number, page)
     }
 
     /// Appends what a page has at its end: the foot, and before it the head if nothing was written before.
@@ -399,16 +394,16 @@ impl Explainer {
     /// # Errors
     ///
     /// If memory runs out. Nothing was appended.
-    pub(crate) fn end(&self, text: &mut Vec<u8>) -> Result<(), AllocError>
-        ensures ok { OnOk result (text.new.items ≡ text.old.items ++ (missing self.now.seen.is_begun (edge self.now.task.layout HEAD.now) ++ edge self.now.task.layout FOOT.now)) }
-        ensures err { OnErr result (text.new.items ≡ text.old.items) }
+    pub(crate) fn end(&self, page: &mut Page) -> Result<(), AllocError>
+        ensures ok { OnOk result (page.new ≡ page.old ++ (missing self.now.seen.is_begun (edge self.now.task.layout HEAD.now) ++ edge self.now.task.layout FOOT.now)) }
+        ensures err { OnErr result (page.new ≡ page.old) }
     {
         if self.task.layout == Layout::Text {
             return Ok(());
         }
         let head = self.head();
         let edges = format!(in self.alloc; "{head}{FOOT}")?;
-        text.extend_from_slice(edges.as_bytes())
+        page.put(edges.as_bytes())
     }
 }
 

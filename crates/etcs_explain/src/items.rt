@@ -8,6 +8,7 @@ ghost use Rattle.etcs_reasons.specs.declared.page.TheConstants.{FOOT, HEAD};
 use crate::cut::is_cut;
 use crate::explainer::Explainer;
 use crate::task::Task;
+use etcs_packet_text::inner::Page;
 use etcs_reasons::inner::{FOOT, HEAD, are_bits, packed};
 use etcs_runs::inner::{Engine, LineHandler, MOST_READ};
 use etcs_runs::{Form, MOST_LINE, NoBytes, RunFault, line_bytes, without_cr};
@@ -83,78 +84,78 @@ impl Items {
     }
 
     /// Explains the whole items that are held, or all that is held if no more comes.
-    fn pass(&mut self, is_last: bool, text: &mut Vec<u8>) -> Result<(), AllocError>
+    fn pass(&mut self, is_last: bool, page: &mut Page) -> Result<(), AllocError>
         ensures same { (self.new.explainer.task ≡ self.old.explainer.task) × (self.new.line ≡ self.old.line) }
         ensures short { OnOk result (length self.new.held.items < 1023) }
         ensures last { IsTrue is_last → OnOk result (self.new.held.items ≡ []) }
         ensures uncut { is_last ≡ false → IsUncut self.old.explainer.seen.first → OnOk result (IsUncut self.new.explainer.seen.first) }
         ensures kept { (fault : RunFault) → self.old.explainer.seen.first ≡ Some fault → OnOk result (self.new.explainer.seen.first ≡ Some fault) }
-        ensures ok { OnOk result (Takes HEAD.now self.old text.old.items [] [] self.new text.new.items) }
-        ensures err { OnErr result (TakesSome HEAD.now self.old text.old.items [] [] self.new text.new.items) }
+        ensures ok { OnOk result (Takes HEAD.now self.old page.old [] [] self.new page.new) }
+        ensures err { OnErr result (TakesSome HEAD.now self.old page.old [] [] self.new page.new) }
     {
         let count = self
             .explainer
-            .items(self.held.as_slice(), self.lines.as_slice(), is_last, text)?;
+            .items(self.held.as_slice(), self.lines.as_slice(), is_last, page)?;
         drop_first(&mut self.held, count);
         drop_first(&mut self.lines, count);
         Ok(())
     }
 
     /// Explains what is held, if it was cut short before these bytes of the last line.
-    fn end_cut(&mut self, bytes: &[u8], text: &mut Vec<u8>) -> Result<(), AllocError>
+    fn end_cut(&mut self, bytes: &[u8], page: &mut Page) -> Result<(), AllocError>
         ensures same { (self.new.explainer.task ≡ self.old.explainer.task) × (self.new.line ≡ self.old.line) }
-        ensures rest { (IsCut self.old.explainer.task.kind self.old.held.items bytes.now → ⊥) → OnOk result ((self.new.held.items ≡ self.old.held.items) × (text.new.items ≡ text.old.items)) }
-        ensures ok { OnOk result (Takes HEAD.now self.old text.old.items [] [] self.new text.new.items) }
-        ensures err { OnErr result (TakesSome HEAD.now self.old text.old.items [] [] self.new text.new.items) }
+        ensures rest { (IsCut self.old.explainer.task.kind self.old.held.items bytes.now → ⊥) → OnOk result ((self.new.held.items ≡ self.old.held.items) × (page.new ≡ page.old)) }
+        ensures ok { OnOk result (Takes HEAD.now self.old page.old [] [] self.new page.new) }
+        ensures err { OnErr result (TakesSome HEAD.now self.old page.old [] [] self.new page.new) }
     {
         if self.held.is_empty() {
             return Ok(());
         }
         let kind = self.explainer.task.kind;
         if is_cut(self.explainer.alloc, kind, self.held.as_slice(), bytes)? {
-            return self.pass(true, text);
+            return self.pass(true, page);
         }
         Ok(())
     }
 
     /// Takes the bytes of the last line, which are the rest of the item that is held or begin another.
-    fn take(&mut self, bytes: &[u8], text: &mut Vec<u8>) -> Result<(), AllocError>
+    fn take(&mut self, bytes: &[u8], page: &mut Page) -> Result<(), AllocError>
         ensures same { (self.new.explainer.task ≡ self.old.explainer.task) × (self.new.line ≡ self.old.line) }
         ensures short { OnOk result (length self.new.held.items < 1023) }
-        ensures ok { OnOk result (Takes HEAD.now self.old text.old.items (map (of_byte self.old.line) bytes.now) [] self.new text.new.items) }
-        ensures err { OnErr result (TakesSome HEAD.now self.old text.old.items (map (of_byte self.old.line) bytes.now) [] self.new text.new.items) }
+        ensures ok { OnOk result (Takes HEAD.now self.old page.old (map (of_byte self.old.line) bytes.now) [] self.new page.new) }
+        ensures err { OnErr result (TakesSome HEAD.now self.old page.old (map (of_byte self.old.line) bytes.now) [] self.new page.new) }
     {
-        self.end_cut(bytes, text)?;
+        self.end_cut(bytes, page)?;
         self.add(bytes)?;
-        self.pass(false, text)
+        self.pass(false, page)
     }
 
     /// Takes the bytes of the last line's digits; or, if the digits are the bits of a telegram, the bytes of these bits.
-    fn take_digits(&mut self, bytes: &[u8], text: &mut Vec<u8>) -> Result<(), AllocError>
+    fn take_digits(&mut self, bytes: &[u8], page: &mut Page) -> Result<(), AllocError>
         ensures same { (self.new.explainer.task ≡ self.old.explainer.task) × (self.new.line ≡ self.old.line) }
         ensures short { OnOk result (length self.new.held.items < 1023) }
-        ensures ok { OnOk result (Takes HEAD.now self.old text.old.items (map (of_byte self.old.line) (digits_say self.old.explainer.task.kind bytes.now)) [] self.new text.new.items) }
-        ensures err { OnErr result (TakesSome HEAD.now self.old text.old.items (map (of_byte self.old.line) (digits_say self.old.explainer.task.kind bytes.now)) [] self.new text.new.items) }
+        ensures ok { OnOk result (Takes HEAD.now self.old page.old (map (of_byte self.old.line) (digits_say self.old.explainer.task.kind bytes.now)) [] self.new page.new) }
+        ensures err { OnErr result (TakesSome HEAD.now self.old page.old (map (of_byte self.old.line) (digits_say self.old.explainer.task.kind bytes.now)) [] self.new page.new) }
     {
         if are_bits(self.explainer.task.kind, bytes) {
             let packed = packed(bytes);
-            return self.take(&packed[..(bytes.len() + 3) / 4], text);
+            return self.take(&packed[..(bytes.len() + 3) / 4], page);
         }
-        self.take(bytes, text)
+        self.take(bytes, page)
     }
 
     /// Takes the last line, of hexadecimal.
-    fn hex_line(&mut self, line: &[u8], text: &mut Vec<u8>) -> Result<(), AllocError>
+    fn hex_line(&mut self, line: &[u8], page: &mut Page) -> Result<(), AllocError>
         requires lines { self.old.explainer.task.from ≡ form.Json → ⊥ }
         requires short { length self.old.held.items < 1023 }
         ensures same { (self.new.explainer.task ≡ self.old.explainer.task) × (self.new.line ≡ self.old.line) }
         ensures short { OnOk result (length self.new.held.items < 1023) }
-        ensures ok { OnOk result (Takes HEAD.now self.old text.old.items (hex_tokens self.old.explainer.task.kind self.old.line line.now) [] self.new text.new.items) }
-        ensures err { OnErr result (TakesSome HEAD.now self.old text.old.items (hex_tokens self.old.explainer.task.kind self.old.line line.now) [] self.new text.new.items) }
+        ensures ok { OnOk result (Takes HEAD.now self.old page.old (hex_tokens self.old.explainer.task.kind self.old.line line.now) [] self.new page.new) }
+        ensures err { OnErr result (TakesSome HEAD.now self.old page.old (hex_tokens self.old.explainer.task.kind self.old.line line.now) [] self.new page.new) }
     {
         let mut buffer = Vec::new(self.explainer.alloc);
         buffer.resize(line.len() / 2 + 1, 0)?;
-        self.hex_bytes(line, buffer.as_mut_slice(), text)
+        self.hex_bytes(line, buffer.as_mut_slice(), page)
     }
 
     /// Takes the last line, of hexadecimal, whose bytes have room in this buffer.
@@ -162,65 +163,65 @@ impl Items {
         &mut self,
         line: &[u8],
         buffer: &mut [u8],
-        text: &mut Vec<u8>,
+        page: &mut Page,
     ) -> Result<(), AllocError>
         requires room { length line.now ≤ 2 * length buffer.old }
         requires lines { self.old.explainer.task.from ≡ form.Json → ⊥ }
         requires short { length self.old.held.items < 1023 }
         ensures same { (self.new.explainer.task ≡ self.old.explainer.task) × (self.new.line ≡ self.old.line) }
         ensures short { OnOk result (length self.new.held.items < 1023) }
-        ensures ok { OnOk result (Takes HEAD.now self.old text.old.items (hex_tokens self.old.explainer.task.kind self.old.line line.now) [] self.new text.new.items) }
-        ensures err { OnErr result (TakesSome HEAD.now self.old text.old.items (hex_tokens self.old.explainer.task.kind self.old.line line.now) [] self.new text.new.items) }
+        ensures ok { OnOk result (Takes HEAD.now self.old page.old (hex_tokens self.old.explainer.task.kind self.old.line line.now) [] self.new page.new) }
+        ensures err { OnErr result (TakesSome HEAD.now self.old page.old (hex_tokens self.old.explainer.task.kind self.old.line line.now) [] self.new page.new) }
     {
         match line_bytes(line, buffer) {
             Ok(count) => {
                 let start = buffer.len() - count;
-                self.take_digits(&buffer[start..], text)
+                self.take_digits(&buffer[start..], page)
             }
             Err(NoBytes::Empty) => Ok(()),
-            Err(NoBytes::NoDigits) => self.bad_hex(line, NoBytes::NoDigits, text),
+            Err(NoBytes::NoDigits) => self.bad_hex(line, NoBytes::NoDigits, page),
             Err(NoBytes::OddDigits(count)) => {
-                self.bad_hex(line, NoBytes::OddDigits(count), text)
+                self.bad_hex(line, NoBytes::OddDigits(count), page)
             }
         }
     }
 
     /// Explains what is held, and reports why the last line has no bytes.
-    fn bad_hex(&mut self, line: &[u8], why: NoBytes, text: &mut Vec<u8>) -> Result<(), AllocError>
+    fn bad_hex(&mut self, line: &[u8], why: NoBytes, page: &mut Page) -> Result<(), AllocError>
         requires lines { self.old.explainer.task.from ≡ form.Json → ⊥ }
         ensures same { (self.new.explainer.task ≡ self.old.explainer.task) × (self.new.line ≡ self.old.line) }
         ensures short { OnOk result (length self.new.held.items < 1023) }
-        ensures ok { OnOk result (Takes HEAD.now self.old text.old.items (of_line self.old.line line.now ∷ []) [] self.new text.new.items) }
-        ensures err { OnErr result (TakesSome HEAD.now self.old text.old.items (of_line self.old.line line.now ∷ []) [] self.new text.new.items) }
+        ensures ok { OnOk result (Takes HEAD.now self.old page.old (of_line self.old.line line.now ∷ []) [] self.new page.new) }
+        ensures err { OnErr result (TakesSome HEAD.now self.old page.old (of_line self.old.line line.now ∷ []) [] self.new page.new) }
     {
-        self.pass(true, text)?;
-        self.explainer.bad_hex(line, self.line, why, text)?;
+        self.pass(true, page)?;
+        self.explainer.bad_hex(line, self.line, why, page)?;
         Ok(())
     }
 
     /// Takes the last line, which isn't too long.
-    fn short_line(&mut self, line: &[u8], text: &mut Vec<u8>) -> Result<(), AllocError>
+    fn short_line(&mut self, line: &[u8], page: &mut Page) -> Result<(), AllocError>
         requires short { length self.old.held.items < 1023 }
         requires json { self.old.explainer.task.from ≡ form.Json → self.old.held.items ≡ [] }
         ensures same { (self.new.explainer.task ≡ self.old.explainer.task) × (self.new.line ≡ self.old.line) }
         ensures short { OnOk result (length self.new.held.items < 1023) }
         ensures json { self.old.explainer.task.from ≡ form.Json → OnOk result (self.new.held.items ≡ []) }
-        ensures ok { OnOk result (Takes HEAD.now self.old text.old.items (short_tokens self.old.explainer.task.kind self.old.explainer.task.from self.old.line line.now) [] self.new text.new.items) }
-        ensures err { OnErr result (TakesSome HEAD.now self.old text.old.items (short_tokens self.old.explainer.task.kind self.old.explainer.task.from self.old.line line.now) [] self.new text.new.items) }
+        ensures ok { OnOk result (Takes HEAD.now self.old page.old (short_tokens self.old.explainer.task.kind self.old.explainer.task.from self.old.line line.now) [] self.new page.new) }
+        ensures err { OnErr result (TakesSome HEAD.now self.old page.old (short_tokens self.old.explainer.task.kind self.old.explainer.task.from self.old.line line.now) [] self.new page.new) }
     {
         match self.explainer.task.from {
             Form::Json if line.is_empty() => Ok(()),
             Form::Json => {
-                self.explainer.json_line(line, self.line, text)?;
+                self.explainer.json_line(line, self.line, page)?;
                 Ok(())
             }
-            Form::Hex => self.hex_line(line, text),
-            Form::Bin => self.hex_line(line, text),
+            Form::Hex => self.hex_line(line, page),
+            Form::Bin => self.hex_line(line, page),
         }
     }
 
     /// Takes the next line.
-    fn handle(&mut self, line: &[u8], text: &mut Vec<u8>) -> Result<(), AllocError>
+    fn handle(&mut self, line: &[u8], page: &mut Page) -> Result<(), AllocError>
         requires few { self.old.line < 2 ^ 62 }
         requires short { length self.old.held.items < 1023 }
         requires json { self.old.explainer.task.from ≡ form.Json → self.old.held.items ≡ [] }
@@ -228,26 +229,26 @@ impl Items {
         ensures line { self.new.line ≡ self.old.line + 1 }
         ensures short { OnOk result (length self.new.held.items < 1023) }
         ensures json { self.old.explainer.task.from ≡ form.Json → OnOk result (self.new.held.items ≡ []) }
-        ensures ok { OnOk result (Takes HEAD.now self.old text.old.items (next_tokens self.old line.now) (line_long (self.old.line + 1) line.now) self.new text.new.items) }
-        ensures err { OnErr result (TakesSome HEAD.now self.old text.old.items (next_tokens self.old line.now) (line_long (self.old.line + 1) line.now) self.new text.new.items) }
+        ensures ok { OnOk result (Takes HEAD.now self.old page.old (next_tokens self.old line.now) (line_long (self.old.line + 1) line.now) self.new page.new) }
+        ensures err { OnErr result (TakesSome HEAD.now self.old page.old (next_tokens self.old line.now) (line_long (self.old.line + 1) line.now) self.new page.new) }
     {
         self.line += 1;
         if line.len() > MOST_LINE {
-            self.explainer.long_line(self.line, text)?;
+            self.explainer.long_line(self.line, page)?;
             return Ok(());
         }
-        self.short_line(line, text)
+        self.short_line(line, page)
     }
 
     /// Explains what is held, of which no more comes, writes the foot, and returns what was wrong first.
-    fn finish(&mut self, text: &mut Vec<u8>) -> Result<Option<RunFault>, AllocError>
+    fn finish(&mut self, page: &mut Page) -> Result<Option<RunFault>, AllocError>
         ensures task { self.new.explainer.task ≡ self.old.explainer.task }
         ensures kept { (fault : RunFault) → self.old.explainer.seen.first ≡ Some fault → IfOk result (λ first. first ≡ Some fault) }
-        ensures ok { IfOk result (λ first. Finishes HEAD.now FOOT.now self.old text.old.items text.new.items first) }
-        ensures err { OnErr result (TakesSome HEAD.now self.old text.old.items [] [] self.new text.new.items) }
+        ensures ok { IfOk result (λ first. Finishes HEAD.now FOOT.now self.old page.old page.new first) }
+        ensures err { OnErr result (TakesSome HEAD.now self.old page.old [] [] self.new page.new) }
     {
-        self.pass(true, text)?;
-        self.explainer.end(text)?;
+        self.pass(true, page)?;
+        self.explainer.end(page)?;
         Ok(self.explainer.seen.first)
     }
 }
@@ -275,20 +276,20 @@ impl Engine for Items {
         MOST_READ
     }
 
-    fn feed(&mut self, piece: &[u8], text: &mut Vec<u8>) -> Result<(), RunFault> {
+    fn feed(&mut self, piece: &[u8], page: &mut Page) -> Result<(), RunFault> {
         or_memory(self.add(piece))?;
-        or_memory(self.pass(false, text))?;
+        or_memory(self.pass(false, page))?;
         match self.explainer.seen.first {
             None => Ok(()),
             Some(fault) => {
-                or_memory(self.finish(text))?;
+                or_memory(self.finish(page))?;
                 Err(fault)
             }
         }
     }
 
-    fn finish(&mut self, text: &mut Vec<u8>) -> Result<Option<RunFault>, RunFault> {
-        or_memory(self.finish(text))
+    fn finish(&mut self, page: &mut Page) -> Result<Option<RunFault>, RunFault> {
+        or_memory(self.finish(page))
     }
 
     ghost sound = { λ s. explanations_sound HEAD.now FOOT.now s.explainer.task };
@@ -321,32 +322,27 @@ impl LineHandler for Items {
         MOST_LINE
     }
 
-    fn handle_line(
-        &mut self,
-        line: &[u8],
-        _number: u64,
-        text: &mut Vec<u8>,
-    ) -> Result<(), RunFault> {
-        or_memory(self.handle(line, text))
+    fn handle_line(&mut self, line: &[u8], _number: u64, page: &mut Page) -> Result<(), RunFault> {
+        or_memory(self.handle(line, page))
     }
 
-    fn refuse_long(&mut self, _number: u64, text: &mut Vec<u8>) -> Result<(), RunFault> {
+    fn refuse_long(&mut self, _number: u64, page: &mut Page) -> Result<(), RunFault> {
         self.line += 1;
-        or_memory(self.explainer.long_line(self.line, text))
+        or_memory(self.explainer.long_line(self.line, page))
     }
 
     fn handle_last(
         &mut self,
         line: &[u8],
         _number: u64,
-        text: &mut Vec<u8>,
+        page: &mut Page,
     ) -> Result<Option<RunFault>, RunFault> {
-        or_memory(self.handle(without_cr(line), text))?;
-        or_memory(self.finish(text))
+        or_memory(self.handle(without_cr(line), page))?;
+        or_memory(self.finish(page))
     }
 
-    fn close(&mut self, text: &mut Vec<u8>) -> Result<Option<RunFault>, RunFault> {
-        or_memory(self.finish(text))
+    fn close(&mut self, page: &mut Page) -> Result<Option<RunFault>, RunFault> {
+        or_memory(self.finish(page))
     }
 
     ghost sound = { λ s. explanations_sound HEAD.now FOOT.now s.explainer.task };

@@ -1,22 +1,18 @@
 -- What is written about a line, by what its digits say.
-use Rattle.std.proofs.Common.{◌≡◌, ℕ, ◌+◌, ◌-◌, ◌*◌, ◌<◌, ◌≤◌, ◌%◌, ◌==◌, Bool, true, false, ◌&&◌, ◌||◌, cond, IsTrue, List, [], ◌∷◌, ◌++◌, eqb, length, take, drop, Option, Some, None, Result, Ok, Err, inl, inr, refl, sym, ap, subst, ◌∙◌, arith}
-use Rattle.std.proofs.lemmas.Bool.{eqb-true}
+use Rattle.std.proofs.Common.{◌≡◌, ℕ, ◌+◌, ◌-◌, ◌*◌, ◌<◌, ◌≤◌, ◌%◌, ◌==◌, Bool, true, false, ◌&&◌, ◌||◌, cond, IsTrue, List, [], ◌∷◌, ◌++◌, length, take, drop, Result, Ok, Err, inl, inr, refl, sym, ap, subst, ◌∙◌, arith}
 use Rattle.std.proofs.lemmas.List.{append-nil, length-drop, map-append}
 use Rattle.std.proofs.Math.Seq.{take-length}
-use Rattle.std.specs.Option.{option_eq}
-use Rattle.std.specs.Prelude.{◌⊎◌, All, IfOk, IfSome, OnOk, is_some, not}
+use Rattle.std.specs.Prelude.{◌⊎◌, All, IfOk, OnOk, not}
 use Rattle.etcs_text.specs.declared.entry.Entry.{Entry}
 use Rattle.etcs_text.specs.declared.entry.Entry.TheVariants.{Telegram}
 use Rattle.etcs_text.specs.declared.entry.Kind.{Kind}
 use Rattle.etcs_text.specs.declared.entry.Kind.TheVariants.{Long, Short, Radio, Train}
 use Rattle.etcs_text.specs.declared.verdict.Verdict.{Verdict}
 use Rattle.etcs_text.specs.declared.verdict.Verdict.TheVariants.{Item, Refused, TooShort, TooLong}
-use Rattle.hex.specs.Hex.{decode_of, encode_upper}
+use Rattle.hex.specs.Hex.{decode_of}
 use Rattle.hex.proofs.HexLemmas.{decode_of-odd, decode_of-ok, decode_of-same}
 use Rattle.etcs_bits.specs.Bits.{bits}
 use Rattle.etcs_bits.proofs.Positions.{length-bits}
-use Rattle.etcs_vars.specs.Reading.{IsOutcome, done, refused, spelled}
-use Rattle.etcs_vars.specs.declared.var.Var.{Var}
 use Rattle.etcs_telegram.specs.declared.size.Size.{Size}
 use Rattle.etcs_telegram.specs.declared.size.Size.TheVariants as size
 use Rattle.etcs_telegram.specs.Telegrams.{TelegramContent, TelegramValue, telegram_value, user_bits, pad_bits}
@@ -28,18 +24,17 @@ use Rattle.etcs_runs.specs.declared.digits.NoBytes.TheVariants.{Empty, NoDigits,
 use Rattle.etcs_group.specs.declared.groups.Group.{Group}
 use Rattle.etcs_group.specs.GroupLines.{AreGroupLines}
 use Rattle.etcs_group.specs.ManyGroups.{AreGroupsOf}
-use Rattle.etcs_text.specs.Entries.{EntryReads, EntryValue, entry_value, kind_of}
+use Rattle.etcs_text.specs.Entries.{EntryValue, entry_value, kind_of}
 use Rattle.etcs_text.specs.Encodings.{IsEncoded}
 use Rattle.etcs_text.specs.Verdicts.{IsItem, IsVerdict}
 use Rattle.etcs_text.proofs.ItemKinds.{item_bits, same_telegrams}
-use Rattle.etcs_text.proofs.Verdicts as verdicts
 use Rattle.etcs_log.specs.declared.job.Good.{Good}
 use Rattle.etcs_log.specs.declared.job.Good.TheVariants.{Left, Digits, Json}
 use Rattle.etcs_log.specs.declared.job.LogJob.{LogJob}
 use Rattle.etcs_log.specs.declared.job.LogTally.{LogTally}
 use Rattle.etcs_log.specs.declared.kinds.Kinds.{Kinds}
 use Rattle.etcs_reasons.specs.BitDigits.{are_bits, packed}
-use Rattle.etcs_log.specs.Candidates.{AreNone, Candidate, IsFirst, candidates, contains, is_asked, is_other, is_wanted, last_bytes, last_candidate, last_candidates, may_have, message_candidate, message_way, named, telegram_bytes, where_asked, whole_bytes, whole_candidate, whole_candidates}
+use Rattle.etcs_log.specs.Candidates.{AreNone, Candidate, IsFirst, candidates, contains, is_asked, is_other, last_bytes, last_candidate, last_candidates, may_have, message_candidate, message_way, telegram_bytes, where_asked, whole_bytes, whole_candidate, whole_candidates}
 use Rattle.etcs_log.specs.Logs.{Answer, passed, item, other, bad, GoodText, IsAnswer, IsBytesAnswer, IsNote, other_note, Answered, BytesAnswered, Counted, CountsText, Grouped, GroupsText, Noted, Tried, counts_front, is_written, telegrams_in}
 use Rattle.etcs_log.specs.declared.seen.Seen.{Seen}
 use Rattle.etcs_log.specs.JsonLines.{IsJsonItem}
@@ -363,18 +358,6 @@ tried_item job n front kind bytes v e before after text text' says is counted =
     let here : IsVerdict kind bytes (Item e) = subst (λ (z : Verdict). IsVerdict kind bytes z) is says in
     tried_one job n front kind bytes (entry_value e) before after text text' here counted
 
--- or seen, and no value of it is needed
-pub item_seen : (kind : Kind) (bytes : List ℕ) (r : Option ℕ) → IfSome r (λ n. (e : EntryValue) × IsOutcome (EntryReads kind) (bits bytes) (done e (8 * n)) × IsEncoded e (take n bytes)) → option_eq eqb r (Some (length bytes)) ≡ true → (e : EntryValue) × IsItem kind bytes e
-item_seen kind bytes (Some n) (e, (within, reading, reads, same), encoded) is =
-    let whole : 8 * n ≡ length (bits bytes) = omega (arith, length-bits bytes, eqb-true n (length bytes) is) in
-    (e, (reading, reads, same ∙ ap (λ (k : ℕ). take k (bits bytes)) whole ∙ take-length (bits bytes)))
-item_seen kind bytes None h is = cc is
-
--- or refused without one
-pub none_refused : (kind : Kind) (bytes : List ℕ) (r : Option (ℕ × Var)) → IfSome r (λ t. IsOutcome (EntryReads kind) (bits bytes) (refused t.0 t.1)) → is_some r ≡ true → (e : EntryValue) → IsItem kind bytes e → ⊥
-none_refused kind bytes (Some (i, x)) h is = verdicts.none_of kind bytes h.0.0
-none_refused kind bytes None h is = absurd cc
-
 encoded_of : (kind : Kind) (bytes : List ℕ) (e : EntryValue) → All (λ b. b < 256) bytes → IsItem kind bytes e → IsEncoded e bytes
 encoded_of kind bytes e small (r, reads, is) = record { reading = r; reads = reads.1; small = small; bits_are = sym is }
 
@@ -383,22 +366,14 @@ tried_seen job n front kind bytes before after text text' small alone (e, is) co
     let (ungrouped, plain) = without_values job alone in
     tried_one job n front kind bytes e before after text text' is (noted_alone job n (item kind front e) before after text text' ungrouped (counted_bytes job n kind front bytes e before.tally after.tally text text' plain (encoded_of kind bytes e small is) counted t))
 
-abbrev pub IsNoItem : Verdict → Type 0
-IsNoItem (Item e) = ⊥
-IsNoItem (Refused i x) = Unit {0}
-IsNoItem TooShort = Unit {0}
-IsNoItem TooLong = Unit {0}
+none_other : (kind : Kind) (bytes : List ℕ) (v : Verdict) → IsVerdict kind bytes v → ((e : Entry) → v ≡ Item e → ⊥) → (e : EntryValue) → IsItem kind bytes e → ⊥
+none_other kind bytes (Item e) says not = absurd (not e refl)
+none_other kind bytes (Refused i x) says not = says.0
+none_other kind bytes TooShort says not = says.0
+none_other kind bytes TooLong says not = says.0
 
-none_other : (kind : Kind) (bytes : List ℕ) (v w : Verdict) → v ≡ w → IsNoItem w → IsVerdict kind bytes v → (e : EntryValue) → IsItem kind bytes e → ⊥
-none_other kind bytes v (Item e) is barred says = absurd barred
-none_other kind bytes v (Refused i x) is barred says = (subst (λ (z : Verdict). IsVerdict kind bytes z) is says).0
-none_other kind bytes v TooShort is barred says = (subst (λ (z : Verdict). IsVerdict kind bytes z) is says).0
-none_other kind bytes v TooLong is barred says = (subst (λ (z : Verdict). IsVerdict kind bytes z) is says).0
-
-pub tried_vain : (job : LogJob) (n : ℕ) (front : List ℕ) (kind : Kind) (bytes : List ℕ) (v : Verdict) (seen : Seen) (text : List ℕ) → IsVerdict kind bytes v → ((i : ℕ) × (x : Var) × (v ≡ Refused i x)) ⊎ ((v ≡ TooShort) ⊎ (v ≡ TooLong)) → Tried (record { kind = kind; bytes = bytes } ∷ []) false job n front seen seen text text
-tried_vain job n front kind bytes v seen text says (inl (i, x, is)) = ((none_other kind bytes v (Refused i x) is tt says, tt), refl, refl)
-tried_vain job n front kind bytes v seen text says (inr (inl is)) = ((none_other kind bytes v TooShort is tt says, tt), refl, refl)
-tried_vain job n front kind bytes v seen text says (inr (inr is)) = ((none_other kind bytes v TooLong is tt says, tt), refl, refl)
+pub tried_vain : (job : LogJob) (n : ℕ) (front : List ℕ) (kind : Kind) (bytes : List ℕ) (v : Verdict) (seen : Seen) (text : List ℕ) → IsVerdict kind bytes v → ((e : Entry) → v ≡ Item e → ⊥) → Tried (record { kind = kind; bytes = bytes } ∷ []) false job n front seen seen text text
+tried_vain job n front kind bytes v seen text says not = ((none_other kind bytes v says not, tt), refl, refl)
 
 -- an item was found
 pub answered_first : (b : Bool) (job : LogJob) (n : ℕ) (front bytes : List ℕ) (before after : Seen) (text text' : List ℕ) → b ≡ true → Tried (candidates job.kinds bytes) b job n front before after text text' → BytesAnswered job n front bytes before after text text'

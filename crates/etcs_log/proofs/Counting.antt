@@ -109,6 +109,11 @@ answered_more job lines n line seen seen' output before text text' h t e (a, is,
   groups_are = λ asked. subst (λ (z : List TelegramValue). AreGroups z seen'.groups) (sym (telegrams_in-push h.answers a)) (grouped asked (telegrams_in h.answers) (h.groups_are asked));
 }
 
+-- a line whose text was written by itself, and then after another
+pub answered_on : (job : LogJob) (n : ℕ) (line : List ℕ) (seen seen' : Seen) (written text text' : List ℕ) → Answered job n line seen seen' [] written → text' ≡ text ++ written → Answered job n line seen seen' text text'
+answered_on job n line seen seen' written text text' (a, is, ((said, says, grown, items, bads, others), grouped)) added =
+    (a, is, ((said, says, added ∙ ap (λ (z : List ℕ). text ++ z) grown, items, bads, others), grouped))
+
 -- no more than there are lines
 answered_few : (job : LogJob) (lines : List (List ℕ)) (seen : Seen) (output : List ℕ) → AreAnswered job lines seen output → (seen.tally.items ≤ length lines) × (seen.tally.bad ≤ length lines) × (seen.tally.other ≤ length lines)
 answered_few job lines seen output h =

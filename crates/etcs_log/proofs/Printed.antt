@@ -1,13 +1,9 @@
 -- What a writer of JSON has appended.
-use Rattle.std.proofs.Common.{◌≡◌, ℕ, List, [], ◌∷◌, ◌++◌, Result, Ok, Err, OnOk, OnErr, refl, ap, ◌∙◌}
+use Rattle.std.proofs.Common.{◌≡◌, ℕ, List, [], ◌∷◌, ◌++◌, Result, Ok, Err, OnOk, ap, ◌∙◌}
 use Rattle.std.proofs.lemmas.List.{append-nil}
 use Rattle.json.specs.Token.{string}
 use Rattle.json.specs.Print.{print, print_from, quoted}
 use Rattle.json.specs.Written.{Written, Writes}
-
-print_none : print [] ≡ []
-unfolding print_from
-print_none = refl
 
 print_string : (text : List ℕ) → print (string text ∷ []) ≡ quoted text
 unfolding print_from
@@ -21,13 +17,3 @@ module _ {E : Type 0} (old new : Written) (text items before : List ℕ) (none :
       ∙ ap (λ (z : List ℕ). new.before ++ z) (print_string text)
       ∙ ap (λ (z : List ℕ). z ++ quoted text) (w.room.0 ∙ is)
   string_appended (Err e) w = tt
-
-  pub nothing_appended : (r : Result (Unit {0}) E) → Writes r old new (string text) → OnErr r (items ≡ before)
-  nothing_appended (Ok x) w = tt
-  nothing_appended (Err e) w =
-      all
-      ∙ ap (λ z. new.before ++ print z) (w.err ∙ none)
-      ∙ ap (λ (z : List ℕ). new.before ++ z) print_none
-      ∙ append-nil new.before
-      ∙ w.room.0
-      ∙ is

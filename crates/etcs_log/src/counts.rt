@@ -1,8 +1,7 @@
 //! Counts what a log has.
 
-ghost use Rattle.std.specs.Prelude.{◌≡◌, ◌<◌, ◌++◌, ℕ, List, codes, OnErr, OnOk};
+ghost use Rattle.std.specs.Prelude.{◌≡◌, ◌<◌, ◌++◌, codes, OnOk};
 ghost use Rattle.std.specs.Fmt.{decimal};
-ghost use Rattle.etcs_packet_text.specs.Fronts.{Begins};
 ghost use Rattle.etcs_log.specs.Logs.{counts_front, other_count};
 
 use crate::job::LogTally;
@@ -174,36 +173,18 @@ impl Counts {
     }
 }
 
-/// Appends the lines of all counts, the further ones after those of items and bad lines; or nothing.
+/// Appends the lines of all counts, the further ones after those of items and bad lines.
 ///
 /// # Errors
 ///
 /// If memory runs out.
-pub(crate) fn append_counts(
+#[tactic(auto, using(std::proofs::Common::append_assoc))]
+pub(crate) fn write_tally(
     tally: &LogTally,
     further: &str,
     out: &mut Vec<u8>,
 ) -> Result<(), AllocError>
-    ensures ok { OnOk result (out.new.items ≡ out.old.items ++ (counts_front tally.now ++ further.now)) }
-    ensures err { OnErr result (out.new.items ≡ out.old.items) }
-{
-    let len = out.len();
-    let written = write_all_counts(tally, further, out);
-    if written.is_err() {
-        out.truncate(len);
-    }
-    written
-}
-
-/// Appends those lines.
-///
-/// # Errors
-///
-/// If memory runs out. A part of them may then be in `out`.
-#[tactic(auto, using(etcs_packet_text::specs::laws::Fronts::begins_more, std::proofs::Common::append_assoc))]
-fn write_all_counts(tally: &LogTally, further: &str, out: &mut Vec<u8>) -> Result<(), AllocError>
-    ensures ok { OnOk result (out.new.items ≡ out.old.items ++ (counts_front tally.now ++ further.now)) }
-    ensures err { OnErr result (Begins out.old.items out.new.items) }
+    ensures { OnOk result (out.new.items ≡ out.old.items ++ (counts_front tally.now ++ further.now)) }
 {
     out.extend_from_slice(b"items ")?;
     write_decimal(tally.items, out)?;
@@ -218,11 +199,10 @@ fn write_all_counts(tally: &LogTally, further: &str, out: &mut Vec<u8>) -> Resul
 ///
 /// # Errors
 ///
-/// If memory runs out. A part of the line may then be in `out`.
-#[tactic(auto, using(etcs_packet_text::specs::laws::Fronts::begins_more, std::proofs::Common::append_assoc))]
+/// If memory runs out.
+#[tactic(auto, using(std::proofs::Common::append_assoc))]
 fn write_other(count: u64, out: &mut Vec<u8>) -> Result<(), AllocError>
-    ensures ok { OnOk result (out.new.items ≡ out.old.items ++ other_count count) }
-    ensures err { OnErr result (Begins out.old.items out.new.items) }
+    ensures { OnOk result (out.new.items ≡ out.old.items ++ other_count count) }
 {
     if count == 0 {
         return Ok(());

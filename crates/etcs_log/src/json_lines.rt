@@ -1,13 +1,12 @@
 //! Good lines as JSON.
 
-ghost use Rattle.std.specs.Prelude.{◌≡◌, ◌++◌, ℕ, List, OnErr, OnOk};
+ghost use Rattle.std.specs.Prelude.{◌≡◌, ◌++◌, OnOk};
 ghost use Rattle.std.specs.Str.Lossy.{utf8_lossy};
 ghost use Rattle.serde_json.specs.Data.{string};
 ghost use Rattle.serde_json.specs.Written.{compact_text};
-ghost use Rattle.etcs_packet_text.specs.Fronts.{Begins};
 ghost use Rattle.etcs_text.specs.Entries.{entry_value};
 ghost use Rattle.etcs_text.specs.Trees.{json_tree};
-ghost use Rattle.etcs_log.specs.JsonLines.{IsJsonItem, json_item};
+ghost use Rattle.etcs_log.specs.JsonLines.{json_item};
 ghost use Rattle.etcs_log.specs.Visible.{visible};
 
 use crate::strings::append_visible_string;
@@ -16,14 +15,13 @@ use etcs_text::{Entry, json_line};
 use std::alloc::AllocError;
 use std::str;
 
-/// Appends what is before the digits of a line as a string of JSON with its unseen characters escaped, or nothing.
+/// Appends what is before the digits of a line as a string of JSON with its unseen characters escaped.
 ///
 /// # Errors
 ///
 /// If memory runs out.
 fn append_front(front: &[u8], out: &mut Vec<u8>) -> Result<(), AllocError>
-    ensures ok { OnOk result (out.new.items ≡ out.old.items ++ visible (compact_text (string (utf8_lossy front.now)))) }
-    ensures err { OnErr result (out.new.items ≡ out.old.items) }
+    ensures { OnOk result (out.new.items ≡ out.old.items ++ visible (compact_text (string (utf8_lossy front.now)))) }
 {
     if let Ok(text) = str::from_utf8(front) {
         return append_visible_string(text, out);
@@ -32,14 +30,13 @@ fn append_front(front: &[u8], out: &mut Vec<u8>) -> Result<(), AllocError>
     append_visible_string(text.as_str(), out)
 }
 
-/// Appends an item's tree, or nothing.
+/// Appends an item's tree.
 ///
 /// # Errors
 ///
 /// If memory runs out.
 fn append_item(item: &Entry, out: &mut Vec<u8>) -> Result<(), AllocError>
-    ensures ok { OnOk result (out.new.items ≡ out.old.items ++ compact_text (json_tree (entry_value item.now))) }
-    ensures err { OnErr result (out.new.items ≡ out.old.items) }
+    ensures { OnOk result (out.new.items ≡ out.old.items ++ compact_text (json_tree (entry_value item.now))) }
 {
     json_line(item, out)?;
     // without its LF
@@ -47,20 +44,22 @@ fn append_item(item: &Entry, out: &mut Vec<u8>) -> Result<(), AllocError>
     Ok(())
 }
 
-/// Appends the line of an item, as [`append_json_item`].
+/// Appends the line of an item as JSON: an object with the line's number (`line`), what is before its digits (`front`), and
+/// the item as `convert --to json` writes it (`item`). Bytes before the digits that aren't UTF-8 are written as U+FFFD.
+/// Characters that a terminal may act on are escaped: not only those below U+0020, but also U+007F to U+009F, U+061C, U+200E,
+/// U+200F, U+2028 to U+202E and U+2066 to U+2069.
 ///
 /// # Errors
 ///
-/// If memory runs out. A part of it may then be in `out`.
-#[tactic(auto, using(etcs_packet_text::specs::laws::Fronts::begins_more, std::proofs::Common::append_assoc))]
-fn write_json_item(
+/// If memory runs out.
+#[tactic(auto, using(std::proofs::Common::append_assoc))]
+pub(crate) fn write_json_item(
     number: u64,
     front: &[u8],
     item: &Entry,
     out: &mut Vec<u8>,
 ) -> Result<(), AllocError>
-    ensures ok { OnOk result (out.new.items ≡ out.old.items ++ json_item number front.now (entry_value item.now)) }
-    ensures err { OnErr result (Begins out.old.items out.new.items) }
+    ensures { OnOk result (out.new.items ≡ out.old.items ++ json_item number front.now (entry_value item.now)) }
 {
     out.extend_from_slice(b"{\"line\":")?;
     write_decimal(number, out)?;
@@ -69,29 +68,4 @@ fn write_json_item(
     out.extend_from_slice(b",\"item\":")?;
     append_item(item, out)?;
     out.extend_from_slice(b"}\n")
-}
-
-/// Appends the line of an item as JSON, or nothing: an object with the line's number (`line`), what is before its digits
-/// (`front`), and the item as `convert --to json` writes it (`item`). Bytes before the digits that aren't UTF-8 are written
-/// as U+FFFD. Characters that a terminal may act on are escaped: not only those below U+0020, but also U+007F to U+009F,
-/// U+061C, U+200E, U+200F, U+2028 to U+202E and U+2066 to U+2069.
-///
-/// # Errors
-///
-/// If memory runs out.
-pub(crate) fn append_json_item(
-    number: u64,
-    front: &[u8],
-    entry: &Entry,
-    out: &mut Vec<u8>,
-) -> Result<(), AllocError>
-    ensures ok { OnOk result ((text : List ℕ) × IsJsonItem number front.now (entry_value entry.now) text × (out.new.items ≡ out.old.items ++ text)) }
-    ensures err { OnErr result (out.new.items ≡ out.old.items) }
-{
-    let len = out.len();
-    let written = write_json_item(number, front, entry, out);
-    if written.is_err() {
-        out.truncate(len);
-    }
-    written
 }

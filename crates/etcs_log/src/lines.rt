@@ -1,56 +1,37 @@
-//! What is reported of each line.
+//! What is reported of each line. After an error, part of what is written of a line may be there.
 
-ghost use Rattle.std.specs.Prelude.{◌≡◌, ◌+◌, ◌*◌, ◌<◌, ◌≤◌, ◌^◌, ◌++◌, ◌∷◌, ℕ, List, [], All, IfOk, IsTrue, OnErr, OnOk, false, length};
+ghost use Rattle.std.specs.Prelude.{◌≡◌, ◌+◌, ◌*◌, ◌<◌, ◌≤◌, ◌^◌, ◌++◌, ◌∷◌, ℕ, List, [], All, IfOk, OnOk, length};
 ghost use Rattle.hex.specs.Hex.{encode_upper};
 ghost use Rattle.etcs_text.specs.Encodings.{IsEncoded};
-ghost use Rattle.etcs_text.specs.Entries.{EntryValue, entry_value};
-ghost use Rattle.etcs_text.specs.Verdicts.{IsItem};
+ghost use Rattle.etcs_text.specs.Entries.{entry_value};
 ghost use Rattle.etcs_runs.specs.Digits.{line_front};
-ghost use Rattle.etcs_packet_text.specs.Fronts.{Begins};
 ghost use Rattle.etcs_log.specs.Candidates.{AreNone, candidates, last_candidate, last_candidates, may_have, message_candidate, named, whole_candidate, whole_candidates};
 ghost use Rattle.etcs_log.specs.LogGroups.{Holds};
 ghost use Rattle.etcs_log.specs.Logs.{Answered, BytesAnswered, Counted, CountsText, EndText, GroupsText, Noted, bad, item, other};
 ghost use Rattle.etcs_log.specs.Tries.{Tries};
-ghost use Rattle.etcs_log.specs.Values.{bytes_text, needs_values, one_more};
+ghost use Rattle.etcs_log.specs.Values.{bytes_text, one_more};
 
-use crate::counts::{Counts, append_counts};
+use crate::counts::{Counts, write_tally};
 use crate::job::{Good, LogJob, LogTally};
-use crate::json_lines::append_json_item;
+use crate::json_lines::write_json_item;
 use crate::kinds::{Kinds, is_other, kind_name, telegram_bytes};
-use crate::notes::{Bad, append_note, append_other, write_reason};
+use crate::notes::{Bad, write_note, write_other, write_reason};
 use crate::readers::Readers;
 use crate::seen::Seen;
 use etcs_group::Groups;
-use etcs_packet_text::inner::to_digits;
-use etcs_reasons::inner::{are_bits, packed};
+use etcs_packet_text::inner::append_digits;
+use etcs_reasons::inner::{are_bits, is_item, packed};
 use etcs_runs::{NoBytes, line_bytes, line_front};
-use etcs_text::inner::{refused_at, seen};
 use etcs_text::{Entry, Kind, Verdict};
 use std::alloc::{AllocError, Global};
-
-/// Appends bytes in upper case digits and a LF, or nothing.
-///
-/// # Errors
-///
-/// If memory runs out.
-fn write_digits(bytes: &[u8], out: &mut Vec<u8>) -> Result<(), AllocError>
-    ensures ok { OnOk result (out.new.items ≡ out.old.items ++ (encode_upper bytes.now ++ 10 ∷ [])) }
-    ensures err { OnErr result (out.new.items ≡ out.old.items) }
-{
-    let start = out.len();
-    out.extend_from_slice(bytes)?;
-    to_digits(out, start)
-}
 
 /// Appends what a kind is called and a blank, if there are several kinds.
 ///
 /// # Errors
 ///
-/// If memory runs out. A part of it may then be in `out`.
-#[tactic(auto, using(etcs_packet_text::specs::laws::Fronts::begins_more))]
+/// If memory runs out.
 fn write_front(kinds: Kinds, kind: Kind, out: &mut Vec<u8>) -> Result<(), AllocError>
-    ensures ok { OnOk result (out.new.items ≡ out.old.items ++ named kinds kind) }
-    ensures err { OnErr result (Begins out.old.items out.new.items) }
+    ensures { OnOk result (out.new.items ≡ out.old.items ++ named kinds kind) }
 {
     if !kinds.several() {
         return Ok(());
@@ -59,35 +40,17 @@ fn write_front(kinds: Kinds, kind: Kind, out: &mut Vec<u8>) -> Result<(), AllocE
     out.extend_from_slice(b" ")
 }
 
-/// Appends the line of a good item, or nothing.
+/// Appends the line of a good item.
 ///
 /// # Errors
 ///
 /// If memory runs out.
+#[tactic(auto, using(std::proofs::Common::append_assoc))]
 fn write_good(kinds: Kinds, kind: Kind, bytes: &[u8], out: &mut Vec<u8>) -> Result<(), AllocError>
-    ensures ok { OnOk result (out.new.items ≡ out.old.items ++ (named kinds kind ++ (encode_upper bytes.now ++ 10 ∷ []))) }
-    ensures err { OnErr result (out.new.items ≡ out.old.items) }
-{
-    let len = out.len();
-    let written = write_line(kinds, kind, bytes, out);
-    if written.is_err() {
-        out.truncate(len);
-    }
-    written
-}
-
-/// Appends that line.
-///
-/// # Errors
-///
-/// If memory runs out. A part of it may then be in `out`.
-#[tactic(auto, using(etcs_packet_text::specs::laws::Fronts::begins_more, std::proofs::Common::append_assoc))]
-fn write_line(kinds: Kinds, kind: Kind, bytes: &[u8], out: &mut Vec<u8>) -> Result<(), AllocError>
-    ensures ok { OnOk result (out.new.items ≡ out.old.items ++ (named kinds kind ++ (encode_upper bytes.now ++ 10 ∷ []))) }
-    ensures err { OnErr result (Begins out.old.items out.new.items) }
+    ensures { OnOk result (out.new.items ≡ out.old.items ++ (named kinds kind ++ (encode_upper bytes.now ++ 10 ∷ []))) }
 {
     write_front(kinds, kind, out)?;
-    write_digits(bytes, out)
+    append_digits(bytes, out)
 }
 
 /// For callers: each byte is below 256.
@@ -153,7 +116,7 @@ impl Answers {
     ///
     /// # Errors
     ///
-    /// If memory runs out. Nothing was appended.
+    /// If memory runs out.
     pub(crate) fn take(
         &mut self,
         line: &[u8],
@@ -168,7 +131,6 @@ impl Answers {
         ensures job { self.new.job ≡ self.old.job }
         ensures line { self.new.line ≡ self.old.line }
         ensures ok { OnOk result (Answered self.old.job self.old.line line.now self.old.seen self.new.seen text.old.items text.new.items) }
-        ensures err { OnErr result (text.new.items ≡ text.old.items) }
     {
         match line_bytes(line, buffer) {
             Ok(count) => self.take_bytes(line, &buffer[buffer.len() - count..], text),
@@ -182,7 +144,7 @@ impl Answers {
     ///
     /// # Errors
     ///
-    /// If memory runs out. Nothing was appended.
+    /// If memory runs out.
     fn take_bytes(
         &mut self,
         line: &[u8],
@@ -195,7 +157,6 @@ impl Answers {
         ensures job { self.new.job ≡ self.old.job }
         ensures line { self.new.line ≡ self.old.line }
         ensures ok { OnOk result (BytesAnswered self.old.job self.old.line (line_front line.now) bytes.now self.old.seen self.new.seen text.old.items text.new.items) }
-        ensures err { OnErr result (text.new.items ≡ text.old.items) }
     {
         if self.take_whole(line, bytes, text)? {
             return Ok(());
@@ -210,7 +171,7 @@ impl Answers {
     ///
     /// # Errors
     ///
-    /// If memory runs out. Nothing was appended.
+    /// If memory runs out.
     fn take_whole(
         &mut self,
         line: &[u8],
@@ -221,7 +182,6 @@ impl Answers {
         ensures job { self.new.job ≡ self.old.job }
         ensures line { self.new.line ≡ self.old.line }
         ensures ok { IfOk result (Tries self.old self.new line.now text.old.items text.new.items (whole_candidates self.old.job.kinds bytes.now)) }
-        ensures err { OnErr result (text.new.items ≡ text.old.items) }
     {
         if self.take_telegram(Kind::Long, line, bytes, text)? {
             return Ok(true);
@@ -236,7 +196,7 @@ impl Answers {
     ///
     /// # Errors
     ///
-    /// If memory runs out. Nothing was appended.
+    /// If memory runs out.
     fn take_last(
         &mut self,
         line: &[u8],
@@ -247,7 +207,6 @@ impl Answers {
         ensures job { self.new.job ≡ self.old.job }
         ensures line { self.new.line ≡ self.old.line }
         ensures ok { IfOk result (Tries self.old self.new line.now text.old.items text.new.items (last_candidates self.old.job.kinds bytes.now)) }
-        ensures err { OnErr result (text.new.items ≡ text.old.items) }
     {
         if self.take_end(Kind::Long, line, bytes, text)? {
             return Ok(true);
@@ -259,7 +218,7 @@ impl Answers {
     ///
     /// # Errors
     ///
-    /// If memory runs out. Nothing was appended.
+    /// If memory runs out.
     fn take_telegram(
         &mut self,
         kind: Kind,
@@ -271,7 +230,6 @@ impl Answers {
         ensures job { self.new.job ≡ self.old.job }
         ensures line { self.new.line ≡ self.old.line }
         ensures ok { IfOk result (Tries self.old self.new line.now text.old.items text.new.items (whole_candidate self.old.job.kinds kind bytes.now)) }
-        ensures err { OnErr result (text.new.items ≡ text.old.items) }
     {
         if !self.job.kinds.contains(kind) {
             return Ok(false);
@@ -287,7 +245,7 @@ impl Answers {
     ///
     /// # Errors
     ///
-    /// If memory runs out. Nothing was appended.
+    /// If memory runs out.
     fn take_message(
         &mut self,
         line: &[u8],
@@ -298,7 +256,6 @@ impl Answers {
         ensures job { self.new.job ≡ self.old.job }
         ensures line { self.new.line ≡ self.old.line }
         ensures ok { IfOk result (Tries self.old self.new line.now text.old.items text.new.items (message_candidate self.old.job.kinds bytes.now)) }
-        ensures err { OnErr result (text.new.items ≡ text.old.items) }
     {
         let kinds = self.job.kinds;
         if !kinds.radio && !kinds.train {
@@ -311,7 +268,7 @@ impl Answers {
     ///
     /// # Errors
     ///
-    /// If memory runs out. Nothing was appended.
+    /// If memory runs out.
     fn take_end(
         &mut self,
         kind: Kind,
@@ -323,7 +280,6 @@ impl Answers {
         ensures job { self.new.job ≡ self.old.job }
         ensures line { self.new.line ≡ self.old.line }
         ensures ok { IfOk result (Tries self.old self.new line.now text.old.items text.new.items (last_candidate self.old.job.kinds kind bytes.now)) }
-        ensures err { OnErr result (text.new.items ≡ text.old.items) }
     {
         let count = telegram_bytes(kind);
         if !self.job.kinds.contains(kind) || bytes.len() <= count {
@@ -336,7 +292,7 @@ impl Answers {
     ///
     /// # Errors
     ///
-    /// If memory runs out. Nothing was appended.
+    /// If memory runs out.
     fn take_item(
         &mut self,
         kind: Kind,
@@ -348,44 +304,26 @@ impl Answers {
         ensures job { self.new.job ≡ self.old.job }
         ensures line { self.new.line ≡ self.old.line }
         ensures ok { IfOk result (Tries self.old self.new line.now text.old.items text.new.items (record { kind = kind; bytes = bytes.now } ∷ [])) }
-        ensures err { OnErr result (text.new.items ≡ text.old.items) }
     {
         if !may_have(kind, bytes.len()) {
             return Ok(false);
         }
         are_bytes(bytes);
-        if self.sees(kind, bytes) {
-            self.add_bytes(kind, bytes, text)?;
-            return Ok(true);
+        if self.job.needs_values() {
+            return self.read_item(kind, line, bytes, text);
         }
-        if self.refuses(kind, bytes) {
+        if !is_item(*text.allocator(), kind, bytes)? {
             return Ok(false);
         }
-        self.read_item(kind, line, bytes, text)
-    }
-
-    /// If true, these bytes are an item of the kind, and no value of it is needed. If false, a reader decides what they are.
-    #[inline]
-    fn sees(&self, kind: Kind, bytes: &[u8]) -> bool
-        ensures alone { IsTrue result → needs_values self.now.job ≡ false }
-        ensures item { IsTrue result → (e : EntryValue) × IsItem kind bytes.now e }
-    {
-        !self.job.needs_values() && seen(kind, bytes) == Some(bytes.len())
-    }
-
-    /// If true, these bytes are no item of the kind. If false, a reader decides what they are, as always where values are
-    /// needed: then no item is read twice.
-    fn refuses(&self, kind: Kind, bytes: &[u8]) -> bool
-        ensures { IsTrue result → (e : EntryValue) → IsItem kind bytes.now e → ⊥ }
-    {
-        !self.job.needs_values() && refused_at(kind, bytes).is_some()
+        self.add_bytes(kind, bytes, text)?;
+        Ok(true)
     }
 
     /// Takes these bytes as an item of the kind, of which a reader makes a value, and returns whether they are one.
     ///
     /// # Errors
     ///
-    /// If memory runs out. Nothing was appended.
+    /// If memory runs out.
     fn read_item(
         &mut self,
         kind: Kind,
@@ -398,25 +336,18 @@ impl Answers {
         ensures job { self.new.job ≡ self.old.job }
         ensures line { self.new.line ≡ self.old.line }
         ensures ok { IfOk result (Tries self.old self.new line.now text.old.items text.new.items (record { kind = kind; bytes = bytes.now } ∷ [])) }
-        ensures err { OnErr result (text.new.items ≡ text.old.items) }
     {
         match self.readers.read(kind, bytes)? {
             Verdict::Item(entry) => {
-                let start = text.len();
                 self.add_item(kind, line, &entry, bytes, text)?;
                 if !self.job.groups {
                     drop(entry);
                     return Ok(true);
                 }
-                match self.hold(entry) {
-                    Ok(()) => Ok(true),
-                    Err(AllocError) => {
-                        text.truncate(start);
-                        Err(AllocError)
-                    }
-                }
+                self.hold(entry)?;
+                Ok(true)
             }
-            Verdict::Refused { .. } | Verdict::TooShort | Verdict::TooLong => Ok(false),
+            _ => Ok(false),
         }
     }
 
@@ -424,7 +355,7 @@ impl Answers {
     ///
     /// # Errors
     ///
-    /// If memory runs out. Nothing was appended.
+    /// If memory runs out.
     fn add_item(
         &mut self,
         kind: Kind,
@@ -439,13 +370,12 @@ impl Answers {
         ensures line { self.new.line ≡ self.old.line }
         ensures groups { self.new.seen.groups ≡ self.old.seen.groups }
         ensures ok { OnOk result (Counted self.old.job self.old.line (item kind (line_front line.now) (entry_value entry.now)) self.old.seen.tally self.new.seen.tally text.old.items text.new.items) }
-        ensures err { OnErr result (text.new.items ≡ text.old.items) }
     {
         self.counts.add_item(kind, entry);
         self.add_bytes(kind, bytes, text)?;
         match self.job.good {
             Good::Left | Good::Digits => Ok(()),
-            Good::Json => append_json_item(self.line, line_front(line), entry, text),
+            Good::Json => write_json_item(self.line, line_front(line), entry, text),
         }
     }
 
@@ -453,7 +383,7 @@ impl Answers {
     ///
     /// # Errors
     ///
-    /// If memory runs out. Nothing was appended.
+    /// If memory runs out.
     fn add_bytes(&mut self, kind: Kind, bytes: &[u8], text: &mut Vec<u8>) -> Result<(), AllocError>
         requires items { self.old.seen.tally.items < 2 ^ 63 }
         ensures job { self.new.job ≡ self.old.job }
@@ -461,7 +391,6 @@ impl Answers {
         ensures groups { self.new.seen.groups ≡ self.old.seen.groups }
         ensures tally { self.new.seen.tally ≡ one_more self.old.seen.tally }
         ensures ok { OnOk result (text.new.items ≡ text.old.items ++ bytes_text self.old.job.good self.old.job.kinds kind bytes.now) }
-        ensures err { OnErr result (text.new.items ≡ text.old.items) }
     {
         self.seen.tally.items += 1;
         match self.job.good {
@@ -491,7 +420,7 @@ impl Answers {
     ///
     /// # Errors
     ///
-    /// If memory runs out. Nothing was appended.
+    /// If memory runs out.
     fn refuse_bytes(
         &mut self,
         line: &[u8],
@@ -504,7 +433,6 @@ impl Answers {
         ensures job { self.new.job ≡ self.old.job }
         ensures line { self.new.line ≡ self.old.line }
         ensures ok { OnOk result (BytesAnswered self.old.job self.old.line (line_front line.now) bytes.now self.old.seen self.new.seen text.old.items text.new.items) }
-        ensures err { OnErr result (text.new.items ≡ text.old.items) }
     {
         if is_other(self.job.kinds, bytes) {
             return self.pass_other(bytes.len(), text);
@@ -516,19 +444,18 @@ impl Answers {
     ///
     /// # Errors
     ///
-    /// If memory runs out. Nothing was appended.
+    /// If memory runs out.
     fn pass_other(&mut self, count: usize, text: &mut Vec<u8>) -> Result<(), AllocError>
         requires other { self.old.seen.tally.other < 2 ^ 63 }
         ensures job { self.new.job ≡ self.old.job }
         ensures line { self.new.line ≡ self.old.line }
         ensures ok { OnOk result (Noted self.old.job self.old.line (other count) self.old.seen self.new.seen text.old.items text.new.items) }
-        ensures err { OnErr result (text.new.items ≡ text.old.items) }
     {
         self.seen.tally.other += 1;
         if self.job.good.is_written() {
-            append_other(self.line, count, &mut self.notes)
+            write_other(self.line, count, &mut self.notes)
         } else {
-            append_other(self.line, count, text)
+            write_other(self.line, count, text)
         }
     }
 
@@ -536,7 +463,7 @@ impl Answers {
     ///
     /// # Errors
     ///
-    /// If memory runs out. Nothing was appended.
+    /// If memory runs out.
     pub(crate) fn refuse(
         &mut self,
         why: Bad,
@@ -547,7 +474,6 @@ impl Answers {
         ensures job { self.new.job ≡ self.old.job }
         ensures line { self.new.line ≡ self.old.line }
         ensures ok { OnOk result (Noted self.old.job self.old.line bad self.old.seen self.new.seen text.old.items text.new.items) }
-        ensures err { OnErr result (text.new.items ≡ text.old.items) }
     {
         self.seen.tally.bad += 1;
         self.words.clear();
@@ -559,9 +485,9 @@ impl Answers {
             &mut self.words,
         )?;
         if self.job.good.is_written() {
-            append_note(self.line, self.words.as_str(), &mut self.notes)
+            write_note(self.line, self.words.as_str(), &mut self.notes)
         } else {
-            append_note(self.line, self.words.as_str(), text)
+            write_note(self.line, self.words.as_str(), text)
         }
     }
 
@@ -569,32 +495,25 @@ impl Answers {
     ///
     /// # Errors
     ///
-    /// If memory runs out. Nothing was appended.
+    /// If memory runs out.
     pub(crate) fn write_end(&mut self, text: &mut Vec<u8>) -> Result<(), AllocError>
         ensures job { self.new.job ≡ self.old.job }
         ensures tally { self.new.seen.tally ≡ self.old.seen.tally }
         ensures ok { OnOk result ((end : List ℕ) × EndText self.old.job self.old.seen.tally self.old.seen.groups end × (text.new.items ≡ text.old.items ++ end)) }
-        ensures err { OnErr result (text.new.items ≡ text.old.items) }
     {
-        let start = text.len();
         self.write_counts(text)?;
-        let written = self.write_groups(text);
-        if written.is_err() {
-            text.truncate(start);
-        }
-        written
+        self.write_groups(text)
     }
 
     /// Appends a line for each group, if they are asked for.
     ///
     /// # Errors
     ///
-    /// If memory runs out. Nothing was appended.
+    /// If memory runs out.
     fn write_groups(&mut self, text: &mut Vec<u8>) -> Result<(), AllocError>
         ensures job { self.new.job ≡ self.old.job }
         ensures seen { self.new.seen ≡ self.old.seen }
         ensures ok { OnOk result ((lines : List ℕ) × GroupsText self.old.job self.old.seen.groups lines × (text.new.items ≡ text.old.items ++ lines)) }
-        ensures err { OnErr result (text.new.items ≡ text.old.items) }
     {
         if !self.job.groups {
             return Ok(());
@@ -610,12 +529,11 @@ impl Answers {
     ///
     /// # Errors
     ///
-    /// If memory runs out. Nothing was appended.
+    /// If memory runs out.
     fn write_counts(&mut self, text: &mut Vec<u8>) -> Result<(), AllocError>
         ensures job { self.new.job ≡ self.old.job }
         ensures seen { self.new.seen ≡ self.old.seen }
         ensures ok { OnOk result ((counts : List ℕ) × CountsText self.old.job self.old.seen.tally counts × (text.new.items ≡ text.old.items ++ counts)) }
-        ensures err { OnErr result (text.new.items ≡ text.old.items) }
     {
         if !self.job.summary {
             return Ok(());
@@ -623,9 +541,9 @@ impl Answers {
         self.words.clear();
         self.counts.write(self.job.kinds, &mut self.words)?;
         if self.job.good.is_written() {
-            append_counts(&self.seen.tally, self.words.as_str(), &mut self.notes)
+            write_tally(&self.seen.tally, self.words.as_str(), &mut self.notes)
         } else {
-            append_counts(&self.seen.tally, self.words.as_str(), text)
+            write_tally(&self.seen.tally, self.words.as_str(), text)
         }
     }
 }

@@ -10,6 +10,7 @@ ghost use Rattle.etcs_log.specs.laws.LogLaws.{log_sound, long_output, stands_out
 use crate::job::{LogJob, LogTally};
 use crate::lines::Answers;
 use crate::notes::Bad;
+use etcs_packet_text::inner::Page;
 use etcs_runs::inner::{Engine, LineHandler, Lines, send};
 use etcs_runs::{MOST_LINE, RunFault, Sink, without_cr};
 use std::alloc::{AllocError, Global};
@@ -31,10 +32,13 @@ fn make_room(buffer: &mut Vec<u8>, count: usize) -> Result<(), AllocError>
     Ok(())
 }
 
-/// Handles the lines of a log, with a buffer for the bytes of each.
+/// Handles the lines of a log, with a buffer for the bytes of each and one for what is written of it.
 #[derive(Drop)]
 pub(crate) struct LogLines {
     buffer: Vec<u8>,
+    text: Vec<u8>,
+    /// How many bytes the notes of whole lines have.
+    noted: usize,
     pub(crate) answers: Answers,
 }
 
@@ -47,8 +51,44 @@ impl LogLines {
     {
         LogLines {
             buffer: Vec::new(alloc),
+            text: Vec::new(alloc),
+            noted: 0,
             answers: Answers::new(alloc, job),
         }
+    }
+
+    /// Appends what was written of a line, or nothing.
+    fn pass_on(&mut self, page: &mut Page) -> Result<(), AllocError>
+        ensures answers { self.new.answers ≡ self.old.answers }
+        ensures ok { OnOk result (page.new ≡ page.old ++ self.old.text.items) }
+        ensures err { OnErr result (page.new ≡ page.old) }
+    {
+        self.noted = self.answers.notes.len();
+        page.put(self.text.as_slice())
+    }
+
+    /// Writes what the next line is.
+    ///
+    /// # Errors
+    ///
+    /// If memory runs out.
+    fn write_line(&mut self, line: &[u8]) -> Result<(), AllocError>
+        requires line { self.old.answers.line < 2 ^ 63 }
+        requires items { self.old.answers.seen.tally.items < 2 ^ 63 }
+        requires bad { self.old.answers.seen.tally.bad < 2 ^ 63 }
+        requires other { self.old.answers.seen.tally.other < 2 ^ 63 }
+        ensures job { self.new.answers.job ≡ self.old.answers.job }
+        ensures line { self.new.answers.line ≡ self.old.answers.line + 1 }
+        ensures ok { OnOk result (Answered self.old.answers.job (self.old.answers.line + 1) line.now self.old.answers.seen self.new.answers.seen [] self.new.text.items) }
+    {
+        self.text.clear();
+        self.answers.line += 1;
+        if line.len() > MOST_LINE {
+            return self.answers.refuse(Bad::Long, &[], &mut self.text);
+        }
+        make_room(&mut self.buffer, line.len().div_ceil(2))?;
+        self.answers
+            .take(line, self.buffer.as_mut_slice(), &mut self.text)
     }
 
     /// Reports what the next line is.
@@ -56,22 +96,18 @@ impl LogLines {
     /// # Errors
     ///
     /// If memory runs out. Nothing was appended.
-    fn take(&mut self, line: &[u8], text: &mut Vec<u8>) -> Result<(), AllocError>
+    fn take(&mut self, line: &[u8], page: &mut Page) -> Result<(), AllocError>
         requires line { self.old.answers.line < 2 ^ 63 }
         requires items { self.old.answers.seen.tally.items < 2 ^ 63 }
         requires bad { self.old.answers.seen.tally.bad < 2 ^ 63 }
         requires other { self.old.answers.seen.tally.other < 2 ^ 63 }
         ensures job { self.new.answers.job ≡ self.old.answers.job }
         ensures line { self.new.answers.line ≡ self.old.answers.line + 1 }
-        ensures ok { OnOk result (Answered self.old.answers.job (self.old.answers.line + 1) line.now self.old.answers.seen self.new.answers.seen text.old.items text.new.items) }
-        ensures err { OnErr result (text.new.items ≡ text.old.items) }
+        ensures ok { OnOk result (Answered self.old.answers.job (self.old.answers.line + 1) line.now self.old.answers.seen self.new.answers.seen page.old page.new) }
+        ensures err { OnErr result (page.new ≡ page.old) }
     {
-        self.answers.line += 1;
-        if line.len() > MOST_LINE {
-            return self.answers.refuse(Bad::Long, &[], text);
-        }
-        make_room(&mut self.buffer, line.len().div_ceil(2))?;
-        self.answers.take(line, self.buffer.as_mut_slice(), text)
+        self.write_line(line)?;
+        self.pass_on(page)
     }
 
     /// Ends the log: writes the counts and the groups.
@@ -79,14 +115,14 @@ impl LogLines {
     /// # Errors
     ///
     /// `Memory` if memory runs out. Nothing was appended.
-    fn end(&mut self, text: &mut Vec<u8>) -> Result<LogTally, RunFault>
-        ensures ok { IfOk result (λ tally. (tally ≡ self.old.answers.seen.tally) × ((end : List ℕ) × EndText self.old.answers.job tally self.old.answers.seen.groups end × (text.new.items ≡ text.old.items ++ end))) }
-        ensures err { IfErr result (λ e. (e ≡ RunFault.Memory) × (text.new.items ≡ text.old.items)) }
+    fn end(&mut self, page: &mut Page) -> Result<LogTally, RunFault>
+        ensures ok { IfOk result (λ tally. (tally ≡ self.old.answers.seen.tally) × ((end : List ℕ) × EndText self.old.answers.job tally self.old.answers.seen.groups end × (page.new ≡ page.old ++ end))) }
+        ensures err { IfErr result (λ e. (e ≡ RunFault.Memory) × (page.new ≡ page.old)) }
     {
-        match self.answers.write_end(text) {
-            Ok(()) => Ok(self.answers.seen.tally),
-            Err(AllocError) => Err(RunFault::Memory),
-        }
+        self.text.clear();
+        self.answers.write_end(&mut self.text)?;
+        self.pass_on(page)?;
+        Ok(self.answers.seen.tally)
     }
 }
 
@@ -109,40 +145,34 @@ impl LineHandler for LogLines {
         MOST_LINE
     }
 
-    fn handle_line(
-        &mut self,
-        line: &[u8],
-        _number: u64,
-        text: &mut Vec<u8>,
-    ) -> Result<(), RunFault> {
-        match self.take(line, text) {
+    fn handle_line(&mut self, line: &[u8], _number: u64, page: &mut Page) -> Result<(), RunFault> {
+        match self.take(line, page) {
             Ok(()) => Ok(()),
             Err(AllocError) => Err(RunFault::Memory),
         }
     }
 
-    fn refuse_long(&mut self, _number: u64, text: &mut Vec<u8>) -> Result<(), RunFault> {
+    fn refuse_long(&mut self, _number: u64, page: &mut Page) -> Result<(), RunFault> {
+        self.text.clear();
         self.answers.line += 1;
-        match self.answers.refuse(Bad::Long, &[], text) {
-            Ok(()) => Ok(()),
-            Err(AllocError) => Err(RunFault::Memory),
-        }
+        self.answers.refuse(Bad::Long, &[], &mut self.text)?;
+        Ok(self.pass_on(page)?)
     }
 
     fn handle_last(
         &mut self,
         line: &[u8],
         _number: u64,
-        text: &mut Vec<u8>,
+        page: &mut Page,
     ) -> Result<LogTally, RunFault> {
-        match self.take(without_cr(line), text) {
-            Ok(()) => self.end(text),
+        match self.take(without_cr(line), page) {
+            Ok(()) => self.end(page),
             Err(AllocError) => Err(RunFault::Memory),
         }
     }
 
-    fn close(&mut self, text: &mut Vec<u8>) -> Result<LogTally, RunFault> {
-        self.end(text)
+    fn close(&mut self, page: &mut Page) -> Result<LogTally, RunFault> {
+        self.end(page)
     }
 
     ghost sound = { λ s. log_sound s.answers.job };
@@ -161,8 +191,9 @@ pub(crate) struct LogEngine<'a, N: Sink> {
     pub(crate) notes: &'a mut N,
 }
 
-/// Passes notes on to a sink. Those that it doesn't take are lost.
-fn pass_notes<N: Sink>(notes: &mut Vec<u8>, sink: &mut N) {
+/// Passes the first bytes of notes on to a sink. Those that it doesn't take are lost.
+fn pass_notes<N: Sink>(notes: &mut Vec<u8>, count: usize, sink: &mut N) {
+    notes.truncate(count);
     if sink.failures() < MOST_FAILURES {
         let _ = send(sink, notes.as_slice(), &mut 0);
     }
@@ -186,19 +217,21 @@ impl<'a, N: Sink> Engine for LogEngine<'a, N> {
         self.lines.wanted()
     }
 
-    fn feed(&mut self, piece: &[u8], text: &mut Vec<u8>) -> Result<(), RunFault> {
+    fn feed(&mut self, piece: &[u8], page: &mut Page) -> Result<(), RunFault> {
         let lines = &mut self.lines;
-        let fed = lines.feed(piece, text);
-        let answers = &mut lines.handler.answers;
-        pass_notes(&mut answers.notes, self.notes);
+        let fed = lines.feed(piece, page);
+        let LogLines { noted, answers, .. } = &mut lines.handler;
+        pass_notes(&mut answers.notes, *noted, self.notes);
+        *noted = 0;
         fed
     }
 
-    fn finish(&mut self, text: &mut Vec<u8>) -> Result<LogTally, RunFault> {
+    fn finish(&mut self, page: &mut Page) -> Result<LogTally, RunFault> {
         let lines = &mut self.lines;
-        let finished = lines.finish(text);
-        let answers = &mut lines.handler.answers;
-        pass_notes(&mut answers.notes, self.notes);
+        let finished = lines.finish(page);
+        let LogLines { noted, answers, .. } = &mut lines.handler;
+        pass_notes(&mut answers.notes, *noted, self.notes);
+        *noted = 0;
         finished
     }
 

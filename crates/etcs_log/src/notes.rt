@@ -1,9 +1,8 @@
 //! What is reported of a bad line.
 
-ghost use Rattle.std.specs.Prelude.{◌≡◌, ◌++◌, ℕ, List, codes, OnErr, OnOk};
+ghost use Rattle.std.specs.Prelude.{◌≡◌, ◌++◌, codes, OnOk};
 ghost use Rattle.std.specs.Fmt.{decimal};
-ghost use Rattle.etcs_packet_text.specs.Fronts.{Begins};
-ghost use Rattle.etcs_log.specs.Logs.{IsNote, other_note, other_words};
+ghost use Rattle.etcs_log.specs.Logs.{other_note, other_words};
 
 use crate::counts::Counts;
 use crate::kinds::{Kinds, says_length, telegram_bytes};
@@ -127,32 +126,13 @@ fn write_length(
     }
 }
 
-/// Appends the line that reports why the line of this number is bad, or nothing.
+/// Appends the line that reports why the line of this number is bad.
 ///
 /// # Errors
 ///
 /// If memory runs out.
-pub(crate) fn append_note(number: u64, reason: &str, out: &mut Vec<u8>) -> Result<(), AllocError>
-    ensures ok { OnOk result ((note : List ℕ) × IsNote number note × (out.new.items ≡ out.old.items ++ note)) }
-    ensures err { OnErr result (out.new.items ≡ out.old.items) }
-{
-    let len = out.len();
-    let written = write_note(number, reason, out);
-    if written.is_err() {
-        out.truncate(len);
-    }
-    written
-}
-
-/// Appends that line.
-///
-/// # Errors
-///
-/// If memory runs out. A part of it may then be in `out`.
-#[tactic(auto, using(etcs_packet_text::specs::laws::Fronts::begins_more))]
-fn write_note(number: u64, reason: &str, out: &mut Vec<u8>) -> Result<(), AllocError>
-    ensures ok { OnOk result (out.new.items ≡ out.old.items ++ (codes "line " ++ decimal number ++ codes ": " ++ reason.now ++ codes "\n")) }
-    ensures err { OnErr result (Begins out.old.items out.new.items) }
+pub(crate) fn write_note(number: u64, reason: &str, out: &mut Vec<u8>) -> Result<(), AllocError>
+    ensures { OnOk result (out.new.items ≡ out.old.items ++ (codes "line " ++ decimal number ++ codes ": " ++ reason.now ++ codes "\n")) }
 {
     out.extend_from_slice(b"line ")?;
     write_decimal(number, out)?;
@@ -161,32 +141,14 @@ fn write_note(number: u64, reason: &str, out: &mut Vec<u8>) -> Result<(), AllocE
     out.extend_from_slice(b"\n")
 }
 
-/// Appends the line that reports that the line of this number has the number of bytes of another kind, or nothing.
+/// Appends the line that reports that the line of this number has the number of bytes of another kind.
 ///
 /// # Errors
 ///
 /// If memory runs out.
-pub(crate) fn append_other(number: u64, count: usize, out: &mut Vec<u8>) -> Result<(), AllocError>
-    ensures ok { OnOk result (out.new.items ≡ out.old.items ++ other_note number count) }
-    ensures err { OnErr result (out.new.items ≡ out.old.items) }
-{
-    let len = out.len();
-    let written = write_other(number, count, out);
-    if written.is_err() {
-        out.truncate(len);
-    }
-    written
-}
-
-/// Appends that line.
-///
-/// # Errors
-///
-/// If memory runs out. A part of it may then be in `out`.
-#[tactic(auto, using(etcs_packet_text::specs::laws::Fronts::begins_more, std::proofs::Common::append_assoc))]
-fn write_other(number: u64, count: usize, out: &mut Vec<u8>) -> Result<(), AllocError>
-    ensures ok { OnOk result (out.new.items ≡ out.old.items ++ other_note number count) }
-    ensures err { OnErr result (Begins out.old.items out.new.items) }
+#[tactic(auto, using(std::proofs::Common::append_assoc))]
+pub(crate) fn write_other(number: u64, count: usize, out: &mut Vec<u8>) -> Result<(), AllocError>
+    ensures { OnOk result (out.new.items ≡ out.old.items ++ other_note number count) }
 {
     out.extend_from_slice(b"line ")?;
     write_decimal(number, out)?;

@@ -1,9 +1,8 @@
 //! Strings of JSON that a terminal shows and doesn't obey.
 
-ghost use Rattle.std.specs.Prelude.{◌≡◌, ◌++◌, ◌<◌, OnErr, OnOk};
+ghost use Rattle.std.specs.Prelude.{◌≡◌, ◌++◌, ◌<◌, OnOk};
 ghost use Rattle.serde_json.specs.Data.{string};
 ghost use Rattle.serde_json.specs.Written.{compact_text};
-ghost use Rattle.etcs_packet_text.specs.Fronts.{Begins};
 ghost use Rattle.etcs_log.specs.Visible.{escape_of, is_unseen, visible, visible_char};
 
 use json::Writer;
@@ -29,11 +28,10 @@ fn is_unseen(character: char) -> bool
 ///
 /// # Errors
 ///
-/// If memory runs out. A part of it may then be in `out`.
+/// If memory runs out.
 fn append_escape(character: char, out: &mut Vec<u8>) -> Result<(), AllocError>
     requires { character < 65536 }
-    ensures ok { OnOk result (out.new.items ≡ out.old.items ++ escape_of character) }
-    ensures err { OnErr result (Begins out.old.items out.new.items) }
+    ensures { OnOk result (out.new.items ≡ out.old.items ++ escape_of character) }
 {
     let code = u32::from(character);
     let mut digits = [0; 4];
@@ -46,10 +44,9 @@ fn append_escape(character: char, out: &mut Vec<u8>) -> Result<(), AllocError>
 ///
 /// # Errors
 ///
-/// If memory runs out. A part of it may then be in `out`.
+/// If memory runs out.
 fn append_char(character: char, out: &mut Vec<u8>) -> Result<(), AllocError>
-    ensures ok { OnOk result (out.new.items ≡ out.old.items ++ visible_char character) }
-    ensures err { OnErr result (Begins out.old.items out.new.items) }
+    ensures { OnOk result (out.new.items ≡ out.old.items ++ visible_char character) }
 {
     if is_unseen(character) {
         return append_escape(character, out);
@@ -62,11 +59,9 @@ fn append_char(character: char, out: &mut Vec<u8>) -> Result<(), AllocError>
 ///
 /// # Errors
 ///
-/// If memory runs out. A part of it may then be in `out`.
-#[tactic(auto, using(etcs_packet_text::specs::laws::Fronts::begins_more))]
+/// If memory runs out.
 fn append_visible(text: &str, out: &mut Vec<u8>) -> Result<(), AllocError>
-    ensures ok { OnOk result (out.new.items ≡ out.old.items ++ visible text.now) }
-    ensures err { OnErr result (Begins out.old.items out.new.items) }
+    ensures { OnOk result (out.new.items ≡ out.old.items ++ visible text.now) }
 {
     for character in text.chars() {
         append_char(character, out)?;
@@ -74,14 +69,13 @@ fn append_visible(text: &str, out: &mut Vec<u8>) -> Result<(), AllocError>
     Ok(())
 }
 
-/// Appends a text as a string of JSON, or nothing.
+/// Appends a text as a string of JSON.
 ///
 /// # Errors
 ///
 /// If memory runs out.
 fn append_string(text: &str, out: &mut Vec<u8>) -> Result<(), AllocError>
-    ensures ok { OnOk result (out.new.items ≡ out.old.items ++ compact_text (string text.now)) }
-    ensures err { OnErr result (out.new.items ≡ out.old.items) }
+    ensures { OnOk result (out.new.items ≡ out.old.items ++ compact_text (string text.now)) }
 {
     let empty = Vec::new(*out.allocator());
     let mut writer = Writer::new(mem::replace(out, empty));
@@ -96,30 +90,23 @@ fn append_string(text: &str, out: &mut Vec<u8>) -> Result<(), AllocError>
 ///
 /// If memory runs out.
 fn append_escaped_string(text: &str, out: &mut Vec<u8>) -> Result<(), AllocError>
-    ensures ok { OnOk result (out.new.items ≡ out.old.items ++ visible (compact_text (string text.now))) }
-    ensures err { OnErr result (out.new.items ≡ out.old.items) }
+    ensures { OnOk result (out.new.items ≡ out.old.items ++ visible (compact_text (string text.now))) }
 {
     let mut string = Vec::new(*out.allocator());
     append_string(text, &mut string)?;
     let Ok(string) = str::from_utf8(&string) else {
         unreachable!()
     };
-    let len = out.len();
-    let written = append_visible(string, out);
-    if written.is_err() {
-        out.truncate(len);
-    }
-    written
+    append_visible(string, out)
 }
 
-/// Appends a text as a string of JSON with its unseen characters escaped, or nothing.
+/// Appends a text as a string of JSON with its unseen characters escaped.
 ///
 /// # Errors
 ///
 /// If memory runs out.
 pub(crate) fn append_visible_string(text: &str, out: &mut Vec<u8>) -> Result<(), AllocError>
-    ensures ok { OnOk result (out.new.items ≡ out.old.items ++ visible (compact_text (string text.now))) }
-    ensures err { OnErr result (out.new.items ≡ out.old.items) }
+    ensures { OnOk result (out.new.items ≡ out.old.items ++ visible (compact_text (string text.now))) }
 {
     if text.chars().any(is_unseen) {
         return append_escaped_string(text, out);

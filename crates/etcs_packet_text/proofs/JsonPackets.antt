@@ -9,11 +9,6 @@ use Rattle.etcs_packet_text.specs.Show.{bit_digit}
 use Rattle.etcs_packet_text.specs.Trees.{packet_tree}
 use Rattle.etcs_packet_text.proofs.TreeTexts.{kept_packet}
 
--- what a packet begins with, and what follows it
-pub after_front : (later : Bool) (old new front text rest : List ℕ) → front ≡ comma_if later ++ text → new ≡ old ++ (front ++ rest) → new ≡ old ++ (comma_if later ++ (text ++ rest))
-after_front later old new front text rest e h =
-    h ∙ ap (λ (t : List ℕ). old ++ t) (ap (λ (t : List ℕ). t ++ rest) e ∙ append_assoc (comma_if later) text rest)
-
 -- a packet that is kept as bits
 pub kept_steps : (way : Way) (nid dir : ℕ) (sent : Option ℕ) (later : Bool) (body : List Bool) (old one two three new : List ℕ) → sent ≡ sent_of way (Some dir) → one ≡ old ++ (comma_if later ++ codes "{\"data\":\"") → two ≡ one ++ map bit_digit body → three ≡ two ++ data_after sent → new ≡ three ++ (decimal nid ++ 125 ∷ []) → new ≡ old ++ (comma_if later ++ compact_text (packet_tree way (kept nid dir body)))
 kept_steps way nid dir sent later body old one two three new s e f g h =

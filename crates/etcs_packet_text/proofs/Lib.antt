@@ -1,6 +1,5 @@
 pub mod ByteDigits
 pub mod Decimals
-pub mod HexDigits
 pub mod JsonExamples
 pub mod JsonPackets
 pub mod NumberTexts

@@ -18,13 +18,13 @@ use Rattle.etcs_packet_text.specs.Trees.{pair_tree}
 -- ---- A front.
 
 -- the first of some bytes put after a text
-pub front_put : (at len : ℕ) (old new bytes rest : List ℕ) → at ≤ length old → len ≤ 32 → length bytes ≡ 32 → new ≡ bytes → take (at + len) (take at old ++ (new ++ rest)) ≡ take at old ++ take len bytes
-front_put at len old new bytes rest inside few long e =
+pub front_put : (at len : ℕ) (old new bytes rest : List ℕ) → at ≤ length old → len ≤ length bytes → new ≡ bytes → take (at + len) (take at old ++ (new ++ rest)) ≡ take at old ++ take len bytes
+front_put at len old new bytes rest inside few e =
     let size : length (take at old) ≡ at = length-take-le at old inside in
     ap (λ (k : ℕ). take (k + len) (take at old ++ (new ++ rest))) (sym size)
     ∙ take-append-add (take at old) (new ++ rest) len
     ∙ ap (λ (t : List ℕ). take at old ++ take len (t ++ rest)) e
-    ∙ ap (λ (t : List ℕ). take at old ++ t) (take-append-le len bytes rest (omega (arith, few, long)))
+    ∙ ap (λ (t : List ℕ). take at old ++ t) (take-append-le len bytes rest few)
 
 -- ---- A padded front.
 

@@ -1,6 +1,6 @@
 //! For the crates above: the text of packets, numbers, bits and bytes, and in `json_text` variables and packets as JSON.
 
-pub use crate::digits::to_digits;
+pub use crate::digits::append_digits;
 pub use crate::packet_page::PacketPage;
 pub use crate::packets::write_packets;
 pub use crate::page::Page;

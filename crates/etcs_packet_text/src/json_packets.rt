@@ -1,6 +1,6 @@
 //! Packets as JSON.
 
-ghost use Rattle.std.specs.Prelude.{◌≡◌, ◌++◌, ◌∷◌, ℕ, List, OnErr, OnOk};
+ghost use Rattle.std.specs.Prelude.{◌≡◌, ◌++◌, OnErr, OnOk};
 ghost use Rattle.serde_json.specs.Written.{comma_if, compact_text};
 ghost use Rattle.etcs_packets.specs.PacketValues.{kept};
 ghost use Rattle.etcs_packet_text.specs.Fronts.{Begins};
@@ -24,26 +24,28 @@ fn sent_dir(way: Way, dir: Option<u8>) -> Option<u8>
     }
 }
 
-/// What a packet begins with: a comma and these bytes, or these without the comma if it is the first of its list.
+/// Appends a comma if an item of the list is before.
 #[inline(always)]
-fn front(later: bool, bytes: &'static [u8]) -> &'static [u8]
-    requires { (rest : List ℕ) × (bytes.now ≡ 44 ∷ rest) }
-    ensures { (rest : List ℕ) → bytes.now ≡ 44 ∷ rest → result.now ≡ comma_if later ++ rest }
+fn write_comma(later: bool, page: &mut JsonPage) -> Result<(), AllocError>
+    ensures ok { OnOk result (page.new.0 ≡ page.old.0 ++ comma_if later) }
+    ensures err { OnErr result (page.new.0 ≡ page.old.0) }
 {
-    if later { bytes } else { &bytes[1..] }
+    if later {
+        return page.put_array(b",");
+    }
+    Ok(())
 }
 
 /// Appends what comes before a packet's fields, after a comma if an item of the list is before it.
 #[inline(always)]
 fn write_front(later: bool, dir: Option<u8>, page: &mut JsonPage) -> Result<(), AllocError>
     ensures ok { OnOk result (page.new.0 ≡ page.old.0 ++ (comma_if later ++ fields_front dir)) }
-    ensures err { OnErr result (page.new.0 ≡ page.old.0) }
+    ensures err { OnErr result (Begins page.old.0 page.new.0) }
 {
+    write_comma(later, page)?;
     match dir {
-        Some(dir) => {
-            page.put_between(front(later, b",{\"dir\":"), u64::from(dir), b",\"fields\":")
-        }
-        None => page.put(front(later, b",{\"fields\":")),
+        Some(dir) => page.put_around(b"{\"dir\":", u64::from(dir), b",\"fields\":"),
+        None => page.put_array(b"{\"fields\":"),
     }
 }
 
@@ -72,7 +74,8 @@ fn write_kept(
     ensures ok { OnOk result (page.new.0 ≡ page.old.0 ++ (comma_if later ++ compact_text (packet_tree way (kept nid dir body.now)))) }
     ensures err { OnErr result (Begins page.old.0 page.new.0) }
 {
-    page.put(front(later, b",{\"data\":\""))?;
+    write_comma(later, page)?;
+    page.put(b"{\"data\":\"")?;
     page.put_slice(body)?;
     write_after(sent_dir(way, Some(dir)), page)?;
     page.put_decimal_and(u64::from(nid), b'}')
@@ -126,7 +129,7 @@ impl PacketPage for JsonPage {
 
     #[inline(always)]
     fn end(&mut self, nid: u8) -> Result<(), AllocError> {
-        self.put_between(b"],\"nid\":", u64::from(nid), b"}")?;
+        self.put_around(b"],\"nid\":", u64::from(nid), b"}")?;
         self.go_on();
         Ok(())
     }

@@ -62,6 +62,19 @@ impl JsonPage {
         self.page.put(bytes)
     }
 
+    /// Appends a constant count of bytes.
+    ///
+    /// # Errors
+    ///
+    /// `AllocError` if out of memory. The page then stays as it was.
+    #[inline(always)]
+    pub(crate) fn put_array<const N: usize>(&mut self, bytes: &[u8; N]) -> Result<(), AllocError>
+        ensures ok { OnOk result (self.new.0 ≡ self.old.0 ++ bytes.now) }
+        ensures err { OnErr result (self.new.0 ≡ self.old.0) }
+    {
+        self.page.put_array(bytes)
+    }
+
     /// Appends a number in decimal, with no leading zero, and one byte more.
     ///
     /// # Errors
@@ -86,6 +99,24 @@ impl JsonPage {
         ensures err { OnErr result (self.new.0 ≡ self.old.0) }
     {
         self.page.put_between(front, number, back)
+    }
+
+    /// As [`JsonPage::put_between`], between constant counts of bytes.
+    ///
+    /// # Errors
+    ///
+    /// `AllocError` if out of memory. The page then stays as it was.
+    #[inline(always)]
+    pub(crate) fn put_around<const F: usize, const B: usize>(
+        &mut self,
+        front: &[u8; F],
+        number: u64,
+        back: &[u8; B],
+    ) -> Result<(), AllocError>
+        ensures ok { OnOk result (self.new.0 ≡ self.old.0 ++ (front.now ++ (decimal number ++ back.now))) }
+        ensures err { OnErr result (self.new.0 ≡ self.old.0) }
+    {
+        self.page.put_around(front, number, back)
     }
 
     /// Appends the lowest `width` bits of a number as digits 0 and 1, the most significant first.
@@ -173,7 +204,7 @@ impl JsonPage {
         ensures ok { OnOk result (self.new ≡ (self.old.0 ++ 91 ∷ [], false)) }
         ensures err { OnErr result (self.new.0 ≡ self.old.0) }
     {
-        self.page.put(b"[")?;
+        self.page.put_array(b"[")?;
         self.later = false;
         Ok(())
     }

@@ -24,7 +24,7 @@ use etcs_vars::Var;
 use etcs_vars::inner::VarSink;
 use lines::{LINE_ROOM, put_bits_line, put_line, put_lines};
 use pairs::{PAIR_ROOM, put_pairs};
-use place::{put_between, put_bytes, put_decimal, put_number};
+use place::{put_around, put_array, put_between, put_bytes, put_decimal, put_number};
 use std::alloc::AllocError;
 use std::marker::Model;
 use std::mem;
@@ -40,8 +40,11 @@ pub struct Page {
 /// The room for the lines of a packet's number, of Q_DIR and of L_PACKET.
 const FRAME_ROOM: usize = 32 + 2 * LINE_ROOM;
 
+/// The room for the line of an item that was accepted.
+const CHECKED_ROOM: usize = 64;
+
 /// How many bytes more a page makes room for if it has to.
-const MORE: usize = 1024;
+const MORE: usize = 1536;
 
 impl Model for Page {
     ghost use Rattle.std.specs.Prelude.{ℕ, List, ◌≤◌, take, length};
@@ -70,6 +73,14 @@ impl Page {
     {
         let at = text.len();
         Page { bytes: text, at }
+    }
+
+    /// The text.
+    #[inline]
+    pub fn as_slice(&self) -> &[u8]
+        ensures { result.now ≡ self.now }
+    {
+        &self.bytes[..self.at]
     }
 
     /// How many bytes the text has.
@@ -107,6 +118,22 @@ impl Page {
         Ok(())
     }
 
+    /// Appends a constant count of bytes.
+    ///
+    /// # Errors
+    ///
+    /// `AllocError` if out of memory. The page then stays as it was.
+    #[inline(always)]
+    pub(crate) fn put_array<const N: usize>(&mut self, bytes: &[u8; N]) -> Result<(), AllocError>
+        ensures ok { OnOk result (self.new ≡ self.old ++ bytes.now) }
+        ensures err { OnErr result (self.new ≡ self.old) }
+    {
+        let at = self.at;
+        room(&mut self.bytes, at, N)?;
+        self.at = put_array(self.bytes.as_mut_slice(), at, bytes);
+        Ok(())
+    }
+
     /// Appends a number in decimal, with no leading zero, and one byte more.
     ///
     /// # Errors
@@ -118,7 +145,7 @@ impl Page {
         ensures err { OnErr result (self.new ≡ self.old) }
     {
         let at = self.at;
-        room(&mut self.bytes, at, 21)?;
+        room(&mut self.bytes, at, 24)?;
         self.at = put_number(self.bytes.as_mut_slice(), at, number, end);
         Ok(())
     }
@@ -134,7 +161,7 @@ impl Page {
         ensures err { OnErr result (self.new ≡ self.old) }
     {
         let at = self.at;
-        room(&mut self.bytes, at, 20)?;
+        room(&mut self.bytes, at, 23)?;
         self.at = put_decimal(self.bytes.as_mut_slice(), at, number);
         Ok(())
     }
@@ -150,9 +177,31 @@ impl Page {
         ensures err { OnErr result (self.new ≡ self.old) }
     {
         let at = self.at;
-        let count = front.len().saturating_add(back.len()).saturating_add(20);
+        let count = front.len().saturating_add(back.len()).saturating_add(23);
         room(&mut self.bytes, at, count)?;
         self.at = put_between(self.bytes.as_mut_slice(), at, front, number, back);
+        Ok(())
+    }
+
+    /// As [`Page::put_between`], between constant counts of bytes.
+    ///
+    /// # Errors
+    ///
+    /// `AllocError` if out of memory. The page then stays as it was.
+    #[inline(always)]
+    pub(crate) fn put_around<const F: usize, const B: usize>(
+        &mut self,
+        front: &[u8; F],
+        number: u64,
+        back: &[u8; B],
+    ) -> Result<(), AllocError>
+        ensures ok { OnOk result (self.new ≡ self.old ++ (front.now ++ (decimal number ++ back.now))) }
+        ensures err { OnErr result (self.new ≡ self.old) }
+    {
+        let at = self.at;
+        let count = F.saturating_add(B).saturating_add(23);
+        room(&mut self.bytes, at, count)?;
+        self.at = put_around(self.bytes.as_mut_slice(), at, front, number, back);
         Ok(())
     }
 
@@ -167,21 +216,11 @@ impl Page {
         ensures ok { OnOk result (self.new ≡ self.old ++ (codes "item " ++ decimal item ++ codes " ok " ++ decimal bits ++ codes " bits\n")) }
         ensures err { OnErr result (self.new ≡ self.old) }
     {
-        let mut place = [0u8; 64];
-        let end = put_between(&mut place, 0, b"item ", item, b" ok ");
-        let end = put_between(&mut place, end, b"", bits, b" bits\n");
-        self.append(&place[..end])
-    }
-
-    /// Appends bytes, without room after them.
-    #[inline(always)]
-    fn append(&mut self, bytes: &[u8]) -> Result<(), AllocError>
-        ensures ok { OnOk result (self.new ≡ self.old ++ bytes.now) }
-        ensures err { OnErr result (self.new ≡ self.old) }
-    {
-        self.bytes.truncate(self.at);
-        self.bytes.extend_from_slice(bytes)?;
-        self.at = self.bytes.len();
+        let at = self.at;
+        room(&mut self.bytes, at, CHECKED_ROOM)?;
+        let place = self.bytes.as_mut_slice();
+        let end = put_around(place, at, b"item ", item, b" ok ");
+        self.at = put_around(place, end, b"", bits, b" bits\n");
         Ok(())
     }
 
@@ -204,7 +243,7 @@ impl Page {
         let at = self.at;
         room(&mut self.bytes, at, FRAME_ROOM)?;
         let place = self.bytes.as_mut_slice();
-        let end = put_between(place, at, b"packet ", u64::from(nid), b"\n");
+        let end = put_around(place, at, b"packet ", u64::from(nid), b"\n");
         let end = match way {
             Way::ToTrain => put_line(place, end, Var::Q_DIR, u64::from(dir)),
             Way::ToTrack => end,

@@ -20,5 +20,5 @@ pub fn write_variables<V: Variables>(variables: &V, page: &mut JsonPage) -> Resu
 {
     page.open_list()?;
     variables.send(page)?;
-    page.put(b"]")
+    page.put_array(b"]")
 }

@@ -1,11 +1,14 @@
 -- Pairs of hexadecimal digits, and the bytes that they say.
-use Rattle.std.proofs.Common.{◌≡◌, ℕ, ◌+◌, ◌-◌, ◌*◌, ◌%◌, ◌<◌, ◌≤◌, Bool, true, false, ltb, List, [], length, take, drop, get_or, unwrap_or, Option, Some, None, is_some, Result, Ok, refl, ap, sym, ◌∙◌, arith, inl, inr}
-use Rattle.std.specs.Prelude.{◌⊎◌}
+use Rattle.std.proofs.Common.{◌≡◌, ℕ, ◌+◌, ◌-◌, ◌*◌, ◌%◌, ◌<◌, ◌≤◌, Bool, true, false, ltb, List, [], length, take, drop, get_or, unwrap_or, Option, Some, None, is_some, Result, Ok, Err, refl, ap, sym, ◌∙◌, arith, inl, inr}
+use Rattle.std.specs.Prelude.{◌⊎◌, bit_or}
 use Rattle.std.proofs.Math.Seq.{take-length}
+use Rattle.std.proofs.lemmas.Bool.{cases_lt}
 use Rattle.std.proofs.lemmas.Bool.Decides.{nat_tests}
+use Rattle.std.proofs.lemmas.Nat.{or_of_8}
 use Rattle.std.proofs.lemmas.List.{append-nil, drop_all}
 use Rattle.std.proofs.lemmas.List.Sums.{AllPass-from_list_all, list_all-from_AllPass}
 use Rattle.std.specs.List.{list_all}
+use Rattle.hex.specs.declared.error.FromHexError.{FromHexError}
 use Rattle.hex.specs.Hex.{decode_of, decode_pairs, digit_or_error, hex_digit_value, is_hex_digit, pair_value, value_at}
 use Rattle.hex.proofs.HexLemmas.{decode_of-even, decode_of-ok}
 use Rattle.hex.proofs.Pairs.{prepend}
@@ -74,3 +77,28 @@ all_decoded word bytes i len end inv =
 
 pub pairs_good : (word bytes : List ℕ) → decode_of word ≡ Ok bytes → list_all is_hex_digit word ≡ true
 pairs_good word bytes h = list_all-from_AllPass is_hex_digit word (decode_of-ok word bytes h).1
+
+-- none was read
+pub none_read : (r : Result (List ℕ) FromHexError) → r ≡ prepend [] r
+none_read (Ok rest) = refl
+none_read (Err e) = refl
+
+-- ---- The values of all pairs so far, joined by `|`.
+
+high_by : (a b : ℕ) → 255 < bit_or a b → (a < 256) ⊎ (256 ≤ a) → (b < 256) ⊎ (256 ≤ b) → (255 < a) ⊎ (255 < b)
+high_by a b h (inr high) other = inl (omega (arith, high))
+high_by a b h (inl low) (inr high) = inr (omega (arith, high))
+high_by a b h (inl low) (inl lower) = absurd (omega (arith, h, or_of_8 a b low lower))
+
+pub or_high : (a b : ℕ) → 255 < bit_or a b → (255 < a) ⊎ (255 < b)
+or_high a b h = high_by a b h (cases_lt a 256) (cases_lt b 256)
+
+low_by : (a : ℕ) (all : Bool) → (a < 256 → true ≡ all) → (255 < a → false ≡ all) → (a < 256) ⊎ (256 ≤ a) → ltb a 256 ≡ all
+low_by a all good bad (inl low) = let yes : ltb a 256 ≡ true = grind (arith, nat_tests) in yes ∙ good low
+low_by a all good bad (inr high) = let no : ltb a 256 ≡ false = grind (arith, nat_tests) in no ∙ bad (omega (arith, high))
+
+pub is_low : (a : ℕ) (all : Bool) → (a < 256 → true ≡ all) → (255 < a → false ≡ all) → ltb a 256 ≡ all
+is_low a all good bad = low_by a all good bad (cases_lt a 256)
+
+pub below_256 : (a : ℕ) → ltb a 256 ≡ true → a < 256
+below_256 a h = grind (arith, nat_tests)

@@ -7,6 +7,7 @@ ghost use Rattle.etcs_runs.specs.Handling.{EndsLong, EndsWith, SaysAfter, StopsA
 use crate::engine::{Engine, MOST_READ};
 use crate::fault::RunFault;
 use crate::lines::{after_lines, split_line, without_cr};
+use etcs_packet_text::inner::Page;
 use std::alloc::{AllocError, Global};
 
 /// Takes the lines of a text one after another, each with its number, and reports the items in them. Each implementation is
@@ -42,6 +43,11 @@ pub trait LineHandler {
         ensures value { result ≡ most (job self.now) }
         ensures fits { result < 2 ^ 62 };
 
+    /// How many bytes after a line's LF `handle_lines` looks at to take the line: 0 if it takes none.
+    fn beyond(&self) -> usize {
+        0
+    }
+
     /// Takes lines that come next from the front of a text, as `handle_line` takes each, and appends the text of them. It may
     /// take fewer than there are, or none. Returns how many bytes they have in all, each with its LF, and how many they are.
     /// All of them lie in the first `whole` bytes; what is after these isn't of the input.
@@ -57,14 +63,14 @@ pub trait LineHandler {
         &mut self,
         rest: &[u8],
         whole: usize,
-        text: &mut Vec<u8>,
+        page: &mut Page,
     ) -> Result<(usize, u64), RunFault>
         requires took { TookSome (took self.old) }
         requires whole { IsAfterLf rest.now whole }
         ensures job { job self.new ≡ job self.old }
-        ensures ok { TakesLines (took self.old) (took self.new) rest.now whole text.old.items text.new.items result }
-        ensures err { StopsIn (took self.old) (promises (job self.old)) (take whole rest.now) text.old.items text.new.items result }
-        ensures said { SaysAfter (took self.old) (said self.new) text.old.items text.new.items result }
+        ensures ok { TakesLines (took self.old) (took self.new) rest.now whole page.old page.new result }
+        ensures err { StopsIn (took self.old) (promises (job self.old)) (take whole rest.now) page.old page.new result }
+        ensures said { SaysAfter (took self.old) (said self.new) page.old page.new result }
     {
         Ok((0, 0))
     }
@@ -79,12 +85,12 @@ pub trait LineHandler {
     /// A fault other than `Read` and `Write`: if `number` is that of the line, counted from 1, each input that begins
     /// with the lines taken and this one ends with it after the text written (`Stops`), which is appended, and for
     /// which `said` holds. `Memory` may come at any line.
-    fn handle_line(&mut self, line: &[u8], number: u64, text: &mut Vec<u8>) -> Result<(), RunFault>
+    fn handle_line(&mut self, line: &[u8], number: u64, page: &mut Page) -> Result<(), RunFault>
         requires took { TookSome (took self.old) }
         ensures job { job self.new ≡ job self.old }
-        ensures ok { TakesLine (took self.old) (took self.new) line.now text.old.items text.new.items result }
-        ensures err { StopsAtLine (took self.old) (promises (job self.old)) line.now number text.old.items text.new.items result }
-        ensures said { SaysAfter (took self.old) (said self.new) text.old.items text.new.items result };
+        ensures ok { TakesLine (took self.old) (took self.new) line.now page.old page.new result }
+        ensures err { StopsAtLine (took self.old) (promises (job self.old)) line.now number page.old page.new result }
+        ensures said { SaysAfter (took self.old) (said self.new) page.old page.new result };
 
     /// Takes the line of this number, which has more characters than `most` and a CR, and isn't kept. If it succeeds,
     /// the line was taken, however it continues, and the next call is for the line after it, or is `close`.
@@ -94,12 +100,12 @@ pub trait LineHandler {
     /// # Errors
     ///
     /// As `handle_line`, of each input whose next line begins like this one and is too long.
-    fn refuse_long(&mut self, number: u64, text: &mut Vec<u8>) -> Result<(), RunFault>
+    fn refuse_long(&mut self, number: u64, page: &mut Page) -> Result<(), RunFault>
         requires took { TookSome (took self.old) }
         ensures job { job self.new ≡ job self.old }
-        ensures ok { TakesLong (took self.old) (took self.new) (most (job self.old)) text.old.items text.new.items result }
-        ensures err { StopsAtLong (took self.old) (promises (job self.old)) (most (job self.old)) number text.old.items text.new.items result }
-        ensures said { SaysAfter (took self.old) (said self.new) text.old.items text.new.items result };
+        ensures ok { TakesLong (took self.old) (took self.new) (most (job self.old)) page.old page.new result }
+        ensures err { StopsAtLong (took self.old) (promises (job self.old)) (most (job self.old)) number page.old page.new result }
+        ensures said { SaysAfter (took self.old) (said self.new) page.old page.new result };
 
     /// Takes the last line, of this number, which may be empty and has no LF, and appends what is written at the end. If it
     /// succeeds, the lines taken and this one are a whole input with all the text written and this result (`Ends`).
@@ -114,13 +120,13 @@ pub trait LineHandler {
         &mut self,
         line: &[u8],
         number: u64,
-        text: &mut Vec<u8>,
+        page: &mut Page,
     ) -> Result<Self::Tally, RunFault>
         requires took { TookSome (took self.old) }
-        requires empty { text.old.items ≡ [] }
-        ensures ok { EndsWith (took self.old) (promises (job self.old)) line.now text.new.items result }
-        ensures err { StopsWith (took self.old) (promises (job self.old)) line.now number text.new.items result }
-        ensures said { (lines : List (List ℕ)) (output : List ℕ) → took self.old lines output → OnErr result (said self.new (output ++ text.new.items)) };
+        requires empty { page.old ≡ [] }
+        ensures ok { EndsWith (took self.old) (promises (job self.old)) line.now page.new result }
+        ensures err { StopsWith (took self.old) (promises (job self.old)) line.now number page.new result }
+        ensures said { (lines : List (List ℕ)) (output : List ℕ) → took self.old lines output → OnErr result (said self.new (output ++ page.new)) };
 
     /// Ends an input whose last line was too long and was taken by `refuse_long`, and appends what is written at the
     /// end. If it succeeds, the lines taken are a whole input with all the text written and this result (`Ends`).
@@ -131,12 +137,12 @@ pub trait LineHandler {
     ///
     /// A fault other than `Read` and `Write`: the input of these lines ends with it after the text written (`StopsAtEnd`),
     /// which is appended, and for which `said` holds.
-    fn close(&mut self, text: &mut Vec<u8>) -> Result<Self::Tally, RunFault>
+    fn close(&mut self, page: &mut Page) -> Result<Self::Tally, RunFault>
         requires took { TookSome (took self.old) }
-        requires empty { text.old.items ≡ [] }
-        ensures ok { EndsLong (took self.old) (promises (job self.old)) (most (job self.old)) text.new.items result }
-        ensures err { StopsLong (took self.old) (promises (job self.old)) (most (job self.old)) text.new.items result }
-        ensures said { (lines : List (List ℕ)) (output : List ℕ) → took self.old lines output → OnErr result (said self.new (output ++ text.new.items)) };
+        requires empty { page.old ≡ [] }
+        ensures ok { EndsLong (took self.old) (promises (job self.old)) (most (job self.old)) page.new result }
+        ensures err { StopsLong (took self.old) (promises (job self.old)) (most (job self.old)) page.new result }
+        ensures said { (lines : List (List ℕ)) (output : List ℕ) → took self.old lines output → OnErr result (said self.new (output ++ page.new)) };
 
     /// Its promises follow from one another as `Sound` lists.
     ghost sound: { (t : Self) → Sound (promises (job t)) };
@@ -151,7 +157,7 @@ pub trait LineHandler {
     ghost took_said: { (t : Self) (lines : List (List ℕ)) (output : List ℕ) → took t lines output → said t output };
 }
 
-/// A LF, and bytes after it: as many as a handler may look at beyond a line that it takes by itself.
+/// A LF, and bytes after it: as many as `beyond` of any handler.
 static AFTER: [u8; 65] = [b'\n'; 65];
 
 /// Gives the line that is kept to a handler, first with its LF and bytes after it. What `kept` has afterwards isn't promised.
@@ -163,23 +169,23 @@ fn give_kept<T: LineHandler>(
     handler: &mut T,
     kept: &mut Vec<u8>,
     number: u64,
-    text: &mut Vec<u8>,
+    page: &mut Page,
 ) -> Result<(), RunFault>
-    requires took { TookWith (T.took handler.old) text.old.items }
+    requires took { TookWith (T.took handler.old) page.old }
     requires line { IsLine kept.old.items }
     ensures job { T.job handler.new ≡ T.job handler.old }
-    ensures ok { TakesKept (T.took handler.old) (T.took handler.new) kept.old.items text.old.items text.new.items result }
-    ensures err { StopsAtKept (T.took handler.old) (T.promises (T.job handler.old)) kept.old.items number text.old.items text.new.items result }
-    ensures said { SaysAfter (T.took handler.old) (T.said handler.new) text.old.items text.new.items result }
+    ensures ok { TakesKept (T.took handler.old) (T.took handler.new) kept.old.items page.old page.new result }
+    ensures err { StopsAtKept (T.took handler.old) (T.promises (T.job handler.old)) kept.old.items number page.old page.new result }
+    ensures said { SaysAfter (T.took handler.old) (T.said handler.new) page.old page.new result }
 {
     let count = kept.len();
     kept.extend_from_slice(&AFTER)?;
-    let (_, lines) = handler.handle_lines(kept.as_slice(), count + 1, text)?;
+    let (_, lines) = handler.handle_lines(kept.as_slice(), count + 1, page)?;
     if lines > 0 {
         return Ok(());
     }
     kept.truncate(count);
-    handler.handle_line(without_cr(kept.as_slice()), number, text)
+    handler.handle_line(without_cr(kept.as_slice()), number, page)
 }
 
 /// Cuts pieces of an input into lines, for whatever handler takes them: an engine ([`Engine`]) with the handler's
@@ -217,14 +223,14 @@ impl<T: LineHandler> Lines<T> {
     /// # Errors
     ///
     /// Those of the handler if the line becomes too long, and `Memory`.
-    fn keep(&mut self, part: &[u8], text: &mut Vec<u8>) -> Result<(), RunFault>
-        requires stands { HasRoom T.LineHandler self.old text.old.items (length part.now) }
+    fn keep(&mut self, part: &[u8], page: &mut Page) -> Result<(), RunFault>
+        requires stands { HasRoom T.LineHandler self.old page.old (length part.now) }
         requires line { IsLine part.now }
         ensures job { T.job self.new.handler ≡ T.job self.old.handler }
         ensures line { self.new.line ≡ self.old.line }
-        ensures ok { TakesPart T.LineHandler self.old text.old.items text.new.items result self.new part.now }
-        ensures err { (more : List ℕ) → StopsAt T.LineHandler self.old text.old.items text.new.items result (part.now ++ more) }
-        ensures said { SaysSo T.LineHandler self.old text.old.items text.new.items result self.new }
+        ensures ok { TakesPart T.LineHandler self.old page.old page.new result self.new part.now }
+        ensures err { (more : List ℕ) → StopsAt T.LineHandler self.old page.old page.new result (part.now ++ more) }
+        ensures said { SaysSo T.LineHandler self.old page.old page.new result self.new }
     {
         let most = self.handler.most() + 1;
         let before = self.count;
@@ -233,7 +239,7 @@ impl<T: LineHandler> Lines<T> {
             if before > most {
                 return Ok(());
             }
-            return self.handler.refuse_long(self.line + 1, text);
+            return self.handler.refuse_long(self.line + 1, page);
         }
         match self.begun.extend_from_slice(part) {
             Ok(()) => Ok(()),
@@ -252,42 +258,42 @@ impl<T: LineHandler> Lines<T> {
         &mut self,
         piece: &'p [u8],
         after: usize,
-        text: &mut Vec<u8>,
+        page: &mut Page,
     ) -> Result<&'p [u8], RunFault>
-        requires stands { HasRoom T.LineHandler self.old text.old.items (length piece.now) }
+        requires stands { HasRoom T.LineHandler self.old page.old (length piece.now) }
         requires after { after < length piece.now → IsAfterLf piece.now (length piece.now - after) }
         ensures job { T.job self.new.handler ≡ T.job self.old.handler }
-        ensures ok { IfOk result (λ beyond. TakesFront T.LineHandler self.old text.old.items text.new.items self.new piece.now beyond.now) }
-        ensures err { StopsAt T.LineHandler self.old text.old.items text.new.items result piece.now }
-        ensures said { SaysSo T.LineHandler self.old text.old.items text.new.items result self.new }
+        ensures ok { IfOk result (λ beyond. TakesFront T.LineHandler self.old page.old page.new self.new piece.now beyond.now) }
+        ensures err { StopsAt T.LineHandler self.old page.old page.new result piece.now }
+        ensures said { SaysSo T.LineHandler self.old page.old page.new result self.new }
     {
         if self.count > 0 || piece.len() <= after {
             return Ok(piece);
         }
         let whole = piece.len() - after;
-        let (count, lines) = self.handler.handle_lines(piece, whole, text)?;
+        let (count, lines) = self.handler.handle_lines(piece, whole, page)?;
         self.line += lines;
         Ok(&piece[count..])
     }
 
-    /// Ends a line, of which this is the last part; `after` bytes follow it in the piece. A line that is whole in this part
-    /// isn't kept if a handler may look at no more bytes than these.
-    fn end_line(&mut self, part: &[u8], after: usize, text: &mut Vec<u8>) -> Result<(), RunFault>
-        requires stands { HasRoom T.LineHandler self.old text.old.items (length part.now) }
+    /// Ends a line, of which this is the last part; `after` bytes follow its LF in the piece. A line that is whole in this
+    /// part isn't kept if the handler looks at no more bytes than these.
+    fn end_line(&mut self, part: &[u8], after: usize, page: &mut Page) -> Result<(), RunFault>
+        requires stands { HasRoom T.LineHandler self.old page.old (length part.now) }
         requires line { IsLine part.now }
         ensures job { T.job self.new.handler ≡ T.job self.old.handler }
-        ensures ok { TakesPart T.LineHandler self.old text.old.items text.new.items result self.new (part.now ++ 10 ∷ []) }
-        ensures err { (more : List ℕ) → StopsAt T.LineHandler self.old text.old.items text.new.items result (part.now ++ 10 ∷ more) }
-        ensures said { SaysSo T.LineHandler self.old text.old.items text.new.items result self.new }
+        ensures ok { TakesPart T.LineHandler self.old page.old page.new result self.new (part.now ++ 10 ∷ []) }
+        ensures err { (more : List ℕ) → StopsAt T.LineHandler self.old page.old page.new result (part.now ++ 10 ∷ more) }
+        ensures said { SaysSo T.LineHandler self.old page.old page.new result self.new }
     {
-        if self.count == 0 && after >= AFTER.len() {
+        if self.count == 0 && after >= self.handler.beyond() {
             self.line += 1;
-            return self.handler.handle_line(without_cr(part), self.line, text);
+            return self.handler.handle_line(without_cr(part), self.line, page);
         }
-        self.keep(part, text)?;
+        self.keep(part, page)?;
         self.line += 1;
         if self.count <= self.handler.most() + 1 {
-            give_kept(&mut self.handler, &mut self.begun, self.line, text)?;
+            give_kept(&mut self.handler, &mut self.begun, self.line, page)?;
         }
         self.count = 0;
         self.begun.clear();
@@ -315,22 +321,22 @@ impl<T: LineHandler> Engine for Lines<T> {
         MOST_READ
     }
 
-    fn feed(&mut self, piece: &[u8], text: &mut Vec<u8>) -> Result<(), RunFault> {
+    fn feed(&mut self, piece: &[u8], page: &mut Page) -> Result<(), RunFault> {
         let after = after_lines(piece);
-        let mut rest = self.take_lines(piece, after, text)?;
+        let mut rest = self.take_lines(piece, after, page)?;
         while let Some((line, beyond)) = split_line(rest) {
-            self.end_line(line, beyond.len(), text)?;
-            rest = self.take_lines(beyond, after, text)?;
+            self.end_line(line, beyond.len(), page)?;
+            rest = self.take_lines(beyond, after, page)?;
         }
-        self.keep(rest, text)
+        self.keep(rest, page)
     }
 
-    fn finish(&mut self, text: &mut Vec<u8>) -> Result<T::Tally, RunFault> {
+    fn finish(&mut self, page: &mut Page) -> Result<T::Tally, RunFault> {
         if self.count > self.handler.most() + 1 {
-            return self.handler.close(text);
+            return self.handler.close(page);
         }
         self.handler
-            .handle_last(self.begun.as_slice(), self.line + 1, text)
+            .handle_last(self.begun.as_slice(), self.line + 1, page)
     }
 
     ghost sound = { λ s. T.sound s.handler };

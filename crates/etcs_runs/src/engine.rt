@@ -4,6 +4,7 @@ ghost use Rattle.std.specs.Prelude.{◌≡◌, ◌<◌, ◌≤◌, ◌+◌, ◌^
 ghost use Rattle.etcs_runs.specs.Faults.{IfFault};
 
 use crate::fault::RunFault;
+use etcs_packet_text::inner::Page;
 
 /// How many bytes a read asks for at most.
 pub const MOST_READ: usize = 4096;
@@ -49,13 +50,13 @@ pub trait Engine {
     /// A fault other than `Read` and `Write`: each input that begins with all that was fed, this piece included, ends
     /// with it after the text written (`Stops`), which is appended, and for which `said` holds. `Memory`
     /// may come at any piece.
-    fn feed(&mut self, piece: &[u8], text: &mut Vec<u8>) -> Result<(), RunFault>
+    fn feed(&mut self, piece: &[u8], page: &mut Page) -> Result<(), RunFault>
         requires stands { (given : List ℕ) × (output : List ℕ) × stands self.old given output × (length given + length piece.now < 2 ^ 62) }
-        requires empty { text.old.items ≡ [] }
+        requires empty { page.old ≡ [] }
         ensures job { job self.new ≡ job self.old }
-        ensures ok { (given output : List ℕ) → stands self.old given output → OnOk result (stands self.new (given ++ piece.now) (output ++ text.new.items)) }
-        ensures err { (given output : List ℕ) → stands self.old given output → IfFault result ((promises (job self.old)).Stops (given ++ piece.now) (output ++ text.new.items)) }
-        ensures said { (given output : List ℕ) → stands self.old given output → OnErr result (said self.new (output ++ text.new.items)) };
+        ensures ok { (given output : List ℕ) → stands self.old given output → OnOk result (stands self.new (given ++ piece.now) (output ++ page.new)) }
+        ensures err { (given output : List ℕ) → stands self.old given output → IfFault result ((promises (job self.old)).Stops (given ++ piece.now) (output ++ page.new)) }
+        ensures said { (given output : List ℕ) → stands self.old given output → OnErr result (said self.new (output ++ page.new)) };
 
     /// Ends the input. If it succeeds, what was fed is a whole input, with all the text written, that appended here
     /// included, and with this result (`Ends`).
@@ -66,12 +67,12 @@ pub trait Engine {
     ///
     /// A fault other than `Read` and `Write`: the input of the bytes that were fed ends with it after the text written
     /// (`StopsAtEnd`), which is appended, and for which `said` holds.
-    fn finish(&mut self, text: &mut Vec<u8>) -> Result<Self::Tally, RunFault>
+    fn finish(&mut self, page: &mut Page) -> Result<Self::Tally, RunFault>
         requires stands { (given : List ℕ) × (output : List ℕ) × stands self.old given output × (length given < 2 ^ 62) }
-        requires empty { text.old.items ≡ [] }
-        ensures ok { (given output : List ℕ) → stands self.old given output → IfOk result (λ tally. (promises (job self.old)).Ends given (output ++ text.new.items) tally) }
-        ensures err { (given output : List ℕ) → stands self.old given output → IfFault result ((promises (job self.old)).StopsAtEnd given (output ++ text.new.items)) }
-        ensures said { (given output : List ℕ) → stands self.old given output → OnErr result (said self.new (output ++ text.new.items)) };
+        requires empty { page.old ≡ [] }
+        ensures ok { (given output : List ℕ) → stands self.old given output → IfOk result (λ tally. (promises (job self.old)).Ends given (output ++ page.new) tally) }
+        ensures err { (given output : List ℕ) → stands self.old given output → IfFault result ((promises (job self.old)).StopsAtEnd given (output ++ page.new)) }
+        ensures said { (given output : List ℕ) → stands self.old given output → OnErr result (said self.new (output ++ page.new)) };
 
     /// Its promises follow from one another as `Sound` lists.
     ghost sound: { (e : Self) → Sound (promises (job e)) };

@@ -49,12 +49,11 @@ pub fn decode(word: &[u8], bytes: &mut [u8]) -> bool
     ensures bytes { IsTrue result → decode_of word.now ≡ Ok bytes.new }
     ensures room { length bytes.new ≡ length bytes.old }
 {
+    let mut all = 0;
     'pairs: for i in 0..bytes.len() {
         let byte = digit(word[2 * i]) * 16 + digit(word[2 * i + 1]);
-        if byte > 255 {
-            return false;
-        }
-        bytes[i] = byte as u8;
+        all |= byte;
+        bytes[i] = (byte % 256) as u8;
     }
-    true
+    all < 256
 }

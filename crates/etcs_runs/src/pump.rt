@@ -14,6 +14,7 @@ use crate::ends::{Failed, Sink, Source};
 use crate::engine::{Engine, MOST_READ};
 use crate::fault::RunFault;
 use crate::send::send;
+use etcs_packet_text::inner::Page;
 use std::alloc::Global;
 
 /// Writes all of the text, and adds to `sent` how many bytes were taken, up to 2^64 - 1.
@@ -45,44 +46,44 @@ fn write_all<W: Sink>(sink: &mut W, text: &[u8], sent: &mut u64) -> Result<(), R
 fn pass<E: Engine, W: Sink>(
     engine: &mut E,
     piece: &[u8],
-    text: &mut Vec<u8>,
+    page: &mut Page,
     sink: &mut W,
     sent: &mut u64,
 ) -> Result<(), RunFault>
     requires stands { HasRoom E.Engine engine.old (length piece.now) }
     requires failures { W.failures sink.old < 2 ^ 63 }
     ensures job { E.job engine.new ≡ E.job engine.old }
-    ensures ok { Passes E.Engine engine.old W.Sink sink.old sink.new text.new.items sent.old engine.new piece.now sent.new result }
-    ensures err { PassesNot E.Engine engine.old W.Sink sink.old sink.new text.new.items sent.old piece.now result }
-    ensures said { Starves E.Engine engine.old engine.new text.new.items result }
+    ensures ok { Passes E.Engine engine.old W.Sink sink.old sink.new page.new sent.old engine.new piece.now sent.new result }
+    ensures err { PassesNot E.Engine engine.old W.Sink sink.old sink.new page.new sent.old piece.now result }
+    ensures said { Starves E.Engine engine.old engine.new page.new result }
     ensures uncounted { IfErr result (λ e. IsOfEngine e → W.failures sink.new ≡ W.failures sink.old) }
     ensures unflushed { W.flushes sink.new ≡ W.flushes sink.old }
 {
-    text.clear();
-    let fed = engine.feed(piece, text);
-    write_all(sink, text.as_slice(), sent)?;
+    page.cut(0);
+    let fed = engine.feed(piece, page);
+    write_all(sink, page.as_slice(), sent)?;
     fed
 }
 
 /// The input is at its end: passes on what is left, and flushes the sink.
 fn close<E: Engine, W: Sink>(
     engine: &mut E,
-    text: &mut Vec<u8>,
+    page: &mut Page,
     sink: &mut W,
     sent: &mut u64,
 ) -> Result<E::Tally, RunFault>
     requires stands { (given : List ℕ) × (output : List ℕ) × E.stands engine.old given output × (length given < 2 ^ 62) }
     requires failures { W.failures sink.old < 2 ^ 63 }
-    ensures ok { Closes E.Engine engine.old W.Sink sink.old sink.new text.new.items sent.old result }
-    ensures err { ClosesNot E.Engine engine.old W.Sink sink.old sink.new text.new.items sent.old result }
-    ensures said { Starves E.Engine engine.old engine.new text.new.items result }
+    ensures ok { Closes E.Engine engine.old W.Sink sink.old sink.new page.new sent.old result }
+    ensures err { ClosesNot E.Engine engine.old W.Sink sink.old sink.new page.new sent.old result }
+    ensures said { Starves E.Engine engine.old engine.new page.new result }
     ensures uncounted { IfErr result (λ e. IsOfEngine e → W.failures sink.new ≡ W.failures sink.old) }
     ensures flushed { OnOk result (W.flushes sink.new ≡ (W.flushes sink.old + 1) % 2 ^ 64) }
-    ensures unflushed { FlushesLast E.Engine engine.old W.Sink sink.old sink.new text.new.items sent.old result }
+    ensures unflushed { FlushesLast E.Engine engine.old W.Sink sink.old sink.new page.new sent.old result }
 {
-    text.clear();
-    let finished = engine.finish(text);
-    write_all(sink, text.as_slice(), sent)?;
+    page.cut(0);
+    let finished = engine.finish(page);
+    write_all(sink, page.as_slice(), sent)?;
     let tally = finished?;
     match sink.flush() {
         Ok(()) => Ok(tally),
@@ -154,7 +155,7 @@ pub fn run_engine<E: Engine, S: Source, W: Sink>(
     ensures ran { RanOver S.Source W.Sink (E.promises (E.job engine.old)) most_reads source.old source.new sink.old sink.new result }
     ensures said { IfErr result (λ e. e ≡ RunFault.Memory → Piped (λ given output. E.said engine.new output) (S.remaining source.old) (S.remaining source.new) (W.contents sink.old) (W.contents sink.new)) }
 {
-    let mut text = Vec::new(alloc);
+    let mut page = Page::after(Vec::new(alloc));
     let mut buffer = [0u8; MOST_READ];
     let mut sent = 0u64;
     for _ in 0..most_reads {
@@ -163,9 +164,9 @@ pub fn run_engine<E: Engine, S: Source, W: Sink>(
             Err(Failed) => return Err(RunFault::Read),
         };
         if count == 0 {
-            return close(engine, &mut text, sink, &mut sent);
+            return close(engine, &mut page, sink, &mut sent);
         }
-        pass(engine, &buffer[..count], &mut text, sink, &mut sent)?;
+        pass(engine, &buffer[..count], &mut page, sink, &mut sent)?;
     }
     Err(RunFault::Endless)
 }

@@ -49,7 +49,7 @@ whole_bytes (of_message way m) r x =
     let (few, bytes, all) = whole_message way m r x in
     (message_bytes way m, all ∙ sym bytes, omega (arith, few, bytes))
 
--- these bytes begin with those of the item, which are so many
+-- the first `count` of these bytes are those of the item
 pub record OfBytes (kind : Kind) (e : EntryValue) (bytes : List ℕ) (count : ℕ) : Type 0 where
   pub short : count < 1024
   pub within : count ≤ length bytes
@@ -156,10 +156,3 @@ pub next_lines : (job : Job) (rest : List ℕ) (whole : ℕ) (start before after
 next_lines job rest whole start before after first text text' at lines n lf below h next =
     let k : TakesFirst job (drop at rest) before after text text' n = subst (λ (z : List ℕ). TakesFirst job z before after text text' n) (slice_rest rest at) next in
     more_taken rest whole first text text' at lines n 1 h (first_lines job (drop at rest) (whole - at) before after text text' n (lf_after h lf below) k)
-
--- of a text, as on its page
-pub of_page : (job job' : Job) (before after : Reported) (rest : List ℕ) (whole : ℕ) (page page' text text' : List ℕ) (n m : ℕ) → job' ≡ job → page ≡ text → text' ≡ page' → LinesTaken (JsonTook job before) (JsonTook job after) rest whole page page' n m → LinesTaken (JsonTook job before) (JsonTook job' after) rest whole text text' n m
-of_page job job' before after rest whole page page' text text' n m same is is' h =
-    subst (λ (j : Job). LinesTaken (JsonTook job before) (JsonTook j after) rest whole text text' n m) (sym same)
-    (subst (λ (z : List ℕ). LinesTaken (JsonTook job before) (JsonTook job after) rest whole z text' n m) is
-    (subst (λ (z : List ℕ). LinesTaken (JsonTook job before) (JsonTook job after) rest whole page z n m) (sym is') h))

@@ -89,7 +89,7 @@ HaltsJson job line number before (Write sent) = ⊥
 HaltsJson job line number before Endless = (before.count ≡ 1000000) × (0 < length line)
 HaltsJson job line number before Memory = Unit {0}
 
--- the text begins with this line, with its LF, in so many bytes, and the item of the line was reported
+-- the text begins with this line, which has n bytes with its LF, and the item of the line was reported
 pub record TakesFirst (job : Job) (rest : List ℕ) (before after : Reported) (text text' : List ℕ) (n : ℕ) : Type 0 where
   pub raw : List ℕ
   pub beyond : List ℕ

@@ -11,6 +11,7 @@ ghost use Rattle.etcs_stream.specs.Printers.{IsGroupable, nothing_reported};
 
 use crate::byte_items::ByteItems;
 use crate::job::{Job, Tally};
+use etcs_packet_text::inner::Page;
 use etcs_runs::RunFault;
 use etcs_runs::inner::Engine;
 use std::alloc::Global;
@@ -52,12 +53,12 @@ impl Engine for Bin {
         self.items.wanted()
     }
 
-    fn feed(&mut self, piece: &[u8], text: &mut Vec<u8>) -> Result<(), RunFault> {
-        self.items.take_bytes(piece, text)
+    fn feed(&mut self, piece: &[u8], page: &mut Page) -> Result<(), RunFault> {
+        self.items.take_bytes(piece, page)
     }
 
-    fn finish(&mut self, text: &mut Vec<u8>) -> Result<Tally, RunFault> {
-        self.items.finish(text)
+    fn finish(&mut self, page: &mut Page) -> Result<Tally, RunFault> {
+        self.items.finish(page)
     }
 
     ghost sound = { λ s. sound s.items.job };

@@ -98,25 +98,7 @@ impl ByteItems {
     ///
     /// `Refused` with the number of the item, bit and variable; `Endless` if there is a byte after the last item that a run
     /// may have; `Memory`. The text of the items before was appended, but after `Memory` perhaps not that of all of them.
-    pub(crate) fn take_bytes(&mut self, bytes: &[u8], text: &mut Vec<u8>) -> Result<(), RunFault>
-        requires waits { Awaits self.old.job.kind self.old.reader }
-        requires reported { self.old.printer.count ≤ 1000000 }
-        ensures job { self.new.job ≡ self.old.job }
-        ensures waits { OnOk result (Awaits self.old.job.kind self.new.reader) }
-        ensures reported { OnOk result (self.new.printer.count ≤ 1000000) }
-        ensures room { HasRoom self.old.printer.count (seen_bits self.old.reader.progress) → OnOk result (HasRoom self.new.printer.count (seen_bits self.new.reader.progress)) }
-        ensures ok { OnOk result (Advances self.old.job.kind self.old.job.command (seen_bits self.old.reader.progress) (seen_bits self.new.reader.progress) self.old.printer self.new.printer bytes.now text.old.items text.new.items) }
-        ensures err { IfErr result (λ e. Halts self.old.job.kind self.old.job.command (seen_bits self.old.reader.progress) self.old.printer bytes.now text.old.items text.new.items e) }
-        ensures said { OnErr result (Says self.old.job.command self.old.printer self.new.printer text.old.items text.new.items) }
-    {
-        let mut page = Page::open(text);
-        let taken = self.take_items(bytes, &mut page);
-        *text = page.into_text();
-        taken
-    }
-
-    /// Takes bytes, and appends the text of each item that becomes whole to the page, as [`ByteItems::take_bytes`] does.
-    fn take_items(&mut self, bytes: &[u8], page: &mut Page) -> Result<(), RunFault>
+    pub(crate) fn take_bytes(&mut self, bytes: &[u8], page: &mut Page) -> Result<(), RunFault>
         requires waits { Awaits self.old.job.kind self.old.reader }
         requires reported { self.old.printer.count ≤ 1000000 }
         ensures job { self.new.job ≡ self.old.job }
@@ -140,12 +122,12 @@ impl ByteItems {
     /// # Errors
     ///
     /// `Truncated` if an item isn't whole, with the number of its bits; `Memory`. Nothing was appended.
-    pub(crate) fn finish(&self, text: &mut Vec<u8>) -> Result<Tally, RunFault>
+    pub(crate) fn finish(&self, page: &mut Page) -> Result<Tally, RunFault>
         requires waits { Awaits self.now.job.kind self.now.reader }
         requires reported { self.now.printer.count ≤ 1000000 }
         ensures whole { OnOk result (seen_bits self.now.reader.progress ≡ []) }
-        ensures ok { IfOk result (λ tally. (last : List ℕ) × Closes self.now.job.command self.now.printer last tally × (text.new.items ≡ text.old.items ++ last)) }
-        ensures err { IfErr result (λ e. (text.new.items ≡ text.old.items) × (((e ≡ RunFault.Truncated (self.now.printer.count + 1) (length (seen_bits self.now.reader.progress))) × (0 < length (seen_bits self.now.reader.progress))) ⊎ (e ≡ RunFault.Memory))) }
+        ensures ok { IfOk result (λ tally. (last : List ℕ) × Closes self.now.job.command self.now.printer last tally × (page.new ≡ page.old ++ last)) }
+        ensures err { IfErr result (λ e. (page.new ≡ page.old) × (((e ≡ RunFault.Truncated (self.now.printer.count + 1) (length (seen_bits self.now.reader.progress))) × (0 < length (seen_bits self.now.reader.progress))) ⊎ (e ≡ RunFault.Memory))) }
     {
         let bits = self.reader.bits_seen();
         if bits > 0 {
@@ -154,7 +136,7 @@ impl ByteItems {
                 bits: bits as u64,
             });
         }
-        match self.printer.close(self.job.command, text) {
+        match self.printer.close(self.alloc, self.job.command, page) {
             Ok(tally) => Ok(tally),
             Err(AllocError) => Err(RunFault::Memory),
         }
@@ -191,11 +173,7 @@ impl ByteItems {
         ensures err { IfErr result (λ e. Halts self.old.job.kind self.old.job.command (seen_bits self.old.reader.progress) self.old.printer bytes.now page.old page.new e × Says self.old.job.command self.old.printer self.new.printer page.old page.new) }
     {
         match self.refused_at(bytes) {
-            Some((bit, var)) => Err(RunFault::Refused {
-                item: self.printer.count() + 1,
-                bit,
-                var,
-            }),
+            Some((bit, var)) => Err(self.refused(bit, var)),
             None => self.feed_reader(bytes, page),
         }
     }
@@ -210,6 +188,18 @@ impl ByteItems {
             return None;
         }
         refused_at(self.job.kind, bytes)
+    }
+
+    /// The next item is refused at this bit.
+    fn refused(&self, bit: usize, var: Var) -> RunFault
+        requires { self.now.printer.count < 1000000 }
+        ensures { result ≡ RunFault.Refused (self.now.printer.count + 1) bit var }
+    {
+        RunFault::Refused {
+            item: self.printer.count() + 1,
+            bit,
+            var,
+        }
     }
 
     /// Gives bytes to the reader up to the end of an item, which it reports, or all of them, and returns how many.
@@ -227,11 +217,7 @@ impl ByteItems {
                 self.print(page)?;
                 Ok(taken)
             }
-            Err(ReadFault::Refused { bit, var }) => Err(RunFault::Refused {
-                item: self.printer.count() + 1,
-                bit,
-                var,
-            }),
+            Err(ReadFault::Refused { bit, var }) => Err(self.refused(bit, var)),
             Err(ReadFault::Memory) => Err(RunFault::Memory),
             Err(ReadFault::Ended) => unreachable!(),
         }

@@ -43,18 +43,19 @@ pub(crate) fn answer_line(
 /// # Errors
 ///
 /// `AllocError` if out of memory.
-pub(crate) fn last_lines(assembly: &Assembly, text: &mut Vec<u8>) -> Result<(), AllocError>
-    ensures ok { OnOk result ((last : List ℕ) × LastLines assembly.now last × (text.new.items ≡ text.old.items ++ last)) }
-    ensures err { OnErr result (text.new.items ≡ text.old.items) }
+pub(crate) fn last_lines(
+    alloc: Global,
+    assembly: &Assembly,
+    page: &mut Page,
+) -> Result<(), AllocError>
+    ensures ok { OnOk result ((last : List ℕ) × LastLines assembly.now last × (page.new ≡ page.old ++ last)) }
+    ensures err { OnErr result (page.new ≡ page.old) }
 {
-    let len = text.len();
-    let alloc = *text.allocator();
-    let mut page = Page::open(text);
-    let written = write_last(alloc, assembly, &mut page);
+    let len = page.len();
+    let written = write_last(alloc, assembly, page);
     if written.is_err() {
         page.cut(len);
     }
-    *text = page.into_text();
     written
 }
 

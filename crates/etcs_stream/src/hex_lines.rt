@@ -16,6 +16,7 @@ ghost use Rattle.etcs_stream.specs.Printers.{IsGroupable, nothing_reported};
 use crate::byte_items::ByteItems;
 use crate::digits::{MOST_CHARACTERS, decode_line};
 use crate::job::{Job, Tally};
+use etcs_packet_text::inner::Page;
 use etcs_runs::RunFault;
 use etcs_runs::inner::LineHandler;
 use std::alloc::Global;
@@ -24,6 +25,8 @@ use std::alloc::Global;
 #[derive(Drop)]
 pub(crate) struct HexLines {
     items: ByteItems,
+    /// Where a line's bytes are put, before they are used.
+    buffer: [u8; 2048],
     ghost form: { items.job.from ≡ form.Hex },
 }
 
@@ -37,11 +40,12 @@ impl HexLines {
     {
         HexLines {
             items: ByteItems::new(alloc, job),
+            buffer: [0; 2048],
         }
     }
 
     /// Gives the bytes of a line to the items. The line is checked before any of it is used.
-    fn handle(&mut self, line: &[u8], number: u64, text: &mut Vec<u8>) -> Result<(), RunFault>
+    fn handle(&mut self, line: &[u8], number: u64, page: &mut Page) -> Result<(), RunFault>
         requires waits { Awaits self.old.items.job.kind self.old.items.reader }
         requires reported { self.old.items.printer.count ≤ 1000000 }
         ensures job { self.new.items.job ≡ self.old.items.job }
@@ -49,16 +53,15 @@ impl HexLines {
         ensures waits { OnOk result (Awaits self.old.items.job.kind self.new.items.reader) }
         ensures reported { OnOk result (self.new.items.printer.count ≤ 1000000) }
         ensures room { HasRoom self.old.items.printer.count (seen_bits self.old.items.reader.progress) → OnOk result (HasRoom self.new.items.printer.count (seen_bits self.new.items.reader.progress)) }
-        ensures ok { OnOk result (Advances self.old.items.job.kind self.old.items.job.command (seen_bits self.old.items.reader.progress) (seen_bits self.new.items.reader.progress) self.old.items.printer self.new.items.printer (line_bytes line.now) text.old.items text.new.items) }
-        ensures err { IfErr result (λ e. ((place : ℕ) × (bad_place line.now ≡ Some place) × (e ≡ RunFault.BadHex number place) × (text.new.items ≡ text.old.items)) ⊎ ((bad_place line.now ≡ None) × Halts self.old.items.job.kind self.old.items.job.command (seen_bits self.old.items.reader.progress) self.old.items.printer (line_bytes line.now) text.old.items text.new.items e)) }
-        ensures said { OnErr result (Says self.old.items.job.command self.old.items.printer self.new.items.printer text.old.items text.new.items) }
+        ensures ok { OnOk result (Advances self.old.items.job.kind self.old.items.job.command (seen_bits self.old.items.reader.progress) (seen_bits self.new.items.reader.progress) self.old.items.printer self.new.items.printer (line_bytes line.now) page.old page.new) }
+        ensures err { IfErr result (λ e. ((place : ℕ) × (bad_place line.now ≡ Some place) × (e ≡ RunFault.BadHex number place) × (page.new ≡ page.old)) ⊎ ((bad_place line.now ≡ None) × Halts self.old.items.job.kind self.old.items.job.command (seen_bits self.old.items.reader.progress) self.old.items.printer (line_bytes line.now) page.old page.new e)) }
+        ensures said { OnErr result (Says self.old.items.job.command self.old.items.printer self.new.items.printer page.old page.new) }
     {
         if line.is_empty() {
             return Ok(());
         }
-        let mut buffer = [0u8; 2048];
-        match decode_line(line, &mut buffer) {
-            Ok(count) => self.items.take_bytes(&buffer[..count], text),
+        match decode_line(line, &mut self.buffer) {
+            Ok(count) => self.items.take_bytes(&self.buffer[..count], page),
             Err(place) => Err(RunFault::BadHex {
                 line: number,
                 place: place as u64,
@@ -86,16 +89,11 @@ impl LineHandler for HexLines {
         MOST_CHARACTERS
     }
 
-    fn handle_line(
-        &mut self,
-        line: &[u8],
-        number: u64,
-        text: &mut Vec<u8>,
-    ) -> Result<(), RunFault> {
-        self.handle(line, number, text)
+    fn handle_line(&mut self, line: &[u8], number: u64, page: &mut Page) -> Result<(), RunFault> {
+        self.handle(line, number, page)
     }
 
-    fn refuse_long(&mut self, number: u64, _text: &mut Vec<u8>) -> Result<(), RunFault> {
+    fn refuse_long(&mut self, number: u64, _page: &mut Page) -> Result<(), RunFault> {
         Err(RunFault::BadHex {
             line: number,
             place: MOST_CHARACTERS as u64,
@@ -106,14 +104,14 @@ impl LineHandler for HexLines {
         &mut self,
         line: &[u8],
         number: u64,
-        text: &mut Vec<u8>,
+        page: &mut Page,
     ) -> Result<Tally, RunFault> {
-        self.handle(line, number, text)?;
-        self.items.finish(text)
+        self.handle(line, number, page)?;
+        self.items.finish(page)
     }
 
-    fn close(&mut self, text: &mut Vec<u8>) -> Result<Tally, RunFault> {
-        self.items.finish(text)
+    fn close(&mut self, page: &mut Page) -> Result<Tally, RunFault> {
+        self.items.finish(page)
     }
 
     ghost sound = { λ s. sound s.items.job };

@@ -155,12 +155,12 @@ impl JsonLines {
     /// # Errors
     ///
     /// `Endless` if a run may have no more items, else as for `entry_in`. Nothing was appended.
-    fn handle(&mut self, line: &[u8], number: u64, text: &mut Vec<u8>) -> Result<(), RunFault>
+    fn handle(&mut self, line: &[u8], number: u64, page: &mut Page) -> Result<(), RunFault>
         requires reported { self.old.printer.count ≤ 1000000 }
         ensures job { self.new.job ≡ self.old.job }
-        ensures ok { OnOk result (TakesJson self.old.job line.now self.old.printer self.new.printer text.old.items text.new.items) }
-        ensures err { IfErr result (λ e. HaltsJson self.old.job line.now number self.old.printer e × (text.new.items ≡ text.old.items)) }
-        ensures said { OnErr result (Says self.old.job.command self.old.printer self.new.printer text.old.items text.new.items) }
+        ensures ok { OnOk result (TakesJson self.old.job line.now self.old.printer self.new.printer page.old page.new) }
+        ensures err { IfErr result (λ e. HaltsJson self.old.job line.now number self.old.printer e × (page.new ≡ page.old)) }
+        ensures said { OnErr result (Says self.old.job.command self.old.printer self.new.printer page.old page.new) }
     {
         if line.is_empty() {
             return Ok(());
@@ -169,21 +169,18 @@ impl JsonLines {
             return Err(RunFault::Endless);
         }
         let entry = self.entry_in(line, number)?;
-        let mut page = Page::open(text);
-        let printed = self.printer.print(self.job.command, entry, &mut page);
-        *text = page.into_text();
-        match printed {
+        match self.printer.print(self.job.command, entry, page) {
             Ok(()) => Ok(()),
             Err(AllocError) => Err(RunFault::Memory),
         }
     }
 
     /// Ends the input: appends what the command writes at the end, or nothing.
-    fn end(&self, text: &mut Vec<u8>) -> Result<Tally, RunFault>
-        ensures ok { IfOk result (λ tally. (last : List ℕ) × Closes self.now.job.command self.now.printer last tally × (text.new.items ≡ text.old.items ++ last)) }
-        ensures err { IfErr result (λ e. (text.new.items ≡ text.old.items) × (e ≡ RunFault.Memory)) }
+    fn end(&self, page: &mut Page) -> Result<Tally, RunFault>
+        ensures ok { IfOk result (λ tally. (last : List ℕ) × Closes self.now.job.command self.now.printer last tally × (page.new ≡ page.old ++ last)) }
+        ensures err { IfErr result (λ e. (page.new ≡ page.old) × (e ≡ RunFault.Memory)) }
     {
-        match self.printer.close(self.job.command, text) {
+        match self.printer.close(self.alloc, self.job.command, page) {
             Ok(tally) => Ok(tally),
             Err(AllocError) => Err(RunFault::Memory),
         }
@@ -257,31 +254,27 @@ impl LineHandler for JsonLines {
         MOST_LINE
     }
 
+    fn beyond(&self) -> usize {
+        64
+    }
+
     fn handle_lines(
         &mut self,
         rest: &[u8],
         whole: usize,
-        text: &mut Vec<u8>,
+        page: &mut Page,
     ) -> Result<(usize, u64), RunFault> {
         if self.job.command == Command::Group {
             return Ok((0, 0));
         }
-        let mut out = Page::open(text);
-        let taken = self.take_lines(rest, whole, &mut out);
-        *text = out.into_text();
-        Ok(taken?)
+        Ok(self.take_lines(rest, whole, page)?)
     }
 
-    fn handle_line(
-        &mut self,
-        line: &[u8],
-        number: u64,
-        text: &mut Vec<u8>,
-    ) -> Result<(), RunFault> {
-        self.handle(line, number, text)
+    fn handle_line(&mut self, line: &[u8], number: u64, page: &mut Page) -> Result<(), RunFault> {
+        self.handle(line, number, page)
     }
 
-    fn refuse_long(&mut self, number: u64, _text: &mut Vec<u8>) -> Result<(), RunFault> {
+    fn refuse_long(&mut self, number: u64, _page: &mut Page) -> Result<(), RunFault> {
         if self.printer.count() == MOST_ITEMS {
             Err(RunFault::Endless)
         } else {
@@ -293,14 +286,14 @@ impl LineHandler for JsonLines {
         &mut self,
         line: &[u8],
         number: u64,
-        text: &mut Vec<u8>,
+        page: &mut Page,
     ) -> Result<Tally, RunFault> {
-        self.handle(line, number, text)?;
-        self.end(text)
+        self.handle(line, number, page)?;
+        self.end(page)
     }
 
-    fn close(&mut self, text: &mut Vec<u8>) -> Result<Tally, RunFault> {
-        self.end(text)
+    fn close(&mut self, page: &mut Page) -> Result<Tally, RunFault> {
+        self.end(page)
     }
 
     ghost sound = { λ s. sound s.job };

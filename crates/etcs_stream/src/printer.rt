@@ -1,6 +1,6 @@
 //! What is written of each item, and after the last one.
 
-ghost use Rattle.std.specs.Prelude.{◌≡◌, ◌+◌, ◌*◌, ◌<◌, ◌≤◌, ◌++◌, ◌∷◌, [], ℕ, List, Ok, Err, IfOk, IfSome, IsNone, IsTrue, OnErr, OnOk, false, length, take, true};
+ghost use Rattle.std.specs.Prelude.{◌≡◌, ◌+◌, ◌*◌, ◌<◌, ◌≤◌, ◌++◌, ◌∷◌, [], Bool, ℕ, List, Ok, Err, IfOk, IfSome, IsNone, IsTrue, OnErr, OnOk, false, length, take, true};
 ghost use Rattle.serde_json.specs.Written.{compact_text};
 ghost use Rattle.etcs_bits.specs.Bits.{bits};
 ghost use Rattle.etcs_vars.specs.Reading.{IsOutcome, done};
@@ -18,12 +18,12 @@ ghost use Rattle.etcs_stream.specs.Printers.{Closes, OutputsItem, nothing_report
 use crate::group_lines::{answer_line, last_lines};
 use crate::job::{Command, Tally};
 use etcs_group::{Added, Assembly, Clash};
-use etcs_packet_text::inner::{Page, to_digits};
+use etcs_packet_text::inner::{Page, append_digits};
 use etcs_runs::Form;
 use etcs_telegram::Telegram;
 use etcs_text::inner::{check_on, item_bits, json_on, json_seen, seen, show_on, show_seen};
 use etcs_text::{Entry, Kind, encoded, hex_line};
-use std::alloc::AllocError;
+use std::alloc::{AllocError, Global};
 use std::marker::Model;
 
 /// How many items were reported, and of a balise group how many of them clash and what is held.
@@ -173,12 +173,17 @@ impl Printer {
     /// # Errors
     ///
     /// `AllocError` if out of memory.
-    pub(crate) fn close(&self, command: Command, text: &mut Vec<u8>) -> Result<Tally, AllocError>
-        ensures ok { IfOk result (λ tally. (last : List ℕ) × Closes command self.now last tally × (text.new.items ≡ text.old.items ++ last)) }
-        ensures err { OnErr result (text.new.items ≡ text.old.items) }
+    pub(crate) fn close(
+        &self,
+        alloc: Global,
+        command: Command,
+        page: &mut Page,
+    ) -> Result<Tally, AllocError>
+        ensures ok { IfOk result (λ tally. (last : List ℕ) × Closes command self.now last tally × (page.new ≡ page.old ++ last)) }
+        ensures err { OnErr result (page.new ≡ page.old) }
     {
         match command {
-            Command::Group => self.close_group(text),
+            Command::Group => self.close_group(alloc, page),
             Command::Show | Command::Check | Command::Convert(_) => Ok(Tally {
                 items: self.count,
                 clashes: 0,
@@ -188,11 +193,11 @@ impl Printer {
     }
 
     /// Appends the last lines of a group, or nothing, and returns the tally.
-    fn close_group(&self, text: &mut Vec<u8>) -> Result<Tally, AllocError>
-        ensures ok { IfOk result (λ tally. (last : List ℕ) × Closes Command.Group self.now last tally × (text.new.items ≡ text.old.items ++ last)) }
-        ensures err { OnErr result (text.new.items ≡ text.old.items) }
+    fn close_group(&self, alloc: Global, page: &mut Page) -> Result<Tally, AllocError>
+        ensures ok { IfOk result (λ tally. (last : List ℕ) × Closes Command.Group self.now last tally × (page.new ≡ page.old ++ last)) }
+        ensures err { OnErr result (page.new ≡ page.old) }
     {
-        last_lines(&self.assembly, text)?;
+        last_lines(alloc, &self.assembly, page)?;
         Ok(Tally {
             items: self.count,
             clashes: self.clashes,
@@ -300,8 +305,7 @@ fn write_line(
 {
     match command {
         Command::Check => {
-            let bits = item_bits(kind, count);
-            page.put_checked(item, bits)?;
+            put_checked(kind, item, count, page)?;
             Ok(true)
         }
         Command::Convert(form) => {
@@ -324,7 +328,7 @@ fn convert_line(form: Form, line: &[u8], bytes: &[u8], page: &mut Page) -> Resul
 {
     match form {
         Form::Hex => write_digits(bytes, page),
-        Form::Bin => write_bytes(bytes, page),
+        Form::Bin => page.put(bytes),
         Form::Json => write_text(line, page),
     }
 }
@@ -363,8 +367,23 @@ fn check_seen(
     let Some(count) = seen(kind, bytes) else {
         return Ok(None);
     };
-    page.put_checked(item, item_bits(kind, count))?;
+    put_checked(kind, item, count, page)?;
     Ok(Some(count))
+}
+
+/// Appends the line of the accepted item of this number, which has this many bytes, or nothing. How many bits a telegram has
+/// is a constant.
+#[inline(always)]
+fn put_checked(kind: Kind, item: u64, count: usize, page: &mut Page) -> Result<(), AllocError>
+    requires { count < 1024 }
+    ensures ok { (e : EntryValue) (b : List Bool) → IsOutcome (EntryReads kind) b (done e (8 * count)) → OnOk result (page.new ≡ page.old ++ check_line e item) }
+    ensures err { OnErr result (page.new ≡ page.old) }
+{
+    match kind {
+        Kind::Long => page.put_checked(item, item_bits(Kind::Long, count)),
+        Kind::Short => page.put_checked(item, item_bits(Kind::Short, count)),
+        Kind::Radio | Kind::Train => page.put_checked(item, item_bits(kind, count)),
+    }
 }
 
 /// Appends the digits of the item with which these bytes begin and a LF, as [`write_seen`] does.
@@ -389,7 +408,7 @@ fn bytes_seen(kind: Kind, bytes: &[u8], page: &mut Page) -> Result<Option<usize>
     let Some(count) = seen(kind, bytes) else {
         return Ok(None);
     };
-    write_bytes(&bytes[..count], page)?;
+    page.put(&bytes[..count])?;
     Ok(Some(count))
 }
 
@@ -415,38 +434,16 @@ fn encoded_on(entry: &Entry, page: &mut Page) -> Result<(), AllocError>
     written
 }
 
-/// Appends bytes to a page, or nothing.
-fn write_bytes(bytes: &[u8], page: &mut Page) -> Result<(), AllocError>
-    ensures ok { OnOk result (page.new ≡ page.old ++ bytes.now) }
-    ensures err { OnErr result (page.new ≡ page.old) }
-{
-    let mut text = page.take_text();
-    let written = text.extend_from_slice(bytes);
-    *page = Page::after(text);
-    written
-}
-
 /// Appends a line and a LF to a page, or nothing.
 fn write_text(line: &[u8], page: &mut Page) -> Result<(), AllocError>
     ensures ok { OnOk result (page.new ≡ page.old ++ (line.now ++ 10 ∷ [])) }
     ensures err { OnErr result (page.new ≡ page.old) }
 {
-    let mut text = page.take_text();
-    let written = append_line(line, &mut text);
-    *page = Page::after(text);
-    written
-}
-
-/// Appends a line and a LF, or nothing.
-fn append_line(line: &[u8], text: &mut Vec<u8>) -> Result<(), AllocError>
-    ensures ok { OnOk result (text.new.items ≡ text.old.items ++ (line.now ++ 10 ∷ [])) }
-    ensures err { OnErr result (text.new.items ≡ text.old.items) }
-{
-    let start = text.len();
-    text.extend_from_slice(line)?;
-    let ended = text.extend_from_slice(b"\n");
+    let len = page.len();
+    page.put(line)?;
+    let ended = page.put(b"\n");
     if ended.is_err() {
-        text.truncate(start);
+        page.cut(len);
     }
     ended
 }
@@ -457,11 +454,7 @@ fn write_digits(bytes: &[u8], page: &mut Page) -> Result<(), AllocError>
     ensures err { OnErr result (page.new ≡ page.old) }
 {
     let mut text = page.take_text();
-    let start = text.len();
-    let mut written = text.extend_from_slice(bytes);
-    if written.is_ok() {
-        written = to_digits(&mut text, start);
-    }
+    let written = append_digits(bytes, &mut text);
     *page = Page::after(text);
     written
 }

@@ -1,9 +1,8 @@
 -- The bytes of an encoding.
 use Rattle.std.proofs.Common.{◌≡◌, ℕ, zero, suc, ◌+◌, ◌*◌, ◌^◌, ◌<◌, ◌≤◌, Bool, List, [], ◌∷◌, ◌++◌, length, take, drop, get_or, Result, Ok, Err, sym, ap, ◌∙◌, arith}
-use Rattle.std.specs.Prelude.{All, OnOk, OnErr}
+use Rattle.std.specs.Prelude.{All, OnOk}
 use Rattle.std.proofs.lemmas.List.{drop_at, length-append, take-append-drop, take_at}
 use Rattle.std.proofs.lemmas.List.Elements.{All-drop, All-get_or, All-take}
-use Rattle.hex.specs.Hex.{encode_upper}
 use Rattle.etcs_bits.specs.Bits.{bits}
 use Rattle.etcs_bits.proofs.ByteBits.{bits-drop}
 use Rattle.etcs_bits.proofs.Owned.{bits-take, bits_same}
@@ -34,13 +33,3 @@ appended e old new r hold hnew reads is =
 pub appended_ok : {T E : Type 0} (res : Result T E) (e : EntryValue) (old new : List ℕ) → All (λ b. b < 256) old → All (λ b. b < 256) new → OnOk res ((r : Reading) × Spells e r × (bits new ≡ bits old ++ spelled r)) → OnOk res ((added : List ℕ) × IsEncoded e added × (new ≡ old ++ added))
 appended_ok (Ok x) e old new hold hnew (r, reads, is) = appended e old new r hold hnew reads is
 appended_ok (Err x) e old new hold hnew h = tt
-
--- ---- An encoding in digits.
-
-pub in_digits : {T E : Type 0} (res : Result T E) (e : EntryValue) (old items new : List ℕ) (start : ℕ) → start ≡ length old → (added : List ℕ) × IsEncoded e added × (items ≡ old ++ added) → OnOk res (new ≡ take start items ++ (encode_upper (drop start items) ++ 10 ∷ [])) → OnOk res ((bytes : List ℕ) × IsEncoded e bytes × (new ≡ old ++ (encode_upper bytes ++ 10 ∷ [])))
-in_digits (Ok x) e old items new start from (added, is, all) h = (added, is, rw (all, take_at old added start (sym from), drop_at old added start (sym from)) at h)
-in_digits (Err x) e old items new start from added h = tt
-
-pub gone_again : {T E : Type 0} (res : Result T E) (e : EntryValue) (old items new : List ℕ) (start : ℕ) → start ≡ length old → (added : List ℕ) × IsEncoded e added × (items ≡ old ++ added) → OnErr res (new ≡ take start items) → OnErr res (new ≡ old)
-gone_again (Ok x) e old items new start from added h = tt
-gone_again (Err x) e old items new start from (added, is, all) h = rw (all, take_at old added start (sym from)) at h

@@ -10,7 +10,7 @@ ghost use Rattle.etcs_text.specs.Encodings.{IsEncoded, check_line};
 use crate::entry::Entry;
 use crate::messages::message_bits;
 use etcs_messages::{Head, MessageOf, Own};
-use etcs_packet_text::inner::{Page, to_digits};
+use etcs_packet_text::inner::{Page, append_digits};
 use etcs_packets::inner::AnyPacket;
 use etcs_telegram::Telegram;
 use std::alloc::AllocError;
@@ -113,7 +113,7 @@ pub fn hex_line(entry: &Entry, out: &mut Vec<u8>) -> Result<(), AllocError>
     ensures ok { OnOk result ((bytes : List ℕ) × IsEncoded (entry_value entry.now) bytes × (out.new.items ≡ out.old.items ++ (encode_upper bytes ++ 10 ∷ []))) }
     ensures err { OnErr result (out.new.items ≡ out.old.items) }
 {
-    let start = out.len();
-    encoded(entry, out)?;
-    to_digits(out, start)
+    let mut bytes = Vec::new(*out.allocator());
+    encoded(entry, &mut bytes)?;
+    append_digits(bytes.as_slice(), out)
 }

@@ -30,7 +30,7 @@ pub(crate) struct Front {
 }
 
 /// The front of a line, and 29 blanks more.
-#[inline(always)]
+#[inline]
 fn padded_line(var: Var) -> &'static [u8]
     ensures { result.now ≡ line_front var ++ codes "                             " }
 {
@@ -38,7 +38,7 @@ fn padded_line(var: Var) -> &'static [u8]
 }
 
 /// The front of a line.
-#[inline(always)]
+#[inline]
 pub(crate) fn line_front(var: Var) -> Front
     ensures front { take result.len result.bytes ≡ line_front var }
     ensures most { result.len ≤ 24 }
@@ -54,7 +54,7 @@ pub(crate) fn line_front(var: Var) -> Front
 
 /// The front of a pair after another, and 29 blanks more.
 #[tactic(auto, unfolding(json::specs::Print::escape_byte))]
-#[inline(always)]
+#[inline]
 fn listed_pair(var: Var) -> &'static [u8]
     ensures { result.now ≡ 44 ∷ (pair_front var ++ codes "                             ") }
 {
@@ -62,7 +62,7 @@ fn listed_pair(var: Var) -> &'static [u8]
 }
 
 /// The front of a pair, after a comma unless it is the first of its list, and 29 blanks more.
-#[inline(always)]
+#[inline]
 fn padded_pair(later: bool, var: Var) -> &'static [u8]
     ensures { result.now ≡ comma_if later ++ (pair_front var ++ codes "                             ") }
 {
@@ -71,7 +71,7 @@ fn padded_pair(later: bool, var: Var) -> &'static [u8]
 }
 
 /// The front that the first bytes of some are.
-#[inline(always)]
+#[inline]
 fn first_front(bytes: &[u8], len: usize) -> Front
     requires room { 32 ≤ length bytes.now }
     requires len { len ≤ 32 }

@@ -106,7 +106,7 @@ fn put_special(place: &mut [u8], at: usize, number: u64, text: &[u8]) -> usize
 /// Writes the number of D_REF with its sign, and a LF.
 #[inline(never)]
 fn put_signed(place: &mut [u8], at: usize, number: u64) -> usize
-    requires { at + 22 ≤ length place.old }
+    requires { at + 25 ≤ length place.old }
     ensures len { length place.new ≡ length place.old }
     ensures most { result ≤ at + 22 }
     ensures bytes { take result place.new ≡ take at place.old ++ (signed_text number ++ codes "\n") }

@@ -7,9 +7,9 @@ use Rattle.etcs_log.specs.Visible.{is_unseen}
 use Rattle.etcs_log.proofs.Shown.{quoted_as_it_is}
 use Rattle.etcs_log.proofs.strings.append_visible_string.Goals as goal
 
-pub returns-clause-ok : goal.returns-clause-ok
-returns-clause-ok c =
+pub returns : goal.returns
+returns c =
     let text = c.args.text.now in
     let any = any_from_yields_List is_unseen _ _ _ c.any.ensures.ran (YieldsList-from_chars text c.utf8.text cc) (λ x b q k. search (rules, tests)) in
     let none : list_any is_unseen (chars text) ≡ false = sym any ∙ c.if-any.false in
-    subst (λ (z : List ℕ). OnOk c.append_string.result (c.append_string.new.out.items ≡ c.args.out.now.items ++ z)) (sym (quoted_as_it_is text c.utf8.text none)) c.append_string.ensures.ok
+    subst (λ (z : List ℕ). OnOk c.append_string.result (c.append_string.new.out.items ≡ c.args.out.now.items ++ z)) (sym (quoted_as_it_is text c.utf8.text none)) c.append_string.ensures

@@ -10,11 +10,11 @@ returns-clause-ok g c =
     let old = c.args.page.now.0 in
     let xs : Reading = g.V.Variables.reading_of c.args.variables.now in
     let is : c.send.new.out ≡ with_pairs (old ++ 91 ∷ [], false) xs = c.in_ok-send.ensures.ok ∙ ap (λ (s : Listed). with_pairs s xs) c.in_ok-open_list.ensures.ok in
-    closed_ok c.put.result pair_tree old c.put.new.self.0 c.send.new.out xs is c.put.ensures.ok
+    closed_ok c.put_array.result pair_tree old c.put_array.new.self.0 c.send.new.out xs is c.put_array.ensures.ok
 
 pub returns-clause-err : goal.returns-clause-err
 returns-clause-err g c =
     let old = c.args.page.now.0 in
     let xs : Reading = g.V.Variables.reading_of c.args.variables.now in
     let is : c.send.new.out ≡ with_pairs (old ++ 91 ∷ [], false) xs = c.in_ok-send.ensures.ok ∙ ap (λ (s : Listed). with_pairs s xs) c.in_ok-open_list.ensures.ok in
-    closed_err c.put.result pair_tree old c.put.new.self.0 c.send.new.out xs is c.put.ensures.err
+    closed_err c.put_array.result pair_tree old c.put_array.new.self.0 c.send.new.out xs is c.put_array.ensures.err

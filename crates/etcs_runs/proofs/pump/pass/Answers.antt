@@ -11,8 +11,8 @@ returns-in_err-write_all-clause-err g c = λ given output stands sent.
     let bytes = given ++ c.args.piece.now in
     let fed = c.feed-fed.ensures in
     let s = c.feed-fed.new.self in
-    let text = output ++ c.feed-fed.new.text.items in
+    let text = output ++ c.feed-fed.new.page in
     let r = err_from_is_err_and c.from_residual.result c.from_residual.ensures.1 in
     let prints = fed_prints e.promises job (e.job s) bytes text (e.stands s bytes text) c.feed-fed.result (met.sound c.args.engine.now) fed.job (met.stands_outputs s bytes text) (fed.ok given output stands) (fed.err given output stands) in
     let why = c.in_err-write_all.ensures in
-    rw (r.1, r.2) (inr (rw c.as_slice.ensures.value at (why.part (length output) sent), prints, why.one))
+    rw (r.1, r.2) (inr (rw c.as_slice.ensures at (why.part (length output) sent), prints, why.one))

@@ -34,8 +34,8 @@ loop-preserved g c =
     let passed = c.in_ok-pass.ensures.ok i.given i.output i.stands i.sent in
     record {
       given = i.given ++ piece;
-      output = i.output ++ c.pass.new.text.items;
-      going = written (read_more i.going c.read_wanted.new.source c.in-Ok.count c.read_wanted.new.buffer room read.bound.0 read.bytes.0 c.read_wanted.ensures.counted read.failed) c.pass.new.sink c.pass.new.text.items passed.1 c.pass.ensures.unflushed;
+      output = i.output ++ c.pass.new.page;
+      going = written (read_more i.going c.read_wanted.new.source c.in-Ok.count c.read_wanted.new.buffer room read.bound.0 read.bytes.0 c.read_wanted.ensures.counted read.failed) c.pass.new.sink c.pass.new.page passed.1 c.pass.ensures.unflushed;
       least = omega (arith, i.least, length-append i.given piece, (piece_long c.in-Ok.count c.read_wanted.new.buffer room read.bound.0).0, c.if-count-eq0.false);
       stands = passed.0;
       job = c.pass.ensures.job ∙ i.job;
@@ -58,7 +58,7 @@ returns-then-count-eq0-clause-ran g c =
     let read = c.in-Ok.ensures in
     let close = c.close.ensures in
     let at = read.bytes.1 c.if-count-eq0.true (omega (arith, c.read_wanted.auto.buffer, i.room)) in
-    closed (read_none i.going c.read_wanted.new.source c.in-Ok.count c.read_wanted.new.buffer (c.read_wanted.auto.buffer ∙ i.room) c.if-count-eq0.true read.bytes.0 c.read_wanted.ensures.counted read.failed) p c.args.most_reads (g.met.E.Engine.sound c.args.engine.now) outputs (omega (arith, c.loop-test.true)) at c.close.new.sink c.close.new.text.items c.close.result
+    closed (read_none i.going c.read_wanted.new.source c.in-Ok.count c.read_wanted.new.buffer (c.read_wanted.auto.buffer ∙ i.room) c.if-count-eq0.true read.bytes.0 c.read_wanted.ensures.counted read.failed) p c.args.most_reads (g.met.E.Engine.sound c.args.engine.now) outputs (omega (arith, c.loop-test.true)) at c.close.new.sink c.close.new.page c.close.result
     (rw i.job at close.ok i.given i.output i.stands i.sent) (rw i.job at close.err i.given i.output i.stands i.sent) close.uncounted close.flushed (rw i.job at close.unflushed i.given i.output i.stands i.sent)
 
 pub returns-in_err-pass-clause-ran : goal.returns-in_err-pass-clause-ran
@@ -69,7 +69,7 @@ returns-in_err-pass-clause-ran g c =
     let read = c.in-Ok.ensures in
     let r = err_from_is_err_and c.from_residual.result c.from_residual.ensures.1 in
     let passed = c.in_err-pass.ensures in
-    rw (r.1, r.2) (passed_not i.going p c.args.most_reads (g.met.E.Engine.sound c.args.engine.now) outputs c.loop-test.true c.read_wanted.new.source c.pass.new.sink c.in-Ok.count c.read_wanted.new.buffer c.pass.new.text.items (c.read_wanted.auto.buffer ∙ i.room) read.bound.0 read.bytes.0 c.read_wanted.ensures.counted read.failed c.in_err-pass.field-0.0 (rw i.job at passed.err i.given i.output i.stands i.sent) passed.uncounted c.pass.ensures.unflushed)
+    rw (r.1, r.2) (passed_not i.going p c.args.most_reads (g.met.E.Engine.sound c.args.engine.now) outputs c.loop-test.true c.read_wanted.new.source c.pass.new.sink c.in-Ok.count c.read_wanted.new.buffer c.pass.new.page (c.read_wanted.auto.buffer ∙ i.room) read.bound.0 read.bytes.0 c.read_wanted.ensures.counted read.failed c.in_err-pass.field-0.0 (rw i.job at passed.err i.given i.output i.stands i.sent) passed.uncounted c.pass.ensures.unflushed)
 
 pub returns-clause-ran : goal.returns-clause-ran
 returns-clause-ran g c =
@@ -84,7 +84,7 @@ returns-then-count-eq0-clause-said g c =
     let p = g.E.Engine.promises (g.E.Engine.job c.args.engine.now) in
     let read = c.in-Ok.ensures in
     let at = read_none i.going c.read_wanted.new.source c.in-Ok.count c.read_wanted.new.buffer (c.read_wanted.auto.buffer ∙ i.room) c.if-count-eq0.true read.bytes.0 c.read_wanted.ensures.counted read.failed in
-    said_if g.W.Sink _ _ _ c.loop.sink c.close.new.sink i.given i.output c.close.new.text.items at.consumes at.appends (p.StopsAtEnd i.given) (λ t. p.Prints i.given t ⊎ EndsWhole p i.given t) (g.E.Engine.said c.close.new.engine) c.close.result (rw i.job at c.close.ensures.err i.given i.output i.stands i.sent) (c.close.ensures.said i.given i.output i.stands)
+    said_if g.W.Sink _ _ _ c.loop.sink c.close.new.sink i.given i.output c.close.new.page at.consumes at.appends (p.StopsAtEnd i.given) (λ t. p.Prints i.given t ⊎ EndsWhole p i.given t) (g.E.Engine.said c.close.new.engine) c.close.result (rw i.job at c.close.ensures.err i.given i.output i.stands i.sent) (c.close.ensures.said i.given i.output i.stands)
 
 pub returns-in_err-pass-clause-said : goal.returns-in_err-pass-clause-said
 returns-in_err-pass-clause-said g c =
@@ -94,4 +94,4 @@ returns-in_err-pass-clause-said g c =
     let read = c.in-Ok.ensures in
     let r = err_from_is_err_and c.from_residual.result c.from_residual.ensures.1 in
     let at = read_more i.going c.read_wanted.new.source c.in-Ok.count c.read_wanted.new.buffer (c.read_wanted.auto.buffer ∙ i.room) read.bound.0 read.bytes.0 c.read_wanted.ensures.counted read.failed in
-    rw (r.1, r.2) (said_of g.W.Sink _ _ _ c.loop.sink c.pass.new.sink given i.output c.pass.new.text.items at.consumes at.appends (p.Stops given) (p.Prints given) (g.E.Engine.said c.pass.new.engine) c.in_err-pass.field-0.0 (rw i.job at c.in_err-pass.ensures.err i.given i.output i.stands i.sent) (c.in_err-pass.ensures.said i.given i.output i.stands))
+    rw (r.1, r.2) (said_of g.W.Sink _ _ _ c.loop.sink c.pass.new.sink given i.output c.pass.new.page at.consumes at.appends (p.Stops given) (p.Prints given) (g.E.Engine.said c.pass.new.engine) c.in_err-pass.field-0.0 (rw i.job at c.in_err-pass.ensures.err i.given i.output i.stands i.sent) (c.in_err-pass.ensures.said i.given i.output i.stands))

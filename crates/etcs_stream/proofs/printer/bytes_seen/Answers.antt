@@ -3,4 +3,4 @@ use Rattle.etcs_stream.proofs.printer.bytes_seen.Goals as goal
 pub returns-clause-some : goal.returns-clause-some
 returns-clause-some c =
     let (e, is, encoded) = c.in-Some.ensures.item in
-    (c.in-Some.ensures.within, e, is, _, encoded, c.in_ok-write_bytes.ensures.ok)
+    (c.in-Some.ensures.within, e, is, _, encoded, c.in_ok-put.ensures.ok)

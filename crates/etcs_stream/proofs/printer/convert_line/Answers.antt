@@ -11,7 +11,7 @@ returns-in-Hex-clause-ok c s e encoded line =
 
 pub returns-in-Bin-clause-ok : goal.returns-in-Bin-clause-ok
 returns-in-Bin-clause-ok c s e encoded line =
-    rw c.in-Bin.is (on_ok_weaker c.write_bytes.result (λ page. (c.args.bytes.now, (encoded, refl), page)) c.write_bytes.ensures.ok)
+    rw c.in-Bin.is (on_ok_weaker c.put.result (λ page. (c.args.bytes.now, (encoded, refl), page)) c.put.ensures.ok)
 
 pub returns-in-Json-clause-ok : goal.returns-in-Json-clause-ok
 returns-in-Json-clause-ok c s e encoded line =

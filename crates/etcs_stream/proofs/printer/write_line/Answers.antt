@@ -1,4 +1,4 @@
-use Rattle.std.proofs.Common.{◌≡◌, ◌+◌, ◌++◌, ℕ, List, refl, ap, ◌∙◌}
+use Rattle.std.proofs.Common.{◌≡◌, ◌+◌, ◌++◌, ℕ, refl, ap, ◌∙◌}
 use Rattle.etcs_bits.specs.Bits.{bits}
 use Rattle.etcs_text.specs.Encodings.{check_line}
 use Rattle.etcs_text.specs.Entries.{EntryValue, entry_text}
@@ -7,7 +7,7 @@ use Rattle.etcs_stream.proofs.printer.write_line.Goals as goal
 
 pub returns-in_ok-put_checked-in-Check-clause-ok : goal.returns-in_ok-put_checked-in-Check-clause-ok
 returns-in_ok-put_checked-in-Check-clause-ok c s e is outcome encoded line =
-    rw c.in-Check.is (λ written. (check_line e (s.count + 1), (refl, refl), rw is at (rw (c.item_bits-bits.ensures e _ outcome) at c.in_ok-put_checked-in-Check.ensures.ok)))
+    rw c.in-Check.is (λ written. (check_line e (s.count + 1), (refl, refl), rw is at (c.in_ok-put_checked-in-Check.ensures.ok e _ outcome)))
 
 pub returns-in_ok-convert_line-in-Convert-clause-ok : goal.returns-in_ok-convert_line-in-Convert-clause-ok
 returns-in_ok-convert_line-in-Convert-clause-ok c s e is outcome encoded line =

@@ -11,7 +11,7 @@ invariant-loop-at l =
     (l.at ≤ length l.bytes)
     × (l.self.task ≡ l.fn.self.task)
     × (l.is_last ≡ false → IsUncut l.fn.self.seen.first → IsUncut l.self.seen.first)
-    × Explains HEAD.now l.fn.self.task l.fn.self.seen l.fn.text.items (placed (take l.at l.lines) (take l.at l.bytes)) l.self.seen l.text.items
+    × Explains HEAD.now l.fn.self.task l.fn.self.seen l.fn.page (placed (take l.at l.lines) (take l.at l.bytes)) l.self.seen l.page
     × ((fault : RunFault) → l.fn.self.seen.first ≡ Some fault → l.self.seen.first ≡ Some fault)
 
 abbrev pub decreases-loop-at : goal.decreases-loop-at

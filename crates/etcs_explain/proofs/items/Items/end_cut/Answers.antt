@@ -6,12 +6,12 @@ use Rattle.etcs_explain.proofs.Taking.{some_none, takes_none}
 use Rattle.etcs_explain.proofs.items.Items.end_cut.Goals as goal
 
 pub returns-then-is_empty-clause-ok : goal.returns-then-is_empty-clause-ok
-returns-then-is_empty-clause-ok c = takes_none HEAD.now c.args.self.now c.args.text.now.items
+returns-then-is_empty-clause-ok c = takes_none HEAD.now c.args.self.now c.args.page.now
 
 pub returns-in_err-is_cut-clause-err : goal.returns-in_err-is_cut-clause-err
 returns-in_err-is_cut-clause-err c =
     let p = err_from_is_err_and c.from_residual.result c.from_residual.ensures.1 in
-    let text = c.args.text.now.items in
+    let text = c.args.page.now in
     rw p.1 (some_none HEAD.now c.args.self.now _ [] [] text text refl refl)
 
 pub returns-then-branch-clause-rest : goal.returns-then-branch-clause-rest
@@ -20,4 +20,4 @@ returns-then-branch-clause-rest c other =
     absurd (other (subst (λ (z : List ℕ). IsCut c.args.self.now.explainer.task.kind z c.args.bytes.now) c.as_slice.ensures.value held))
 
 pub returns-clause-ok : goal.returns-clause-ok
-returns-clause-ok c = takes_none HEAD.now c.args.self.now c.args.text.now.items
+returns-clause-ok c = takes_none HEAD.now c.args.self.now c.args.page.now

@@ -9,8 +9,8 @@ pub returns-in_err-end-clause-err : goal.returns-in_err-end-clause-err
 returns-in_err-end-clause-err c =
     let p = err_from_is_err_and c.from_residual-in_err-end.result c.from_residual-in_err-end.ensures.1 in
     let s = c.pass.new.self in
-    rw p.1 (some_then c.in_ok-pass.ensures.ok (some_none HEAD.now s s [] [] c.pass.new.text.items c.end.new.text.items refl c.in_err-end.ensures.err))
+    rw p.1 (some_then c.in_ok-pass.ensures.ok (some_none HEAD.now s s [] [] c.pass.new.page c.end.new.page refl c.in_err-end.ensures.err))
 
 pub returns-clause-ok : goal.returns-clause-ok
 returns-clause-ok c =
-    finishes HEAD.now FOOT.now c.args.self.now c.pass.new.self c.args.text.now.items c.pass.new.text.items c.end.new.text.items c.in_ok-pass.ensures.ok (c.in_ok-pass.ensures.last refl) c.pass.ensures.same.0 c.in_ok-end.ensures.ok
+    finishes HEAD.now FOOT.now c.args.self.now c.pass.new.self c.args.page.now c.pass.new.page c.end.new.page c.in_ok-pass.ensures.ok (c.in_ok-pass.ensures.last refl) c.pass.ensures.same.0 c.in_ok-end.ensures.ok

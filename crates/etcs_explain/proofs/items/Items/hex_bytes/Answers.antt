@@ -30,7 +30,7 @@ returns-in-Err-Empty-clause-ok c =
     let s = c.args.self.now in
     let is = c.in-Err-Empty.is ∙ ap Err c.in-Err-Empty.field-0-is in
     let none = hex_empty s.explainer.task.kind s.line c.args.line.now c.line_bytes.new.buffer c.line_bytes.result is c.line_bytes.ensures.digits in
-    takes_at (sym none) (takes_none HEAD.now s c.args.text.now.items)
+    takes_at (sym none) (takes_none HEAD.now s c.args.page.now)
 
 pub returns-in-Err-NoDigits-clause-ok : goal.returns-in-Err-NoDigits-clause-ok
 returns-in-Err-NoDigits-clause-ok c =

@@ -9,5 +9,5 @@ pub returns-in_err-resize-clause-err : goal.returns-in_err-resize-clause-err
 returns-in_err-resize-clause-err c =
     let p = err_from_is_err_and c.from_residual.result c.from_residual.ensures.1 in
     let s = c.args.self.now in
-    let text = c.args.text.now.items in
+    let text = c.args.page.now in
     rw p.1 (some_none HEAD.now s _ (hex_tokens s.explainer.task.kind s.line c.args.line.now) [] text text refl refl)

@@ -13,14 +13,14 @@ returns-in-Json-clause-ok c =
     let s = c.args.self.now in
     let line = c.args.line.now in
     let e = ap (λ f. short_tokens s.explainer.task.kind f s.line line) c.in-Json.is ∙ json_none s.explainer.task.kind s.line line (eqb-true (length line) 0 (sym c.is_empty.ensures ∙ c.if-is_empty.true)) in
-    takes_at (sym e) (takes_none HEAD.now s c.args.text.now.items)
+    takes_at (sym e) (takes_none HEAD.now s c.args.page.now)
 
 pub returns-in_err-json_line-in-Json-2-clause-err : goal.returns-in_err-json_line-in-Json-2-clause-err
 returns-in_err-json_line-in-Json-2-clause-err c =
     let p = err_from_is_err_and c.from_residual.result c.from_residual.ensures.1 in
     let s = c.args.self.now in
     let more = short_tokens s.explainer.task.kind s.explainer.task.from s.line c.args.line.now in
-    rw p.1 (some_none HEAD.now s _ more [] c.args.text.now.items c.json_line.new.text.items c.json_line.ensures.task c.in_err-json_line-in-Json-2.ensures.err)
+    rw p.1 (some_none HEAD.now s _ more [] c.args.page.now c.json_line.new.page c.json_line.ensures.task c.in_err-json_line-in-Json-2.ensures.err)
 
 pub returns-in_ok-json_line-in-Json-2-clause-ok : goal.returns-in_ok-json_line-in-Json-2-clause-ok
 returns-in_ok-json_line-in-Json-2-clause-ok c =
@@ -28,7 +28,7 @@ returns-in_ok-json_line-in-Json-2-clause-ok c =
     let line = c.args.line.now in
     let json = c.in-Json-2.is in
     let e : short_tokens s.explainer.task.kind s.explainer.task.from s.line line ≡ of_line s.line line ∷ [] = ap (λ f. short_tokens s.explainer.task.kind f s.line line) json ∙ json_some s.explainer.task.kind s.line line (λ x. let w = sym c.if-is_empty.false ∙ c.is_empty.ensures ∙ ap (λ (l : List ℕ). length l == 0) x in absurd cc) in
-    takes_at (sym e) (takes_line HEAD.now s _ c.args.text.now.items c.json_line.new.text.items s.line line (c.requires.json json) c.json_line.ensures.task refl refl c.in_ok-json_line-in-Json-2.ensures.ok)
+    takes_at (sym e) (takes_line HEAD.now s _ c.args.page.now c.json_line.new.page s.line line (c.requires.json json) c.json_line.ensures.task refl refl c.in_ok-json_line-in-Json-2.ensures.ok)
 
 pub returns-in-Hex-clause-ok : goal.returns-in-Hex-clause-ok
 returns-in-Hex-clause-ok c =

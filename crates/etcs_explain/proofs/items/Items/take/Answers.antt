@@ -13,15 +13,15 @@ returns-in_err-end_cut-clause-err c =
 pub returns-in_err-add-clause-err : goal.returns-in_err-add-clause-err
 returns-in_err-add-clause-err c =
     let p = err_from_is_err_and c.from_residual-in_err-add.result c.from_residual-in_err-add.ensures.1 in
-    let text = c.end_cut.new.text.items in
+    let text = c.end_cut.new.page in
     rw p.1 (some_after c.in_ok-end_cut.ensures.ok (some_none HEAD.now c.end_cut.new.self c.add.new.self (map (of_byte c.args.self.now.line) c.args.bytes.now) [] text text c.add.ensures.same.0 refl))
 
 pub returns-clause-ok : goal.returns-clause-ok
 returns-clause-ok c =
-    let added = takes_at (ap (λ (n : ℕ). map (of_byte n) c.args.bytes.now) c.end_cut.ensures.same.1) (c.in_ok-add.ensures.ok c.end_cut.new.text.items) in
+    let added = takes_at (ap (λ (n : ℕ). map (of_byte n) c.args.bytes.now) c.end_cut.ensures.same.1) (c.in_ok-add.ensures.ok c.end_cut.new.page) in
     on_ok_weaker c.pass.result (λ k. takes_then (takes_both c.in_ok-end_cut.ensures.ok added) k) c.pass.ensures.ok
 
 pub returns-clause-err : goal.returns-clause-err
 returns-clause-err c =
-    let added = takes_at (ap (λ (n : ℕ). map (of_byte n) c.args.bytes.now) c.end_cut.ensures.same.1) (c.in_ok-add.ensures.ok c.end_cut.new.text.items) in
+    let added = takes_at (ap (λ (n : ℕ). map (of_byte n) c.args.bytes.now) c.end_cut.ensures.same.1) (c.in_ok-add.ensures.ok c.end_cut.new.page) in
     on_err_weaker c.pass.result (λ k. some_then (takes_both c.in_ok-end_cut.ensures.ok added) k) c.pass.ensures.err

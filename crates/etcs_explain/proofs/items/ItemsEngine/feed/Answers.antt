@@ -16,7 +16,7 @@ pub returns-in_err-or_memory-clause-err : goal.returns-in_err-or_memory-clause-e
 returns-in_err-or_memory-clause-err c given output h =
     let p = err_from_is_err_and c.from_residual.result c.from_residual.ensures.1 in
     let s = c.args.self.now in
-    let text = c.args.text.now.items in
+    let text = c.args.page.now in
     let piece = c.args.piece.now in
     let some = some_none HEAD.now s c.add.new.self (map (of_byte s.line) piece) [] text text c.add.ensures.same.0 refl in
     rw p.1 (stops p.0 (λ f. IsOfEngine f × (explanations HEAD.now FOOT.now s.explainer.task).Stops (given ++ piece) (output ++ text) f) (p.2 ∙ c.in_err-or_memory.ensures.err.0) (tt, inl (refl, bytes_print HEAD.now s c.add.new.self given piece output text text h c.requires.empty c.add.ensures.same.0 some)))
@@ -26,8 +26,8 @@ returns-in_err-or_memory-2-clause-err c given output h =
     let p = err_from_is_err_and c.from_residual-in_err-or_memory-2.result c.from_residual-in_err-or_memory-2.ensures.1 in
     let s = c.args.self.now in
     let q = c.pass.new.self in
-    let text = c.args.text.now.items in
-    let after = c.pass.new.text.items in
+    let text = c.args.page.now in
+    let after = c.pass.new.page in
     let piece = c.args.piece.now in
     let added = was_ok c.add.result _ _ c.in_ok-or_memory.ensures.ok c.add.ensures.ok text in
     let some = some_then added (was_err c.pass.result _ c.in_err-or_memory-2.ensures.err.1 c.pass.ensures.err) in
@@ -38,8 +38,8 @@ returns-in_err-or_memory-in-Some-clause-err c given output h =
     let p = err_from_is_err_and c.from_residual-in_err-or_memory-in-Some.result c.from_residual-in_err-or_memory-in-Some.ensures.1 in
     let s = c.args.self.now in
     let u = c.finish.new.self in
-    let text = c.args.text.now.items in
-    let after = c.finish.new.text.items in
+    let text = c.args.page.now in
+    let after = c.finish.new.page in
     let piece = c.args.piece.now in
     let added = was_ok c.add.result _ _ c.in_ok-or_memory.ensures.ok c.add.ensures.ok text in
     let passed = was_ok c.pass.result _ _ c.in_ok-or_memory-2.ensures.ok c.pass.ensures.ok in
@@ -51,8 +51,8 @@ returns-in_ok-or_memory-in-Some-clause-err c given output h =
     let s = c.args.self.now in
     let a = c.add.new.self in
     let q = c.pass.new.self in
-    let text = c.args.text.now.items in
-    let after = c.finish.new.text.items in
+    let text = c.args.page.now in
+    let after = c.finish.new.page in
     let piece = c.args.piece.now in
     let fault = c.in-Some.fault in
     let first = c.in_ok-or_memory-in-Some.field-0 in
@@ -63,14 +63,14 @@ returns-in_ok-or_memory-in-Some-clause-err c given output h =
     let kept = was_value c.finish.result first (λ o. o ≡ Some fault) was (c.finish.ensures.kept fault c.in-Some.is) in
     let before = none_uncut a.explainer.seen.first (ap (λ (z : Seen). z.first) c.add.ensures.seen ∙ h.fine) in
     let uncut = was_ok c.pass.result _ _ c.in_ok-or_memory-2.ensures.ok (c.pass.ensures.uncut refl before) in
-    let broken = bytes_break HEAD.now FOOT.now s q given piece output text c.pass.new.text.items after first fault h c.requires.empty (c.pass.ensures.same.0 ∙ c.add.ensures.same.0) (takes_then added passed) done kept (subst IsUncut (c.in-Some.is ∙ sym kept) uncut) in
+    let broken = bytes_break HEAD.now FOOT.now s q given piece output text c.pass.new.page after first fault h c.requires.empty (c.pass.ensures.same.0 ∙ c.add.ensures.same.0) (takes_then added passed) done kept (subst IsUncut (c.in-Some.is ∙ sym kept) uncut) in
     (breaks_of HEAD.now FOOT.now s.explainer.task (given ++ piece) (output ++ after) fault broken, inr broken)
 
 pub returns-in-None-clause-ok : goal.returns-in-None-clause-ok
 returns-in-None-clause-ok c given output h =
     let s = c.args.self.now in
-    let text = c.args.text.now.items in
+    let text = c.args.page.now in
     let added = was_ok c.add.result _ _ c.in_ok-or_memory.ensures.ok c.add.ensures.ok text in
     let passed = was_ok c.pass.result _ _ c.in_ok-or_memory-2.ensures.ok c.pass.ensures.ok in
     let short = was_ok c.pass.result _ _ c.in_ok-or_memory-2.ensures.ok c.pass.ensures.short in
-    bytes_piece HEAD.now s c.pass.new.self given c.args.piece.now output text c.pass.new.text.items h c.requires.empty (c.pass.ensures.same.0 ∙ c.add.ensures.same.0) (c.pass.ensures.same.1 ∙ c.add.ensures.same.1) (takes_then added passed) short c.in-None.is
+    bytes_piece HEAD.now s c.pass.new.self given c.args.piece.now output text c.pass.new.page h c.requires.empty (c.pass.ensures.same.0 ∙ c.add.ensures.same.0) (c.pass.ensures.same.1 ∙ c.add.ensures.same.1) (takes_then added passed) short c.in-None.is

@@ -9,10 +9,10 @@ use Rattle.etcs_explain.proofs.items.ItemsEngine.finish.Goals as goal
 pub returns-clause-ok : goal.returns-clause-ok
 returns-clause-ok c given output h =
     let s = c.args.self.now in
-    ends_ok c.finish.result c.or_memory.result _ _ c.or_memory.ensures.ok (λ first f. bytes_end HEAD.now FOOT.now s given output c.args.text.now.items c.finish.new.text.items first h c.requires.empty f) c.finish.ensures.ok
+    ends_ok c.finish.result c.or_memory.result _ _ c.or_memory.ensures.ok (λ first f. bytes_end HEAD.now FOOT.now s given output c.args.page.now c.finish.new.page first h c.requires.empty f) c.finish.ensures.ok
 
 pub returns-clause-err : goal.returns-clause-err
 returns-clause-err c given output h =
     let s = c.args.self.now in
-    memory_err c.finish.result c.or_memory.result _ (λ f. IsOfEngine f × (explanations HEAD.now FOOT.now s.explainer.task).StopsAtEnd given (output ++ c.finish.new.text.items) f) c.or_memory.ensures.err c.finish.ensures.err
-    (λ p. (tt, (refl, bytes_print_all HEAD.now s c.finish.new.self given output c.args.text.now.items c.finish.new.text.items h c.requires.empty c.finish.ensures.task p)))
+    memory_err c.finish.result c.or_memory.result _ (λ f. IsOfEngine f × (explanations HEAD.now FOOT.now s.explainer.task).StopsAtEnd given (output ++ c.finish.new.page) f) c.or_memory.ensures.err c.finish.ensures.err
+    (λ p. (tt, (refl, bytes_print_all HEAD.now s c.finish.new.self given output c.args.page.now c.finish.new.page h c.requires.empty c.finish.ensures.task p)))

@@ -14,8 +14,8 @@ returns-in_err-or_memory-clause-err c lines output h l number =
     let p = err_from_is_err_and c.from_residual.result c.from_residual.ensures.1 in
     let s = c.args.self.now in
     let raw = c.args.line.now in
-    let text = c.args.text.now.items in
-    let after = c.handle.new.text.items in
+    let text = c.args.page.now in
+    let after = c.handle.new.page in
     let some = was_err c.handle.result _ c.in_err-or_memory.ensures.err.1 c.handle.ensures.err in
     rw p.1 (stops p.0 (λ f. IsOfEngine f × (explanations HEAD.now FOOT.now s.explainer.task).StopsAtEnd (lines_text lines ++ raw) (output ++ after) f) (p.2 ∙ c.in_err-or_memory.ensures.err.0) (tt, (refl, last_prints HEAD.now s c.handle.new.self lines raw c.without_cr.result.now output text after (lines_empty HEAD.now s lines output text c.requires.empty h) l c.without_cr.ensures c.handle.ensures.task some)))
 
@@ -24,9 +24,9 @@ returns-clause-ok c lines output h l =
     let s = c.args.self.now in
     let q = c.handle.new.self in
     let raw = c.args.line.now in
-    let text = c.args.text.now.items in
-    let mid = c.handle.new.text.items in
-    let after = c.finish.new.text.items in
+    let text = c.args.page.now in
+    let mid = c.handle.new.page in
+    let after = c.finish.new.page in
     let was = c.in_ok-or_memory.ensures.ok in
     let m = took_line HEAD.now s q lines raw c.without_cr.result.now output text mid (lines_empty HEAD.now s lines output text c.requires.empty h) l c.without_cr.ensures c.handle.ensures.task c.handle.ensures.line (was_ok c.handle.result _ _ was c.handle.ensures.ok) (was_ok c.handle.result _ _ was c.handle.ensures.short) (λ j. was_ok c.handle.result _ _ was (c.handle.ensures.json j)) in
     ends_ok c.finish.result c.or_memory-2.result _ (λ o. Ends HEAD.now FOOT.now s.explainer.task (lines_text lines ++ raw) (output ++ after) o) c.or_memory-2.ensures.ok (λ first f. subst (λ (z : Task). Ends HEAD.now FOOT.now z (lines_text lines ++ raw) (output ++ after) first) c.handle.ensures.task (lines_end HEAD.now FOOT.now q lines raw output mid after first m f)) c.finish.ensures.ok
@@ -36,9 +36,9 @@ returns-clause-err c lines output h l number =
     let s = c.args.self.now in
     let q = c.handle.new.self in
     let raw = c.args.line.now in
-    let text = c.args.text.now.items in
-    let mid = c.handle.new.text.items in
-    let after = c.finish.new.text.items in
+    let text = c.args.page.now in
+    let mid = c.handle.new.page in
+    let after = c.finish.new.page in
     let was = c.in_ok-or_memory.ensures.ok in
     let m = took_line HEAD.now s q lines raw c.without_cr.result.now output text mid (lines_empty HEAD.now s lines output text c.requires.empty h) l c.without_cr.ensures c.handle.ensures.task c.handle.ensures.line (was_ok c.handle.result _ _ was c.handle.ensures.ok) (was_ok c.handle.result _ _ was c.handle.ensures.short) (λ j. was_ok c.handle.result _ _ was (c.handle.ensures.json j)) in
     memory_err c.finish.result c.or_memory-2.result _ (λ f. IsOfEngine f × (explanations HEAD.now FOOT.now s.explainer.task).StopsAtEnd (lines_text lines ++ raw) (output ++ after) f) c.or_memory-2.ensures.err c.finish.ensures.err

@@ -9,10 +9,10 @@ use Rattle.etcs_explain.proofs.items.ItemsLineHandler.refuse_long.Goals as goal
 
 pub returns-clause-ok : goal.returns-clause-ok
 returns-clause-ok c lines part output h l m =
-    long_ok c.long_line.result c.or_memory.result HEAD.now c.args.self.now _ lines part output c.args.text.now.items c.long_line.new.text.items c.or_memory.ensures.ok h l m c.long_line.ensures.task refl refl refl c.long_line.ensures.ok
+    long_ok c.long_line.result c.or_memory.result HEAD.now c.args.self.now _ lines part output c.args.page.now c.long_line.new.page c.or_memory.ensures.ok h l m c.long_line.ensures.task refl refl refl c.long_line.ensures.ok
 
 pub returns-clause-err : goal.returns-clause-err
 returns-clause-err c lines part more output h l m number =
     let s = c.args.self.now in
-    memory_err c.long_line.result c.or_memory.result _ (λ f. IsOfEngine f × (explanations HEAD.now FOOT.now s.explainer.task).Stops (lines_text lines ++ (part ++ more)) (output ++ c.long_line.new.text.items) f) c.or_memory.ensures.err c.long_line.ensures.err
-    (λ p. (tt, inl (refl, subst (λ (z : List ℕ). OutputsFirst HEAD.now s.explainer.task (lines_text lines ++ (part ++ more)) (output ++ z)) (sym p) (long_prints HEAD.now s lines (part ++ more) (output ++ c.args.text.now.items) h))))
+    memory_err c.long_line.result c.or_memory.result _ (λ f. IsOfEngine f × (explanations HEAD.now FOOT.now s.explainer.task).Stops (lines_text lines ++ (part ++ more)) (output ++ c.long_line.new.page) f) c.or_memory.ensures.err c.long_line.ensures.err
+    (λ p. (tt, inl (refl, subst (λ (z : List ℕ). OutputsFirst HEAD.now s.explainer.task (lines_text lines ++ (part ++ more)) (output ++ z)) (sym p) (long_prints HEAD.now s lines (part ++ more) (output ++ c.args.page.now) h))))

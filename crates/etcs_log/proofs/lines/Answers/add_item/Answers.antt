@@ -1,4 +1,5 @@
 use Rattle.std.proofs.Common.{ap, refl, sym, ◌∙◌}
+use Rattle.std.proofs.lemmas.Result.{on_ok_weaker}
 use Rattle.etcs_runs.specs.Digits.{line_front}
 use Rattle.etcs_text.specs.Entries.{entry_value}
 use Rattle.etcs_log.specs.declared.job.LogJob.{LogJob}
@@ -16,7 +17,7 @@ pub returns-in-Json-clause-ok : goal.returns-in-Json-clause-ok
 returns-in-Json-clause-ok c =
     let s = c.args.self.now in
     let a = c.add_bytes in
-    let w = c.append_json_item in
+    let w = c.write_json_item in
     let json = ap (λ (z : LogJob). z.good) (sym a.ensures.job) ∙ c.in-Json.is in
     let mid = json_alone s.job.good s.job.kinds c.args.kind c.args.bytes.now c.args.text.now.items a.new.text.items json c.in_ok-add_bytes.ensures.ok in
-    counted_json w.result s.job s.line a.new.self.line c.args.kind (line_front c.args.line.now) c.line_front.result.now (entry_value c.args.entry.now) s.seen.tally a.new.self.seen.tally c.args.text.now.items a.new.text.items w.new.out.items json a.ensures.tally mid a.ensures.line c.line_front.ensures.value w.ensures.ok
+    counted_json w.result s.job s.line a.new.self.line c.args.kind (line_front c.args.line.now) c.line_front.result.now (entry_value c.args.entry.now) s.seen.tally a.new.self.seen.tally c.args.text.now.items a.new.text.items w.new.out.items json a.ensures.tally mid a.ensures.line c.line_front.ensures.value (on_ok_weaker w.result (λ h. (_, refl, h)) w.ensures)

@@ -1,4 +1,5 @@
 use Rattle.std.proofs.Common.{◌∙◌, sym}
+use Rattle.std.proofs.lemmas.Bool.Decides.{not_from_Decides}
 use Rattle.etcs_runs.specs.Digits.{line_front}
 use Rattle.etcs_log.proofs.Answering.{tried_refused, tried_seen, tried_wrong}
 use Rattle.etcs_log.proofs.lines.Answers.take_item.Goals as goal
@@ -8,14 +9,14 @@ returns-then-not-may_have-clause-ok c =
     let s = c.args.self.now in
     tried_wrong c.args.kind c.args.bytes.now s.job s.line (line_front c.args.line.now) s.seen c.args.text.now.items (sym c.may_have.ensures ∙ c.if-not-may_have.true)
 
-pub returns-then-sees-clause-ok : goal.returns-then-sees-clause-ok
-returns-then-sees-clause-ok c =
+pub returns-then-not-branch-clause-ok : goal.returns-then-not-branch-clause-ok
+returns-then-not-branch-clause-ok c =
+    let s = c.args.self.now in
+    let b = c.in_ok-is_item in
+    tried_refused s.job s.line (line_front c.args.line.now) c.args.kind c.args.bytes.now s.seen c.args.text.now.items (λ e is. not_from_Decides b.field-0 b.ensures c.if-not-branch.true (e, is))
+
+pub returns-clause-ok : goal.returns-clause-ok
+returns-clause-ok c =
     let s = c.args.self.now in
     let a = c.add_bytes in
-    let e = c.sees.ensures in
-    tried_seen s.job s.line (line_front c.args.line.now) c.args.kind c.args.bytes.now s.seen a.new.self.seen c.args.text.now.items a.new.text.items c.are_bytes.ensures (e.alone c.if-sees.true) (e.item c.if-sees.true) a.ensures.tally c.in_ok-add_bytes.ensures.ok
-
-pub returns-then-refuses-clause-ok : goal.returns-then-refuses-clause-ok
-returns-then-refuses-clause-ok c =
-    let s = c.args.self.now in
-    tried_refused s.job s.line (line_front c.args.line.now) c.args.kind c.args.bytes.now s.seen c.args.text.now.items (c.refuses.ensures c.if-refuses.true)
+    tried_seen s.job s.line (line_front c.args.line.now) c.args.kind c.args.bytes.now s.seen a.new.self.seen c.args.text.now.items a.new.text.items c.are_bytes.ensures (sym c.needs_values.ensures ∙ c.if-needs_values.false) (c.in_ok-is_item.ensures.0 c.if-not-branch.false) a.ensures.tally c.in_ok-add_bytes.ensures.ok

@@ -1,4 +1,4 @@
-use Rattle.std.proofs.Common.{◌≡◌, ◌||◌, true, refl, sym}
+use Rattle.std.proofs.Common.{◌≡◌, ◌||◌, true, refl}
 use Rattle.etcs_runs.specs.Digits.{line_front}
 use Rattle.etcs_log.specs.Candidates.{message_way}
 use Rattle.etcs_log.proofs.Answering.{first_of, second_of, tried_asked}

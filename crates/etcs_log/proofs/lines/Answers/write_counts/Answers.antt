@@ -10,9 +10,9 @@ returns-then-not-self-clause-ok c =
 pub returns-then-is_written-clause-ok : goal.returns-then-is_written-clause-ok
 returns-then-is_written-clause-ok c =
     let s = c.args.self.now in
-    on_ok c.append_counts.result _ (counts_elsewhere s.job s.seen.tally c.args.text.now.items c.args.text.now.items (sym c.is_written.ensures ∙ c.if-is_written.true) refl)
+    on_ok c.write_tally.result _ (counts_elsewhere s.job s.seen.tally c.args.text.now.items c.args.text.now.items (sym c.is_written.ensures ∙ c.if-is_written.true) refl)
 
 pub returns-else-is_written-clause-ok : goal.returns-else-is_written-clause-ok
 returns-else-is_written-clause-ok c =
     let s = c.args.self.now in
-    counts_here c.append_counts-else-is_written.result s.job s.seen.tally c.args.text.now.items c.append_counts-else-is_written.new.out.items _ (sym c.is_written.ensures ∙ c.if-is_written.false) c.if-not-self.false c.append_counts-else-is_written.ensures.ok
+    counts_here c.write_tally-else-is_written.result s.job s.seen.tally c.args.text.now.items c.write_tally-else-is_written.new.out.items _ (sym c.is_written.ensures ∙ c.if-is_written.false) c.if-not-self.false c.write_tally-else-is_written.ensures

@@ -1,9 +1,10 @@
-use Rattle.std.proofs.Common.{◌+◌, arith}
-use Rattle.etcs_log.proofs.Answering.{answered_none}
-use Rattle.etcs_log.proofs.Counting.{long_line}
+use Rattle.std.proofs.Common.{◌+◌}
+use Rattle.std.proofs.lemmas.Result.{on_ok_weaker}
+use Rattle.etcs_log.proofs.Counting.{answered_on}
 use Rattle.etcs_log.proofs.log.LogLines.take.Goals as goal
 
-pub returns-then-line-gt-MOST_LINE-clause-ok : goal.returns-then-line-gt-MOST_LINE-clause-ok
-returns-then-line-gt-MOST_LINE-clause-ok c =
+pub returns-clause-ok : goal.returns-clause-ok
+returns-clause-ok c =
     let s = c.args.self.now.answers in
-    answered_none s.job (s.line + 1) c.args.line.now s.seen c.refuse.new.self.seen c.args.text.now.items c.refuse.new.text.items c.refuse.result (long_line s.job.kinds c.args.line.now (omega arith)) c.refuse.ensures.ok
+    let w = c.write_line.new.self in
+    rw c.pass_on.ensures.answers (on_ok_weaker c.pass_on.result (λ added. answered_on s.job (s.line + 1) c.args.line.now s.seen w.answers.seen w.text.items c.args.page.now c.pass_on.new.page c.in_ok-write_line.ensures.ok added) c.pass_on.ensures.ok)

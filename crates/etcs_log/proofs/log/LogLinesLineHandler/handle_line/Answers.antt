@@ -12,9 +12,9 @@ pub returns-in-Ok-clause-ok : goal.returns-in-Ok-clause-ok
 returns-in-Ok-clause-ok c lines raw output h l e =
     let s = c.args.self.now.answers in
     let n = c.take.new.self.answers in
-    took_more s.job n.job s.line n.line s.seen n.seen lines raw c.args.line.now output c.args.text.now.items c.take.new.text.items h l e c.take.ensures.job c.take.ensures.line c.in-Ok.ensures.ok
+    took_more s.job n.job s.line n.line s.seen n.seen lines raw c.args.line.now output c.args.page.now c.take.new.page h l e c.take.ensures.job c.take.ensures.line c.in-Ok.ensures.ok
 
 pub returns-in-Err-clause-err : goal.returns-in-Err-clause-err
 returns-in-Err-clause-err c lines raw more output h l e m =
     let s = c.args.self.now.answers in
-    (tt, (refl, took_front s.job s.line s.seen lines (raw ++ 10 ∷ more) output c.args.text.now.items c.take.new.text.items h c.in-Err.ensures.err))
+    (tt, (refl, took_front s.job s.line s.seen lines (raw ++ 10 ∷ more) output c.args.page.now c.take.new.page h c.in-Err.ensures.err))

@@ -14,10 +14,10 @@ overflow_add-self g c =
 pub handle_line-requires : goal.handle_line-requires
 handle_line-requires g c =
     let (given, output, h, short) = c.requires.stands in
-    record { took = (h.lines, output ++ c.args.text.now.items, short_took h (omega (arith, c.if-self-eq0.true)), omega (arith, few_lines h, short)) }
+    record { took = (h.lines, output ++ c.args.page.now, short_took h (omega (arith, c.if-self-eq0.true)), omega (arith, few_lines h, short)) }
 
-pub returns-then-after-ge65-clause-ok : goal.returns-then-after-ge65-clause-ok
-returns-then-after-ge65-clause-ok g c given output h =
+pub returns-then-after-beyond-clause-ok : goal.returns-then-after-beyond-clause-ok
+returns-then-after-beyond-clause-ok g c given output h =
     let part = c.args.part.now in
     let zero = c.if-self-eq0.true in
     let none = no_part h zero in
@@ -25,13 +25,13 @@ returns-then-after-ge65-clause-ok g c given output h =
     then_ok c.handle_line.result (line_taken h.lines part given part is (short_begun h (omega (arith, zero)) ∙ none) zero (omega (arith, h.line_is)))
     (c.handle_line.ensures.ok h.lines part output (short_took h (omega (arith, zero))) c.requires.line c.without_cr.ensures)
 
-pub returns-then-after-ge65-clause-err : goal.returns-then-after-ge65-clause-err
-returns-then-after-ge65-clause-err g c more given output h =
+pub returns-then-after-beyond-clause-err : goal.returns-then-after-beyond-clause-err
+returns-then-after-beyond-clause-err g c more given output h =
     let part = c.args.part.now in
     let p = g.T.LineHandler.promises (g.T.LineHandler.job c.args.self.now.handler) in
     let zero = c.if-self-eq0.true in
     let is : given ++ part ≡ lines_text h.lines ++ part = more_text h part ∙ ap (λ (z : List ℕ). lines_text h.lines ++ (z ++ part)) (no_part h zero) in
-    line_stops h.lines part given part is (λ (z : List ℕ). IfFault c.handle_line.result (p.Stops z (output ++ c.handle_line.new.text.items))) more
+    line_stops h.lines part given part is (λ (z : List ℕ). IfFault c.handle_line.result (p.Stops z (output ++ c.handle_line.new.page))) more
     (c.handle_line.ensures.err h.lines part more output (short_took h (omega (arith, zero))) c.requires.line c.without_cr.ensures (omega (arith, h.line_is)))
 
 pub returns-in_err-keep-clause-said : goal.returns-in_err-keep-clause-said
@@ -59,7 +59,7 @@ give_kept-requires-clause-line g c =
 pub returns-in_err-give_kept-clause-err : goal.returns-in_err-give_kept-clause-err
 returns-in_err-give_kept-clause-err g c more given output h =
     let p = g.T.LineHandler.promises (g.T.LineHandler.job c.keep.new.self.handler) in
-    let text = output ++ c.give_kept.new.text.items in
+    let text = output ++ c.give_kept.new.page in
     let e = c.in_err-give_kept.field-0.0 in
     let whole = c.in_ok-keep.ensures.ok given output h in
     let took = short_took whole (omega (arith, c.most.ensures.value, c.if-self-most.true)) in
@@ -85,10 +85,10 @@ returns-clause-ok g c given output h =
       | then-self-most+in_ok-give_kept w ↦
           let took = short_took whole (omega (arith, c.most.ensures.value, w.if-self-most.true)) in
           let begun = short_begun whole (omega (arith, c.most.ensures.value, w.if-self-most.true)) in
-          rw (w.self-is, w.text-is)
+          rw (w.self-is, w.page-is)
           (line_taken whole.lines whole.part given part whole.given_is c.clear.ensures.items refl (omega (arith, whole.line_is))
-          (subst (λ (z : List ℕ). g.T.LineHandler.took w.give_kept.new.handler (whole.lines ++ z ∷ []) (output ++ w.give_kept.new.text.items)) begun (w.in_ok-give_kept.ensures.ok whole.lines output took)))
+          (subst (λ (z : List ℕ). g.T.LineHandler.took w.give_kept.new.handler (whole.lines ++ z ∷ []) (output ++ w.give_kept.new.page)) begun (w.in_ok-give_kept.ensures.ok whole.lines output took)))
       | else-self-most w ↦
-          rw (w.self-is, w.text-is)
+          rw (w.self-is, w.page-is)
           (line_taken whole.lines whole.part given part whole.given_is c.clear.ensures.items refl (omega (arith, whole.line_is)) (whole_took whole (omega (arith, c.most.ensures.value, w.if-self-most.false))))
     ]

@@ -15,7 +15,7 @@ overflow_add-self-then-self-most g c =
 pub refuse_long-requires : goal.refuse_long-requires
 refuse_long-requires g c =
     let (given, output, h, short) = c.requires.stands in
-    record { took = (h.lines, output ++ c.args.text.now.items, short_took h (omega (arith, c.most-most.ensures.value, c.if-before-most.false)), omega (arith, few_lines h, short)) }
+    record { took = (h.lines, output ++ c.args.page.now, short_took h (omega (arith, c.most-most.ensures.value, c.if-before-most.false)), omega (arith, few_lines h, short)) }
 
 pub returns-then-self-most-clause-ok : goal.returns-then-self-most-clause-ok
 returns-then-self-most-clause-ok g c given output h =
@@ -31,7 +31,7 @@ returns-then-self-most-clause-err g c more given output h =
     let p = g.T.LineHandler.promises (g.T.LineHandler.job c.args.self.now.handler) in
     let took = short_took h (omega (arith, c.most-most.ensures.value, c.if-before-most.false)) in
     let long = longer h part (omega (arith, c.most-most.ensures.value, c.if-self-most.true)) in
-    keep_refused h part (λ (z : List ℕ). IfFault c.refuse_long.result (p.Stops z (output ++ c.refuse_long.new.text.items))) more
+    keep_refused h part (λ (z : List ℕ). IfFault c.refuse_long.result (p.Stops z (output ++ c.refuse_long.new.page))) more
     (c.refuse_long.ensures.err h.lines (h.part ++ part) more output took (more_line h part c.requires.line) long (omega (arith, h.line_is)))
 
 pub returns-in-Ok-clause-ok : goal.returns-in-Ok-clause-ok

@@ -1,5 +1,5 @@
-use Rattle.std.proofs.Common.{◌≡◌, ℕ, ◌+◌, ◌-◌, List, [], ◌∷◌, ◌++◌, length, take, drop, refl, sym, ap, subst, ◌∙◌, arith, append_assoc, length-append}
-use Rattle.std.proofs.lemmas.List.{take-append-drop}
+use Rattle.std.proofs.Common.{◌≡◌, ℕ, ◌+◌, ◌-◌, List, [], ◌++◌, length, take, drop, refl, sym, ap, subst, ◌∙◌, arith, length-append}
+use Rattle.std.proofs.lemmas.List.{append-nil, take-append-drop}
 use Rattle.std.proofs.lemmas.Result.{err_from_is_err_and}
 use Rattle.etcs_runs.specs.Faults.{IsOfEngine}
 use Rattle.etcs_runs.specs.Lines.{lines_text}
@@ -10,14 +10,17 @@ use Rattle.etcs_runs.proofs.cutter.Lines.take_lines.Goals as goal
 pub handle_lines-requires-clause-took : goal.handle_lines-requires-clause-took
 handle_lines-requires-clause-took g c =
     let (given, output, h, short) = c.requires.stands in
-    (h.lines, output ++ c.args.text.now.items, short_took h (omega (arith, c.if-self-gt0.false)), omega (arith, few_lines h, short))
+    (h.lines, output ++ c.args.page.now, short_took h (omega (arith, c.if-self-gt0.false)), omega (arith, few_lines h, short))
+
+pub returns-then-self-gt0-clause-ok : goal.returns-then-self-gt0-clause-ok
+returns-then-self-gt0-clause-ok g c = ([], refl, λ given output h. rw (append-nil given) h)
 
 pub returns-in_err-count-clause-err : goal.returns-in_err-count-clause-err
 returns-in_err-count-clause-err g c given output h =
     let p = g.T.LineHandler.promises (g.T.LineHandler.job c.args.self.now.handler) in
     let piece = c.args.piece.now in
     let whole = length piece - c.args.after in
-    let text = output ++ c.handle_lines.new.text.items in
+    let text = output ++ c.handle_lines.new.page in
     let e = c.in_err-count.field-0.0 in
     let zero : c.args.self.now.count ≡ 0 = omega (arith, c.if-self-gt0.false) in
     let r = err_from_is_err_and c.from_residual.result c.from_residual.ensures.1 in

@@ -11,7 +11,7 @@ use Rattle.etcs_runs.proofs.cutter.LinesEngine.feed.Goals as goal
 pub returns-in_err-rest-clause-said : goal.returns-in_err-rest-clause-said
 returns-in_err-rest-clause-said g c given output h =
     let r = err_from_is_err_and c.from_residual.result c.from_residual.ensures.1 in
-    rw r.1 (c.in_err-rest.ensures.said given output (none_output (Stands g.T.LineHandler c.args.self.now given) output c.args.text.now.items c.requires.empty h))
+    rw r.1 (c.in_err-rest.ensures.said given output (none_output (Stands g.T.LineHandler c.args.self.now given) output c.args.page.now c.requires.empty h))
 
 pub loop-line-init : goal.loop-line-init
 loop-line-init g c =
@@ -21,7 +21,7 @@ loop-line-init g c =
       front = front;
       job_is = c.take_lines.ensures.job;
       all = is;
-      stands = λ given output h. stands given output (none_output (Stands g.T.LineHandler start given) output c.args.text.now.items c.requires.empty h);
+      stands = λ given output h. stands given output (none_output (Stands g.T.LineHandler start given) output c.args.page.now c.requires.empty h);
     }
 
 pub loop-line-preserved : goal.loop-line-preserved
@@ -36,7 +36,7 @@ loop-line-preserved g c =
       job_is = c.take_lines-in-Some.ensures.job ∙ ended.job ∙ before.job_is;
       all = cut_lines c.args.piece.now before.front c.loop-line.rest.now line c.in-Some.beyond.now front _ before.all c.in-Some.ensures.some.0 is;
       stands = λ given output h. (
-          subst (λ (z : List ℕ). Stands g.T.LineHandler c.take_lines-in-Some.new.self z (output ++ c.take_lines-in-Some.new.text.items)) (more_given given before.front ends front)
+          subst (λ (z : List ℕ). Stands g.T.LineHandler c.take_lines-in-Some.new.self z (output ++ c.take_lines-in-Some.new.page)) (more_given given before.front ends front)
           (stands ((given ++ before.front) ++ ends) output (ended.ok (given ++ before.front) output (before.stands given output h)))
           );
     }
@@ -91,7 +91,7 @@ returns-in_err-rest-2-clause-err g c given output h =
     let line = c.in-Some.line.now in
     let ends = line ++ 10 ∷ [] in
     let beyond = c.in-Some.beyond.now in
-    let text = output ++ c.take_lines-in-Some.new.text.items in
+    let text = output ++ c.take_lines-in-Some.new.page in
     let e = c.in_err-rest-2.field-0.0 in
     let r = err_from_is_err_and c.from_residual-in_err-rest-2.result c.from_residual-in_err-rest-2.ensures.1 in
     let cut = cut_line piece before.front c.loop-line.rest.now line beyond before.all c.in-Some.ensures.some.0 in
@@ -112,7 +112,7 @@ returns-in_err-end_line-clause-err g c given output h =
     let before = c.loop-line.invariant in
     let p = g.T.LineHandler.promises (g.T.LineHandler.job c.loop-line.self.handler) in
     let piece = c.args.piece.now in
-    let text = c.end_line.new.text.items in
+    let text = c.end_line.new.page in
     let e = c.in_err-end_line.field-0.0 in
     let r = err_from_is_err_and c.from_residual-in_err-end_line.result c.from_residual-in_err-end_line.ensures.1 in
     let stops = c.in_err-end_line.ensures.err c.in-Some.beyond.now (given ++ before.front) output (before.stands given output h) in
@@ -122,7 +122,7 @@ returns-in_err-end_line-clause-err g c given output h =
 pub returns-clause-ok : goal.returns-clause-ok
 returns-clause-ok g c given output h =
     let before = c.loop-line.invariant in
-    subst (λ (z : List ℕ). OnOk c.keep.result (Stands g.T.LineHandler c.keep.new.self z (output ++ c.keep.new.text.items))) (cut_given given c.args.piece.now before.front c.loop-line.rest.now before.all)
+    subst (λ (z : List ℕ). OnOk c.keep.result (Stands g.T.LineHandler c.keep.new.self z (output ++ c.keep.new.page))) (cut_given given c.args.piece.now before.front c.loop-line.rest.now before.all)
     (c.keep.ensures.ok (given ++ before.front) output (before.stands given output h))
 
 pub returns-clause-err : goal.returns-clause-err
@@ -131,7 +131,7 @@ returns-clause-err g c given output h =
     let p = g.T.LineHandler.promises (g.T.LineHandler.job c.loop-line.self.handler) in
     let rest = c.loop-line.rest.now in
     let all : (given ++ before.front) ++ (rest ++ []) ≡ given ++ c.args.piece.now = ap (λ (z : List ℕ). (given ++ before.front) ++ z) (append-nil rest) ∙ cut_given given c.args.piece.now before.front rest before.all in
-    let stops = subst (λ (z : List ℕ). IfFault c.keep.result (p.Stops z (output ++ c.keep.new.text.items))) all
+    let stops = subst (λ (z : List ℕ). IfFault c.keep.result (p.Stops z (output ++ c.keep.new.page))) all
     (c.keep.ensures.err [] (given ++ before.front) output (before.stands given output h)) in
     rw before.job_is at stops
 

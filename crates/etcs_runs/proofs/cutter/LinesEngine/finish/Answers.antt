@@ -13,13 +13,13 @@ close-requires-clause-took g c =
 pub returns-then-self-most-clause-ok : goal.returns-then-self-most-clause-ok
 returns-then-self-most-clause-ok g c given output h =
     let p = g.T.LineHandler.promises (g.T.LineHandler.job c.args.self.now.handler) in
-    subst (λ (z : List ℕ). IfOk c.close.result (λ tally. p.Ends z (output ++ c.close.new.text.items) tally)) (sym h.given_is)
+    subst (λ (z : List ℕ). IfOk c.close.result (λ tally. p.Ends z (output ++ c.close.new.page) tally)) (sym h.given_is)
     (c.close.ensures.ok h.lines h.part output (whole_took h (omega (arith, c.most.ensures.value, c.if-self-most.true))) h.is_line (omega (arith, c.most.ensures.value, c.if-self-most.true, h.n_is)))
 
 pub returns-then-self-most-clause-err : goal.returns-then-self-most-clause-err
 returns-then-self-most-clause-err g c given output h =
     let p = g.T.LineHandler.promises (g.T.LineHandler.job c.args.self.now.handler) in
-    subst (λ (z : List ℕ). IfFault c.close.result (p.StopsAtEnd z (output ++ c.close.new.text.items))) (sym h.given_is)
+    subst (λ (z : List ℕ). IfFault c.close.result (p.StopsAtEnd z (output ++ c.close.new.page))) (sym h.given_is)
     (c.close.ensures.err h.lines h.part output (whole_took h (omega (arith, c.most.ensures.value, c.if-self-most.true))) h.is_line (omega (arith, c.most.ensures.value, c.if-self-most.true, h.n_is)))
 
 pub returns-then-self-most-clause-said : goal.returns-then-self-most-clause-said

@@ -1,11 +1,10 @@
-use Rattle.std.proofs.Common.{◌≡◌, ◌+◌, ◌<◌, ◌∙◌, sym, ap, Ok, Err, Result, refl, arith, length-append}
+use Rattle.std.proofs.Common.{◌≡◌, ◌+◌, ◌<◌, ◌∙◌, ap, Ok, Err, Result, refl, arith}
 use Rattle.std.proofs.lemmas.Result.{err_from_is_err_and}
 use Rattle.etcs_bits.specs.Bits.{bits}
 use Rattle.etcs_vars.specs.declared.feed.Fed.{Fed}
 use Rattle.etcs_vars.specs.declared.feed.Fed.TheVariants.{More, Done}
 use Rattle.etcs_vars.specs.declared.feed.ReadFault.{ReadFault}
 use Rattle.etcs_vars.specs.declared.feed.ReadFault.TheVariants.{Refused, Ended}
-use Rattle.etcs_bits.proofs.Positions.{length-bits}
 use Rattle.etcs_text.specs.Entries.{EntryReads}
 use Rattle.etcs_runs.specs.declared.fault.RunFault.TheVariants as fault
 use Rattle.etcs_text.specs.Readers.{Feeds, seen_bits}
@@ -51,7 +50,7 @@ returns-in-Err-Refused-clause-err c =
     let is : ◌≡◌ {A = Result Fed ReadFault} c.feed.result (Err (Refused c.in-Err-Refused.bit c.in-Err-Refused.var)) = c.in-Err-Refused.is ∙ ap Err c.in-Err-Refused.field-0-is in
     let f = fed s.job.kind s.reader new _ _ _ c.requires.waits is c.feed.ensures.answer in
     let less : s.printer.count < 1000000 = c.requires.few in
-    rw c.count.ensures
+    rw c.refused.ensures
     (stops_here s.job s.reader s.printer c.args.bytes.now _ c.requires.waits s.printer _ (fault.Refused (s.printer.count + 1) c.in-Err-Refused.bit c.in-Err-Refused.var) (omega (arith, c.requires.few)) refl (omega arith)
     (refl, less, feed_refuses s.job.kind (seen_bits s.reader.progress) new _ _ c.feed.new.self.progress f))
 

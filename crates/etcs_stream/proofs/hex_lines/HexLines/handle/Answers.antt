@@ -7,7 +7,7 @@ use Rattle.etcs_stream.proofs.hex_lines.HexLines.handle.Goals as goal
 pub returns-then-is_empty-clause-ok : goal.returns-then-is_empty-clause-ok
 returns-then-is_empty-clause-ok c =
     let i = c.args.self.now.items in
-    Advances-empty i.job.kind i.job.command (seen_bits i.reader.progress) i.printer c.args.text.now.items c.args.line.now (sym c.is_empty.ensures ∙ c.if-is_empty.true)
+    Advances-empty i.job.kind i.job.command (seen_bits i.reader.progress) i.printer c.args.page.now c.args.line.now (sym c.is_empty.ensures ∙ c.if-is_empty.true)
 
 pub returns-in-Err-clause-said : goal.returns-in-Err-clause-said
 returns-in-Err-clause-said c =

@@ -18,5 +18,5 @@ returns-clause-err c lines last output h l long =
 pub returns-clause-said : goal.returns-clause-said
 returns-clause-said c lines output h =
     let i = c.args.self.now.items in
-    let text = c.args.text.now.items in
+    let text = c.args.page.now in
     says_first_if i.job.command i.printer i.printer h.items.items output text _ c.finish.result c.requires.empty h.items.text (says_same _ i.job.command i.printer text _ c.finish.result c.finish.ensures.err)

@@ -1,4 +1,4 @@
-use Rattle.std.proofs.Common.{ℕ, ◌<◌, List, ◌++◌, ◌∙◌, ap, refl, arith}
+use Rattle.std.proofs.Common.{◌<◌, refl, arith}
 use Rattle.std.proofs.lemmas.Result.{err_from_is_err_and}
 use Rattle.etcs_text.specs.Entries.{entry_value}
 use Rattle.etcs_stream.specs.Taking.{item_line}
@@ -9,7 +9,7 @@ pub returns-in-Ok-clause-ok : goal.returns-in-Ok-clause-ok
 returns-in-Ok-clause-ok c =
     let room : c.args.self.now.printer.count < 1000000 = omega (arith, c.requires.reported, c.if-count-eq-MOST_ITEMS.false, c.count.ensures) in
     let printed = c.in-Ok.ensures.ok in
-    item_line (entry_value c.in_ok-entry.entry) printed.0 c.in_ok-entry.ensures.ok room printed.1 (c.into_text.ensures ∙ printed.2 ∙ ap (λ (z : List ℕ). z ++ printed.0) c.open-page.ensures)
+    item_line (entry_value c.in_ok-entry.entry) printed.0 c.in_ok-entry.ensures.ok room printed.1 printed.2
 
 pub returns-then-count-eq-MOST_ITEMS-clause-said : goal.returns-then-count-eq-MOST_ITEMS-clause-said
 returns-then-count-eq-MOST_ITEMS-clause-said c =
@@ -25,4 +25,4 @@ returns-in_err-entry-clause-said c =
 pub returns-in-Err-clause-said : goal.returns-in-Err-clause-said
 returns-in-Err-clause-said c =
     let s = c.args.self.now in
-    says_here s.job.command s.printer c.print-printed.new.self _ _ (c.into_text.ensures ∙ c.in-Err.ensures.err ∙ c.open-page.ensures) (omega (arith, c.print-printed.ensures.count))
+    says_here s.job.command s.printer c.print.new.self _ _ c.in-Err.ensures.err (omega (arith, c.print.ensures.count))

@@ -1,13 +1,9 @@
-use Rattle.std.proofs.Common.{◌≡◌, ◌≤◌, ◌∙◌, ◌-◌, List, ℕ, length, take, drop, refl, sym, ap, subst, arith, length-append}
-use Rattle.etcs_runs.specs.Handling.{LinesTaken}
-use Rattle.etcs_runs.specs.Lines.{lines_text}
+use Rattle.std.proofs.Common.{◌∙◌, ◌-◌, length, take, drop, refl, arith}
 use Rattle.etcs_runs.proofs.LineTexts.{lines_few}
 use Rattle.etcs_runs.proofs.Several.{none_of}
-use Rattle.etcs_stream.specs.declared.job.Job.{Job}
-use Rattle.etcs_stream.specs.Reported.{Reported}
 use Rattle.etcs_stream.specs.Stands.{JsonTook}
 use Rattle.etcs_stream.specs.Taking.{TakesFirst}
-use Rattle.etcs_stream.proofs.LineItems.{first_few, next_lines, slice_rest}
+use Rattle.etcs_stream.proofs.LineItems.{first_few, next_lines}
 use Rattle.etcs_stream.proofs.json_lines.JsonLines.take_lines.Goals as goal
 
 pub loop-at-init : goal.loop-at-init

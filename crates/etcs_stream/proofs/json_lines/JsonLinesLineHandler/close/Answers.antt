@@ -15,5 +15,5 @@ returns-clause-err c lines last output h l long =
 pub returns-clause-said : goal.returns-clause-said
 returns-clause-said c lines output h =
     let s = c.args.self.now in
-    let text = c.args.text.now.items in
+    let text = c.args.page.now in
     says_first_if s.job.command s.printer s.printer h.items output text _ c.end.result c.requires.empty h.text (says_same _ s.job.command s.printer text _ c.end.result c.end.ensures.err)

@@ -2,7 +2,7 @@ use Rattle.std.proofs.Common.{◌≡◌, ◌≤◌, ◌++◌, List, length, ℕ}
 use Rattle.etcs_text.specs.Readers.{seen_bits}
 use Rattle.etcs_stream.specs.Readers.{Awaits, HasRoom}
 use Rattle.etcs_stream.specs.Taking.{Advances}
-use Rattle.etcs_stream.proofs.byte_items.ByteItems.take_items.Given as goal
+use Rattle.etcs_stream.proofs.byte_items.ByteItems.take_bytes.Given as goal
 
 abbrev pub invariant-loop-rest : goal.invariant-loop-rest
 invariant-loop-rest l = record {

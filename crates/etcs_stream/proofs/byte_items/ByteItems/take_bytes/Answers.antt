@@ -5,7 +5,7 @@ use Rattle.etcs_text.specs.Readers.{seen_bits}
 use Rattle.etcs_stream.specs.Readers.{Awaits}
 use Rattle.etcs_stream.proofs.Streams.{Advances-none, Advances-then, Halts-then, cut_front}
 use Rattle.etcs_stream.proofs.Saying.{says_then}
-use Rattle.etcs_stream.proofs.byte_items.ByteItems.take_items.Goals as goal
+use Rattle.etcs_stream.proofs.byte_items.ByteItems.take_bytes.Goals as goal
 
 pub loop-rest-init : goal.loop-rest-init
 loop-rest-init c = record {

@@ -27,7 +27,7 @@ use Rattle.etcs_json_trees.proofs.FittingPackets.{all_bits, bits_least, packets_
 use Rattle.etcs_json.specs.Loose.{IsLoose, unnamed_telegram, unnamed_message}
 use Rattle.etcs_json.specs.TreeReading.{IsTelegramTree, IsMessageTree, IsTreeOf}
 
-most_bits : (size : Size) → user_bits size ≤ 830
+pub most_bits : (size : Size) → user_bits size ≤ 830
 most_bits Short = omega arith
 most_bits Long = omega arith
 

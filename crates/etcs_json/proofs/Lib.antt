@@ -1,13 +1,10 @@
-pub mod CarriedItems
-pub mod CarriedSpellings
-pub mod CarriedTrees
+pub mod ItemLengths
+pub mod ItemTrees
+pub mod LooseItems
 pub mod FittingTrees
-pub mod MessageTrees
 pub mod OneItems
 pub mod OneStored
 pub mod OwnStored
 pub mod PlainTrees
 pub mod PutItems
-pub mod Shapes
 pub mod TakenTexts
-pub mod TelegramTrees

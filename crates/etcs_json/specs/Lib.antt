@@ -2,5 +2,4 @@ pub mod FaultTexts
 pub mod JsonLines
 pub mod Loose
 pub mod Puts
-pub mod TreeParts
 pub mod TreeReading

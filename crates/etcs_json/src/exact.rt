@@ -1,11 +1,10 @@
 //! Items of lines that are exactly what `json_line` writes.
 
 ghost use Rattle.std.specs.Prelude.{◌≡◌, ◌++◌, ℕ, List, IfOk, IfSome};
-ghost use Rattle.etcs_vars.specs.Reading.{Reading, spelled};
-ghost use Rattle.etcs_text.specs.Entries.{EntryReads, EntryValue, entry_value};
+ghost use Rattle.etcs_text.specs.Entries.{entry_value};
 ghost use Rattle.etcs_json.specs.JsonLines.{SaysItem};
 
-use crate::from_bytes::spelled;
+use crate::from_page::item_on;
 use crate::line::line_item;
 use etcs_text::{Entry, Kind};
 use etcs_vars::BitPage;
@@ -32,8 +31,10 @@ pub(crate) fn exact_item(
     if used != line.len() {
         return Ok(None);
     }
-    let entry = item_on(alloc, kind, &page)?;
-    Ok(Some(entry))
+    match item_on(alloc, kind, &page) {
+        Ok(entry) => Ok(Some(entry)),
+        Err(_) => Err(AllocError),
+    }
 }
 
 /// A line, and after it the 64 bytes that [`line_item`] looks at.
@@ -44,20 +45,4 @@ fn with_room(alloc: Global, line: &[u8]) -> Result<Vec<u8>, AllocError>
     text.extend_from_slice(line)?;
     text.extend_from_slice(&[0u8; 64])?;
     Ok(text)
-}
-
-/// The item of the kind whose bits are on a page.
-///
-/// # Errors
-///
-/// `AllocError` if out of memory.
-fn item_on(alloc: Global, kind: Kind, page: &BitPage) -> Result<Entry, AllocError>
-    requires { (e : EntryValue) × (r : Reading) × EntryReads kind e r × (page.now ≡ spelled r) }
-    ensures { IfOk result (λ e. (r : Reading) × EntryReads kind (entry_value e) r × (page.now ≡ spelled r)) }
-{
-    let bytes = &page.bytes()[..page.len() / 8];
-    match spelled(alloc, kind, bytes) {
-        Ok(entry) => Ok(entry),
-        Err(_) => Err(AllocError),
-    }
 }

@@ -1,6 +1,6 @@
 //! Why a JSON value is no item.
 
-ghost use Rattle.std.specs.Prelude.{◌≡◌, Some};
+ghost use Rattle.std.specs.Prelude.{Some};
 
 use etcs_vars::Var;
 use std::error::Error;

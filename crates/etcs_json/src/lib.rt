@@ -12,21 +12,17 @@
 //! ```
 #![tactic(auto)]
 
-mod carried;
 mod exact;
 mod fault;
-mod from_bytes;
-mod from_entries;
-mod from_message;
-mod from_telegram;
+mod from_page;
 pub mod inner;
 pub mod laws;
 mod line;
 mod trees;
+mod values;
 
 pub use etcs_text::{Entry, Kind};
 pub use etcs_vars::Var;
 pub use fault::JsonFault;
-pub use from_entries::{from_line, from_value};
 pub use serde_json::Value;
-pub use trees::to_value;
+pub use values::{from_line, from_value, to_value};

@@ -1,6 +1,6 @@
 //! Lines that are exactly what `json_line` writes, read as the bits of their items.
 
-ghost use Rattle.std.specs.Prelude.{◌≡◌, ◌+◌, ◌^◌, ◌<◌, ◌≤◌, ◌++◌, ◌∷◌, [], ℕ, Bool, List, All, IfSome, OnSome, codes, false, length, map, take};
+ghost use Rattle.std.specs.Prelude.{◌≡◌, ◌+◌, ◌*◌, ◌/◌, ◌^◌, ◌<◌, ◌≤◌, ◌++◌, ◌∷◌, [], ℕ, Bool, List, All, IfSome, OnSome, None, codes, drop, false, length, map, take};
 ghost use Rattle.serde_json.specs.Written.{compact_text};
 ghost use Rattle.etcs_bits.specs.Bits.{num};
 ghost use Rattle.etcs_vars.specs.declared.var.Var.TheVariants.{OTHER_DATA};
@@ -19,9 +19,11 @@ ghost use Rattle.etcs_packet_text.specs.Trees.{packets_tree, pairs_tree};
 ghost use Rattle.etcs_text.specs.Entries.{EntryReads, EntryValue, kind_of, message_kind};
 ghost use Rattle.etcs_text.specs.JsonParts.{kind_member, way_member};
 ghost use Rattle.etcs_text.specs.Trees.{json_tree};
-ghost use Rattle.etcs_json.specs.Puts.{Completes, PutsItem, PutsMessage};
+ghost use Rattle.etcs_json.specs.Puts.{Completes, IsWhole, PutsItem, PutsMessage};
 
-use etcs_json_trees::inner::{Text, put_digits, put_head, put_header, put_packets, put_row};
+use etcs_json_trees::inner::{
+    MOST_BITS, Text, put_digits, put_head, put_header, put_packets, put_row,
+};
 use etcs_packets::Packet;
 use etcs_packets::inner::AnyPacket;
 use etcs_tables::{Row, Way, message_row};
@@ -31,10 +33,7 @@ use etcs_train::TrainPacket;
 use etcs_vars::BitPage;
 
 /// The bits of NID_MESSAGE and L_MESSAGE.
-const FRAME_BITS: usize = 18;
-
-/// The most bits of a message.
-const MOST_BITS: usize = 8184;
+pub(crate) const FRAME_BITS: usize = 18;
 
 /// Puts the item of the kind whose JSON a text begins with, as `json_line` writes it without its LF, on a page in place of
 /// what was there, and returns how many bytes of the text it has. When it does isn't promised; it does if 64 bytes are
@@ -163,12 +162,23 @@ fn put_message<P: AnyPacket>(text: &[u8], out: &mut BitPage) -> Option<usize>
 {
     put(FRAME_BITS, 0, out)?;
     let (nid, after) = put_rest::<P>(text, out)?;
+    put_length(nid, out)?;
+    Some(after)
+}
+
+/// Puts NID_MESSAGE and L_MESSAGE over the first bits, if all are whole bytes, and not too many.
+#[inline(always)]
+pub(crate) fn put_length(nid: u8, out: &mut BitPage) -> Option<()>
+    requires { 18 ≤ length out.old }
+    ensures some { OnSome result (IsWhole out.old × (out.new ≡ num 18 (nid * 1024 + length out.old / 8) ++ drop 18 out.old)) }
+    ensures none { result ≡ None → IsWhole out.old → ⊥ }
+{
     let len = out.len();
     if len % 8 != 0 || len > MOST_BITS {
         return None;
     }
     out.put_over(0, FRAME_BITS, u64::from(nid) * 1024 + (len / 8) as u64);
-    Some(after)
+    Some(())
 }
 
 /// Puts the bits of a message after L_MESSAGE, and returns its number, and how many bytes are after it.

@@ -1,29 +1,53 @@
-//! The tree of an item.
+//! Items put as bits, read from their trees.
 
-ghost use Rattle.std.specs.Prelude.{◌≡◌, IfOk, None};
+ghost use Rattle.std.specs.Prelude.{◌≡◌, [], Err, IfOk, IfSome, IsSome, OnOk};
+ghost use Rattle.serde_json.specs.Data.{Data};
 ghost use Rattle.serde_json.specs.View.{view};
-ghost use Rattle.etcs_bits.specs.Bits.{num};
-ghost use Rattle.etcs_messages.specs.Messages.{message_value};
-ghost use Rattle.etcs_messages.specs.Readings.{kept_of, padding_bits_of, padding_of};
-ghost use Rattle.etcs_telegram.specs.Telegrams.{telegram_value};
-ghost use Rattle.etcs_text.specs.Entries.{entry_value};
+ghost use Rattle.etcs_text.specs.Entries.{EntryValue, kind_of, message_kind};
 ghost use Rattle.etcs_text.specs.Show.{kind_word, way_word};
-ghost use Rattle.etcs_packet_text.specs.Trees.{bits_tree};
-ghost use Rattle.etcs_text.specs.Trees.{json_tree, message_tree, telegram_tree};
-ghost use Rattle.etcs_json.specs.TreeParts.{typed_members};
+ghost use Rattle.etcs_messages.specs.Messages.{MessageValue};
+ghost use Rattle.etcs_json.specs.Loose.{IsLoose, IsStored};
+ghost use Rattle.etcs_json.specs.Puts.{HasPlace, PutsRest};
+ghost use Rattle.etcs_json.specs.TreeReading.{IsMessageTree, IsTreeOf, kept_message_tree, message_tree, telegram_tree};
 
-use etcs_bits::BitSlice;
-use etcs_json_trees::inner::{bits_json, packets_json, variables_json};
-use etcs_messages::{Head, MessageOf, Own};
-use etcs_packets::inner::AnyPacket;
-use etcs_tables::Way;
-use etcs_telegram::{Size, Telegram};
-use etcs_text::Entry;
-use serde_json::{Value, json};
-use std::alloc::{AllocError, Global};
+use crate::line::{FRAME_BITS, put_length};
+use etcs_json_trees::inner::{
+    Fault, MOST_BITS, Rest, bits_in, byte_in, put_packet_trees, put_row_tree,
+};
+use etcs_tables::{Way, head_row, header_row, message_row};
+use etcs_telegram::Size;
+use etcs_text::Kind;
+use etcs_vars::inner::send_bits;
+use etcs_vars::{BitPage, Var};
+use serde_json::Value;
+use std::alloc::Global;
+
+/// Puts the item of the kind whose tree the value is. A packet that is typed by now may be kept as bits there, whatever these
+/// are.
+///
+/// # Errors
+///
+/// `Invalid` only if it is no such tree; `Memory` if out of memory.
+pub(crate) fn put_item_tree(
+    alloc: Global,
+    kind: Kind,
+    value: &Value,
+    out: &mut BitPage,
+) -> Result<(), Fault>
+    requires { out.old ≡ [] }
+    ensures ok { OnOk result ((o : EntryValue) × IsStored kind (view value.now) o out.new) }
+    ensures invalid { result ≡ Err Fault.Invalid → (o : EntryValue) → IsLoose kind o → IsTreeOf o (view value.now) → ⊥ }
+{
+    match kind {
+        Kind::Long => put_telegram_tree(alloc, Size::Long, value, out),
+        Kind::Short => put_telegram_tree(alloc, Size::Short, value, out),
+        Kind::Radio => put_message_tree(alloc, Way::ToTrain, value, out),
+        Kind::Train => put_message_tree(alloc, Way::ToTrack, value, out),
+    }
+}
 
 /// The word for the kind of the telegrams of a size.
-pub(crate) fn size_word(size: Size) -> &'static str
+fn size_word(size: Size) -> &'static str
     ensures { result.now ≡ kind_word size }
 {
     match size {
@@ -32,19 +56,49 @@ pub(crate) fn size_word(size: Size) -> &'static str
     }
 }
 
-/// The tree of a telegram.
-fn telegram_json(alloc: Global, telegram: &Telegram) -> Result<Value, AllocError>
-    ensures { IfOk result (λ v. view v ≡ telegram_tree (telegram_value telegram.now)) }
+/// The fill, the header and the packets of a telegram of this size.
+fn telegram_members(size: Size, value: &Value) -> Option<(&Value, &Value, &Value)>
+    ensures some { IfSome result (λ m. view value.now ≡ telegram_tree size (view m.0.now) (view m.1.now) (view m.2.now)) }
+    ensures none { (x y w : Data) → view value.now ≡ telegram_tree size x y w → IsSome result }
 {
-    let fill = bits_json(alloc, &telegram.fill())?;
-    let header = variables_json(alloc, telegram.header())?;
-    let kind = size_word(telegram.size());
-    let packets = packets_json(alloc, telegram.packets())?;
-    json!(in alloc; {"fill": fill, "header": header, "kind": kind, "packets": packets})
+    let mut members = Rest::of(value)?;
+    let (fill, header) = members.two("fill", "header")?;
+    members.text("kind", size_word(size))?;
+    let packets = members.last("packets")?;
+    Some((fill, header, packets))
+}
+
+/// Puts the telegram of the size whose tree the value is.
+fn put_telegram_tree(
+    alloc: Global,
+    size: Size,
+    value: &Value,
+    out: &mut BitPage,
+) -> Result<(), Fault>
+    requires { out.old ≡ [] }
+    ensures ok { OnOk result ((o : EntryValue) × IsStored (kind_of size) (view value.now) o out.new) }
+    ensures invalid { result ≡ Err Fault.Invalid → (o : EntryValue) → IsLoose (kind_of size) o → IsTreeOf o (view value.now) → ⊥ }
+{
+    let Some((fill, header, packets)) = telegram_members(size, value) else {
+        return Err(Fault::Invalid);
+    };
+    let fill = bits_in(alloc, fill)?;
+    put_row_tree(header_row(), header, out)?;
+    put_packet_trees(alloc, Way::ToTrain, true, packets, out)?;
+    out.put(8, 255)?;
+    let Some(left) = size.user_bits().checked_sub(out.len()) else {
+        return Err(Fault::Invalid);
+    };
+    if fill.len() != left {
+        return Err(Fault::Invalid);
+    }
+    send_bits(Var::FILL, &fill.as_slice(), out)?;
+    out.put(size.pad_bits(), 0)?;
+    Ok(())
 }
 
 /// The word for the kind of the messages of a way.
-pub(crate) fn way_word(way: Way) -> &'static str
+fn way_word(way: Way) -> &'static str
     ensures { result.now ≡ way_word way }
 {
     match way {
@@ -53,98 +107,111 @@ pub(crate) fn way_word(way: Way) -> &'static str
     }
 }
 
-/// The tree of the PADDING of a message.
-fn padding_json<H: Head, B: Own<Front = H>>(
-    alloc: Global,
-    message: &MessageOf<H, B>,
-) -> Result<Value, AllocError>
-    ensures { IfOk result (λ v. view v ≡ bits_tree (num (padding_bits_of H.Packet.WAY B.own H.Packet.form message.now) (padding_of message.now))) }
+/// The fields, the header, the number, the packets and the padding of a typed message of this way.
+fn typed_members(way: Way, value: &Value) -> Option<(&Value, &Value, &Value, &Value, &Value)>
+    ensures some { IfSome result (λ m. view value.now ≡ message_tree way (view m.0.now) (view m.1.now) (view m.2.now) (view m.3.now) (view m.4.now)) }
+    ensures none { (x y w u v : Data) → view value.now ≡ message_tree way x y w u v → IsSome result }
 {
-    let (count, number) = message.padding();
-    let byte = [number];
-    match BitSlice::new(&byte, 8 - count, count) {
-        Some(bits) => bits_json(alloc, &bits),
-        None => unreachable!(),
+    let mut members = Rest::of(value)?;
+    let (fields, header) = members.two("fields", "header")?;
+    members.text("kind", way_word(way))?;
+    let nid = members.next("nid")?;
+    let (packets, padding) = members.last_two("packets", "padding")?;
+    Some((fields, header, nid, packets, padding))
+}
+
+/// The bits and the number of a message of this way that is kept as bits.
+fn kept_members(way: Way, value: &Value) -> Option<(&Value, &Value)>
+    ensures some { IfSome result (λ m. view value.now ≡ kept_message_tree way (view m.0.now) (view m.1.now)) }
+    ensures none { (x z : Data) → view value.now ≡ kept_message_tree way x z → IsSome result }
+{
+    let mut members = Rest::of(value)?;
+    let bits = members.next("data")?;
+    members.text("kind", way_word(way))?;
+    let nid = members.last("nid")?;
+    Some((bits, nid))
+}
+
+/// Puts the message of the way whose tree the value is.
+fn put_message_tree(alloc: Global, way: Way, value: &Value, out: &mut BitPage) -> Result<(), Fault>
+    requires { out.old ≡ [] }
+    ensures ok { OnOk result ((o : EntryValue) × IsStored (message_kind way) (view value.now) o out.new) }
+    ensures invalid { result ≡ Err Fault.Invalid → (o : EntryValue) → IsLoose (message_kind way) o → IsTreeOf o (view value.now) → ⊥ }
+{
+    out.put(FRAME_BITS, 0)?;
+    let nid = put_rest_tree(alloc, way, value, out)?;
+    match put_length(nid, out) {
+        Some(()) => Ok(()),
+        None => Err(Fault::Invalid),
     }
 }
 
-/// The tree of a typed message with these members.
-fn typed_object(
+/// Puts the bits of a message after L_MESSAGE, and returns its number.
+fn put_rest_tree(alloc: Global, way: Way, value: &Value, out: &mut BitPage) -> Result<u8, Fault>
+    ensures ok { IfOk result (λ nid. PutsRest way (view value.now) nid out.old out.new) }
+    ensures invalid { result ≡ Err Fault.Invalid → (m : MessageValue) → HasPlace way m out.old → IsMessageTree way m (view value.now) → ⊥ }
+{
+    if let Some((fields, header, nid, packets, padding)) = typed_members(way, value) {
+        return put_typed(alloc, way, fields, header, nid, packets, padding, out);
+    }
+    if let Some((bits, nid)) = kept_members(way, value) {
+        return put_kept(alloc, way, bits, nid, out);
+    }
+    Err(Fault::Invalid)
+}
+
+/// The same of a typed message of these members.
+fn put_typed(
     alloc: Global,
     way: Way,
-    fields: Value,
-    header: Value,
-    nid: u8,
-    packets: Value,
-    padding: Value,
-) -> Result<Value, AllocError>
-    ensures { IfOk result (λ v. view v ≡ typed_members way (view fields) (view header) nid (view packets) (view padding)) }
+    fields: &Value,
+    header: &Value,
+    nid: &Value,
+    packets: &Value,
+    padding: &Value,
+    out: &mut BitPage,
+) -> Result<u8, Fault>
+    ensures ok { IfOk result (λ n. PutsRest way (message_tree way (view fields.now) (view header.now) (view nid.now) (view packets.now) (view padding.now)) n out.old out.new) }
+    ensures invalid { result ≡ Err Fault.Invalid → (m : MessageValue) → HasPlace way m out.old → IsMessageTree way m (message_tree way (view fields.now) (view header.now) (view nid.now) (view packets.now) (view padding.now)) → ⊥ }
 {
-    json!(in alloc; {"fields": fields, "header": header, "kind": way_word(way), "nid": nid, "packets": packets, "padding": padding})
-}
-
-/// The tree of a typed message.
-fn typed_json<H: Head, B: Own<Front = H>>(
-    alloc: Global,
-    message: &MessageOf<H, B>,
-) -> Result<Value, AllocError>
-    requires { kept_of message.now ≡ None }
-    ensures { IfOk result (λ v. view v ≡ message_tree H.Packet.WAY (message_value H.Packet.WAY H.head B.own H.Packet.form message.now)) }
-{
-    let (Some(head), Some(body)) = (message.head(), message.body()) else {
-        unreachable!()
+    let Some(nid) = byte_in(nid) else {
+        return Err(Fault::Invalid);
     };
-    let fields = variables_json(alloc, body)?;
-    let header = variables_json(alloc, head)?;
-    let packets = packets_json(alloc, message.packets())?;
-    let padding = padding_json(alloc, message)?;
-    typed_object(
-        alloc,
-        H::Packet::WAY,
-        fields,
-        header,
-        message.nid(),
-        packets,
-        padding,
-    )
-}
-
-/// The tree of a message.
-fn message_json<H: Head, B: Own<Front = H>>(
-    alloc: Global,
-    message: &MessageOf<H, B>,
-) -> Result<Value, AllocError>
-    ensures { IfOk result (λ v. view v ≡ message_tree H.Packet.WAY (message_value H.Packet.WAY H.head B.own H.Packet.form message.now)) }
-{
-    let Some(bits) = message.kept_bits() else {
-        return typed_json(alloc, message);
+    let Some(row) = message_row(way, nid) else {
+        return Err(Fault::Invalid);
     };
-    let data = bits_json(alloc, &bits)?;
-    json!(in alloc; {"data": data, "kind": way_word(H::Packet::WAY), "nid": message.nid()})
-}
-
-/// Returns the JSON tree of an item, an object with these members:
-///
-/// - Of a telegram: `fill`, a text of the digits 0 and 1; `header`, its ten variables; `kind`, `"short"` or `"long"`;
-///   `packets`, a list.
-/// - Of a typed message: `fields`, the variables of its number; `header`, those after L_MESSAGE: T_TRAIN, M_ACK and
-///   NID_LRBG to the train, T_TRAIN and NID_ENGINE to the track; `kind`, `"radio"` to the train and `"train"` to the
-///   track; `nid`, its number; `packets`; `padding`, a text of the digits 0 and 1.
-/// - Of a message that is kept as bits: `data`, the bits after L_MESSAGE as digits; `kind` and `nid`.
-///
-/// A packet is an object of `dir`, `fields` and `nid`, and one that is kept as bits of `data`, `dir` and `nid`. Packet 0
-/// to the train has no `dir`, nor has any packet to the track. Variables are a list of pairs, each a name and a number;
-/// the number of NID_RADIO is a text of 16 hexadecimal digits in lower case.
-///
-/// # Errors
-///
-/// `AllocError` if out of memory.
-pub fn to_value(alloc: Global, entry: &Entry) -> Result<Value, AllocError>
-    ensures { IfOk result (λ v. view v ≡ json_tree (entry_value entry.now)) }
-{
-    match entry {
-        Entry::Telegram(telegram) => telegram_json(alloc, telegram),
-        Entry::Message(message) => message_json(alloc, message),
-        Entry::Train(message) => message_json(alloc, message),
+    put_row_tree(head_row(way), header, out)?;
+    put_row_tree(row, fields, out)?;
+    put_packet_trees(alloc, way, false, packets, out)?;
+    let padding = bits_in(alloc, padding)?;
+    if padding.len() > 7 {
+        return Err(Fault::Invalid);
     }
+    send_bits(Var::PADDING, &padding.as_slice(), out)?;
+    Ok(nid)
+}
+
+/// The same of a message of these members that is kept as bits.
+fn put_kept(
+    alloc: Global,
+    way: Way,
+    bits: &Value,
+    nid: &Value,
+    out: &mut BitPage,
+) -> Result<u8, Fault>
+    ensures ok { IfOk result (λ n. PutsRest way (kept_message_tree way (view bits.now) (view nid.now)) n out.old out.new) }
+    ensures invalid { result ≡ Err Fault.Invalid → (m : MessageValue) → HasPlace way m out.old → IsMessageTree way m (kept_message_tree way (view bits.now) (view nid.now)) → ⊥ }
+{
+    let Some(nid) = byte_in(nid) else {
+        return Err(Fault::Invalid);
+    };
+    if message_row(way, nid).is_some() {
+        return Err(Fault::Invalid);
+    }
+    let bits = bits_in(alloc, bits)?;
+    if bits.len() > MOST_BITS {
+        return Err(Fault::Invalid);
+    }
+    send_bits(Var::OTHER_DATA, &bits.as_slice(), out)?;
+    Ok(nid)
 }

@@ -1,17 +1,13 @@
--- Digits of hexadecimal numbers and of bits, and the number of PADDING.
-use Rattle.std.proofs.Common.{◌≡◌, ℕ, zero, suc, ◌/◌, ◌%◌, ◌^◌, ◌<◌, ◌≤◌, Bool, true, false, List, [], ◌∷◌, ◌++◌, length, get_or, Some, map, refl, sym, ap, subst, ◌∙◌, arith, add-one}
+-- Digits of hexadecimal numbers.
+use Rattle.std.proofs.Common.{◌≡◌, ℕ, zero, suc, ◌/◌, ◌%◌, ◌^◌, ◌<◌, Bool, true, false, List, [], ◌∷◌, ◌++◌, length, get_or, map, refl, sym, ap, subst, ◌∙◌, arith, add-one}
 use Rattle.std.specs.Prelude.{All, nat_lt}
 use Rattle.std.proofs.Math.Nat.{pow-le-pow_right}
 use Rattle.std.proofs.lemmas.Bool.{ltb-true}
 use Rattle.std.proofs.lemmas.Grind.{pow_more}
-use Rattle.std.proofs.lemmas.List.{take_all, get_or-map, length-map}
+use Rattle.std.proofs.lemmas.List.{get_or-map, length-map}
 use Rattle.std.proofs.lemmas.List.Elements.{All-nil, All-push}
-use Rattle.etcs_bits.specs.Bits.{num, number_at}
-use Rattle.etcs_bits.proofs.Views.{number_bits, number_below}
 use Rattle.etcs_packet_text.specs.Show.{hex_digit, hex_digits}
 use Rattle.etcs_json_trees.specs.Digits.{lower}
-
--- ---- Hexadecimal digits.
 
 pub hex_room : (i n : ℕ) → i < 16 → n < 16 ^ i → n < 1152921504606846976
 hex_room i n small h = let p = pow-le-pow_right {n = 16} (omega arith) {i = i} {j = 15} (omega arith) in omega (arith, p, h)
@@ -62,13 +58,3 @@ one_hex (suc k) n m h g e =
     let rest = one_hex k (n / 16) (m / 16) (omega (arith, h, p, q)) (omega (arith, g, p, q)) above in
     let digit = one_digit (n % 16) (m % 16) (omega arith) (omega arith) last in
     omega (arith, rest, digit)
-
--- ---- PADDING.
-
-pub pad_number : (bs seen : List Bool) (count n : ℕ) → seen ≡ bs → count ≡ length bs → Some n ≡ number_at 0 count seen → (n < 2 ^ length bs) × (bs ≡ num (length bs) n)
-pad_number bs seen count n same long e =
-    let e' : number_at 0 (length bs) bs ≡ Some n = sym (e ∙ ap (λ (k : ℕ). number_at 0 k seen) long ∙ ap (λ (x : List Bool). number_at 0 (length bs) x) same) in
-    (number_below 0 (length bs) n bs (omega arith) e', sym (number_bits 0 (length bs) n bs (omega arith) e' ∙ take_all (length bs) bs (omega arith)))
-
-pub small_number : (n count : ℕ) → count ≤ 7 → n < 2 ^ count → n < 256
-small_number n count h k = let p = pow-le-pow_right {n = 2} (omega arith) {i = count} {j = 7} h in omega (arith, p, k)

@@ -1,8 +1,8 @@
 -- Eight digits 0 and 1 as a word.
-use Rattle.std.proofs.Common.{◌≡◌, ℕ, zero, suc, ◌+◌, ◌*◌, ◌/◌, ◌%◌, ◌^◌, ◌<◌, ◌≤◌, ◌==◌, Bool, true, ◌&&◌, inl, inr, List, [], ◌∷◌, length, map, get_or, replicate, refl, sym, ap, subst, ◌∙◌, arith, w32, w64}
+use Rattle.std.proofs.Common.{◌≡◌, ℕ, zero, suc, ◌+◌, ◌*◌, ◌/◌, ◌%◌, ◌^◌, ◌<◌, ◌≤◌, ◌==◌, ◌↔◌, Bool, true, ◌&&◌, IsTrue, inl, inr, List, [], ◌∷◌, length, map, get_or, replicate, refl, sym, ap, subst, ◌∙◌, arith, w64}
 use Rattle.std.specs.Prelude.{bit_and}
-use Rattle.std.specs.Int.{from_le_bytes}
-use Rattle.std.proofs.lemmas.Bool.{and_parts, cases_lt, eqb-true}
+use Rattle.std.specs.Int.{Width, from_le_bytes, to_le_bytes}
+use Rattle.std.proofs.lemmas.Bool.{and_parts, cases_lt, eq-eqb, eqb-true}
 use Rattle.std.proofs.lemmas.Nat.{and_block, and_le_r, and_mask, and_shr}
 use Rattle.std.proofs.lemmas.List.{length-map}
 use Rattle.etcs_bits.specs.Bits.{num, value}
@@ -119,27 +119,6 @@ eight_digits ds word long small is e =
 
 -- ---- Bytes that are the same number.
 
-same_bytes : (xs ys : List ℕ) → length xs ≡ length ys → ((k : ℕ) → get_or xs k 0 < 256) → ((k : ℕ) → get_or ys k 0 < 256) → number xs ≡ number ys → xs ≡ ys
-unfolding number
-same_bytes [] [] e hx hy h = refl
-same_bytes [] (y ∷ ys) e hx hy h = absurd (omega arith)
-same_bytes (x ∷ xs) [] e hx hy h = absurd (omega arith)
-same_bytes (x ∷ xs) (y ∷ ys) e hx hy h =
-    let first : x ≡ y = omega (arith, h, hx 0, hy 0) in
-    let others : number xs ≡ number ys = omega (arith, h, hx 0, hy 0) in
-    ap (λ (z : ℕ). z ∷ xs) first ∙ ap (λ (z : List ℕ). y ∷ z) (same_bytes xs ys (omega (arith, e)) (λ k. hx (suc k)) (λ k. hy (suc k)) others)
-
-pub same_word : (xs ys : List ℕ) → length xs ≡ 8 → length ys ≡ 8 → ((k : ℕ) → get_or xs k 0 < 256) → ((k : ℕ) → get_or ys k 0 < 256) → from_le_bytes w64 xs ≡ from_le_bytes w64 ys → xs ≡ ys
-same_word xs ys ex ey hx hy h = same_bytes xs ys (ex ∙ sym ey) hx hy (sym (word_is xs ex) ∙ h ∙ word_is ys ey)
-
-half_is : (ds : List ℕ) → length ds ≡ 4 → from_le_bytes w32 ds ≡ number ds
-unfolding number
-half_is [] e = absurd (omega arith)
-half_is (a ∷ []) e = absurd (omega arith)
-half_is (a ∷ b ∷ []) e = absurd (omega arith)
-half_is (a ∷ b ∷ c ∷ []) e = absurd (omega arith)
-half_is (a ∷ b ∷ c ∷ d ∷ []) e = omega arith
-half_is (a ∷ b ∷ c ∷ d ∷ f ∷ ds) e = absurd (omega arith)
-
-pub same_half : (xs ys : List ℕ) → length xs ≡ 4 → length ys ≡ 4 → ((k : ℕ) → get_or xs k 0 < 256) → ((k : ℕ) → get_or ys k 0 < 256) → from_le_bytes w32 xs ≡ from_le_bytes w32 ys → xs ≡ ys
-same_half xs ys ex ey hx hy h = same_bytes xs ys (ex ∙ sym ey) hx hy (sym (half_is xs ex) ∙ h ∙ half_is ys ey)
+pub same_number : (w : Width) (xs ys : List ℕ) (x y : ℕ) → x ≡ from_le_bytes w xs → y ≡ from_le_bytes w ys → to_le_bytes w x ≡ xs → to_le_bytes w y ≡ ys → IsTrue (x == y) ↔ (xs ≡ ys)
+same_number w xs ys x y ex ey back ahead =
+    (λ h. sym back ∙ ap (to_le_bytes w) (eqb-true x y h) ∙ ahead, λ e. eq-eqb x y (ex ∙ ap (from_le_bytes w) e ∙ sym ey))

@@ -55,9 +55,3 @@ kept_both way nid kept = and_parts (is_framed way nid) (not (is_some (row_to way
 
 pub kept_framed : (way : Way) (nid : ℕ) → IsTrue (is_kept way nid) → IsTrue (is_framed way nid)
 kept_framed way nid kept = (kept_both way nid kept).0
-
-pub kept_untyped : (way : Way) (nid : ℕ) (row : Layout) → IsTrue (is_kept way nid) → row_to way nid ≡ Some row → ⊥
-kept_untyped way nid row kept e =
-    let third = (kept_both way nid kept).1 in
-    let no = rw e at third in
-    absurd cc

@@ -1,4 +1,3 @@
-pub mod CarriedPackets
 pub mod DigitLemmas
 pub mod FittingPackets
 pub mod Frames

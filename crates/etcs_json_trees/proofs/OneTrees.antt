@@ -25,7 +25,7 @@ use Rattle.etcs_json_trees.proofs.DigitLemmas.{one_hex}
 use Rattle.etcs_bits.proofs.DigitTexts.{one_bits}
 use Rattle.etcs_json_trees.specs.Loose.{stand_in, unnamed}
 use Rattle.etcs_json_trees.specs.TreeParts.{SaysDirection}
-use Rattle.etcs_json_trees.specs.TreeReading.{SaysNumber, IsPairTree, ArePairTrees, IsPacketTree, ArePacketTrees, marker_tree, typed_tree, kept_tree, plain}
+use Rattle.etcs_json_trees.specs.TreeReading.{SaysNumber, IsPairTree, ArePairTrees, IsPairList, IsPacketTree, ArePacketTrees, IsPacketList, marker_tree, typed_tree, kept_tree, plain}
 
 -- ---- Numbers.
 
@@ -64,6 +64,12 @@ pairs_same (p ∷ ps) (q ∷ qs) (item d ds) a h k x y =
 -- those of a row
 pub row_same : (row : Layout) (r q : Reading) (ds : Items) → Reads row [] r → Reads row [] q → ArePairTrees r ds → ArePairTrees q ds → r ≡ q
 row_same row r q ds x y = pairs_same r q ds (Reads-agree row [] r q x y) (Reads-fit row [] r x) (Reads-fit row [] q y)
+
+pub list_same : (row : Layout) (r q : Reading) (d : Data) → Reads row [] r → Reads row [] q → IsPairList r d → IsPairList q d → r ≡ q
+list_same row r q d x y (ds, is, h) (es, is', k) =
+    let both : array es ≡ array ds = sym is' ∙ is in
+    let same : es ≡ ds = cc in
+    row_same row r q ds x y h (rw same at k)
 
 -- ---- Bits.
 
@@ -109,7 +115,7 @@ first_number : Reading → ℕ
 first_number [] = 0
 first_number (p ∷ r) = p.1
 
-packet_same : (way : Way) (v w : PacketValue) (d : Data) → IsPacketTo way (unnamed way v) → IsPacketTo way (unnamed way w) → IsPacketTree way v d → IsPacketTree way w d → v ≡ w
+pub packet_same : (way : Way) (v w : PacketValue) (d : Data) → IsPacketTo way (unnamed way v) → IsPacketTo way (unnamed way w) → IsPacketTree way v d → IsPacketTree way w d → v ≡ w
 unfolding first_number
 packet_same way (marker n) (marker m) d h k (ps, is, x) (qs, is', y) =
     let same : qs ≡ ps = cc in
@@ -146,3 +152,9 @@ packets_same way (v ∷ vs) (w ∷ ws) no_items h k x y = absurd x
 packets_same way (v ∷ vs) (w ∷ ws) (item d ds) h k x y =
     let first = packet_same way v w d (All-head (IsPacketTo way) (unnamed way v) (map (unnamed way) vs) h) (All-head (IsPacketTo way) (unnamed way w) (map (unnamed way) ws) k) x.0 y.0 in
     ap₂ (λ (p : PacketValue) (ps : List PacketValue). p ∷ ps) first (packets_same way vs ws ds (All-tail (IsPacketTo way) (unnamed way v) (map (unnamed way) vs) h) (All-tail (IsPacketTo way) (unnamed way w) (map (unnamed way) ws) k) x.1 y.1)
+
+pub packet_list_same : (way : Way) (vs ws : List PacketValue) (d : Data) → All (IsPacketTo way) (map (unnamed way) vs) → All (IsPacketTo way) (map (unnamed way) ws) → IsPacketList way vs d → IsPacketList way ws d → vs ≡ ws
+packet_list_same way vs ws d h k (ds, is, x) (es, is', y) =
+    let both : array es ≡ array ds = sym is' ∙ is in
+    let same : es ≡ ds = cc in
+    packets_same way vs ws ds h k x (rw same at y)

@@ -1,4 +1,4 @@
--- The definitions, computed on texts; blanks stand for what is after a list.
+-- The definitions, computed on texts, with blanks after a list.
 use Rattle.std.proofs.Common.{◌≡◌, true, false, [], ◌∷◌, ◌++◌, replicate, refl}
 use Rattle.std.specs.Prelude.{codes}
 use Rattle.std.specs.Fmt.{digits}

@@ -1,7 +1,8 @@
 -- Pairs of variables with their numbers.
-use Rattle.std.proofs.Common.{◌≡◌, ℕ, ◌^◌, ◌<◌, List, [], ◌∷◌, ◌++◌, length, get_or, Option, Some, None, map, refl, sym, ap, subst, ◌∙◌, arith, append_assoc, append-nil}
+use Rattle.std.proofs.Common.{◌≡◌, ℕ, ◌^◌, ◌<◌, Bool, List, [], ◌∷◌, ◌++◌, length, get_or, Option, Some, None, map, refl, sym, ap, subst, ◌∙◌, arith, append_assoc, append-nil}
 use Rattle.std.specs.Prelude.{IsTrue}
 use Rattle.std.proofs.Math.Nat.{pow-le-pow_right}
+use Rattle.std.proofs.lemmas.Option.{some_pair_parts}
 use Rattle.serde_json.specs.Data.{Data, null, boolean, number, string, array, object, Items, no_items, item}
 use Rattle.serde_json.specs.Find.{as_array, as_str}
 use Rattle.serde_json.specs.Events.{items_len}
@@ -11,7 +12,7 @@ use Rattle.serde_json.proofs.Views.{items_len-items_view}
 use Rattle.etcs_vars.specs.declared.var.Var.{Var}
 use Rattle.etcs_vars.specs.declared.var.Var.TheVariants.{NID_RADIO}
 use Rattle.etcs_vars.specs.Vars.{admits}
-use Rattle.etcs_vars.specs.Reading.{Reading, numbers}
+use Rattle.etcs_vars.specs.Reading.{Reading, Sent, spelled}
 use Rattle.etcs_vars.proofs.Prefixes.{admits_parts, width-le}
 use Rattle.etcs_tables.specs.Layouts.{Layout, whole, one, guarded, counted, Reads, looks}
 use Rattle.etcs_rows.specs.Places.{onto, first_variable, after_any}
@@ -19,6 +20,7 @@ use Rattle.etcs_rows.proofs.Following.{follows}
 use Rattle.etcs_packet_text.specs.Show.{hex_digits}
 use Rattle.etcs_json_trees.specs.Digits.{lower}
 use Rattle.etcs_json_trees.specs.TreeReading.{SaysNumber, IsPairTree, ArePairTrees}
+use Rattle.etcs_json_trees.proofs.WrittenRows.{both_put}
 
 -- ---- One pair.
 
@@ -59,11 +61,11 @@ two_items (v ∷ w ∷ u ∷ list) x y e a b = absurd (omega (arith, e))
 
 -- ---- The pairs of a row.
 
--- pairs of what is left of the row are what is left of its pairs, after the numbers f
-pub record Goes (row : Layout) (ds : Items) (f : List ℕ) (left : Layout) (es : Items) : Type 0 where
+-- pairs of what is left of the row are what is left of its pairs, after those of the reading f
+pub record Goes (row : Layout) (ds : Items) (f : Reading) (left : Layout) (es : Items) : Type 0 where
   pub looks_well : IsTrue (looks None left)
-  pub on : (q : Reading) → Reads left [] q → ArePairTrees q es → (r : Reading) × Reads row [] r × ArePairTrees r ds × (numbers r ≡ f ++ numbers q)
-  pub back : (r : Reading) → Reads row [] r → ArePairTrees r ds → (q : Reading) × Reads left [] q × ArePairTrees q es × (numbers r ≡ f ++ numbers q)
+  pub on : (q : Reading) → Reads left [] q → ArePairTrees q es → Reads row [] (f ++ q) × ArePairTrees (f ++ q) ds
+  pub back : (r : Reading) → Reads row [] r → ArePairTrees r ds → (q : Reading) × Reads left [] q × ArePairTrees q es × (r ≡ f ++ q)
 
 pub below_all : (v : Var) (m : ℕ) → IsTrue (admits v m) → m < 2 ^ 64
 below_all v m a = let le = pow-le-pow_right {n = 2} (omega arith) (width-le v) in omega (arith, le, (admits_parts v m a).1)
@@ -119,61 +121,83 @@ only_next left v w n d r e only first a pair =
     only n (below_all v n a) (subst (λ (x : Var). IsPairTree (x, n) d) same pair)
 
 -- after a pair
-next_pair : (row : Layout) (ds : Items) (f : List ℕ) (v : Var) (rest : Layout) (d : Data) (es : Items) (n : ℕ) → Goes row ds f (one v rest) (item d es) → IsTrue (admits v n) → IsPairTree (v, n) d → ((m : ℕ) → IsTrue (admits v m) → IsPairTree (v, m) d → Some n ≡ Some m) → IsTrue (looks None (onto n rest whole)) → Goes row ds (f ++ n ∷ []) (onto n rest whole) es
+next_pair : (row : Layout) (ds : Items) (f : Reading) (v : Var) (rest : Layout) (d : Data) (es : Items) (n : ℕ) → Goes row ds f (one v rest) (item d es) → IsTrue (admits v n) → IsPairTree (v, n) d → ((m : ℕ) → IsTrue (admits v m) → IsPairTree (v, m) d → n ≡ m) → IsTrue (looks None (onto n rest whole)) → Goes row ds (f ++ (v, n) ∷ []) (onto n rest whole) es
 next_pair row ds f v rest d es n g a pair only l = record {
   looks_well = l;
   on = λ q h t.
       (let law = follows v rest n g.looks_well a q in
-      let (r, reads, trees, same) = g.on ((v, n) ∷ q) (law.1 h) (pair, t) in
-      (r, reads, trees, same ∙ sym (append_assoc f (n ∷ []) (numbers q))));
+      let both = g.on ((v, n) ∷ q) (law.1 h) (pair, t) in
+      let joined : f ++ (v, n) ∷ q ≡ (f ++ (v, n) ∷ []) ++ q = sym (append_assoc f ((v, n) ∷ []) q) in
+      (subst (λ (x : Reading). Reads row [] x) joined both.0, subst (λ (x : Reading). ArePairTrees x ds) joined both.1));
   back = λ r h t.
       (let (q, reads, trees, same) = g.back r h t in
       let (m, q', a', small, is, pair', rest') = first_pair (one v rest) v q d es refl reads trees in
-      let two = only m a' pair' in
-      let number : m ≡ n = cc in
+      let number : m ≡ n = sym (only m a' pair') in
       let is' : q ≡ (v, n) ∷ q' = is ∙ ap (λ (k : ℕ). let x : Reading = (v, k) ∷ q' in x) number in
       let law = follows v rest n g.looks_well a q' in
       let reads' : Reads (onto n rest whole) [] q' = law.0 (subst (λ (x : Reading). Reads (one v rest) [] x) is' reads) in
-      (q', reads', rest', same ∙ ap (λ (x : Reading). f ++ numbers x) is' ∙ sym (append_assoc f (n ∷ []) (numbers q'))));
+      (q', reads', rest', same ∙ ap (λ (x : Reading). f ++ x) is' ∙ sym (append_assoc f ((v, n) ∷ []) q')));
 }
 
-pub goes_next : (row : Layout) (ds : Items) (f g : List ℕ) (left left' : Layout) (v : Var) (d : Data) (es fs : Items) (n : ℕ) → Goes row ds f left fs → fs ≡ item d es → first_variable left ≡ Some v → IsTrue (admits v n) → IsPairTree (v, n) d → ((m : ℕ) → IsTrue (admits v m) → IsPairTree (v, m) d → Some n ≡ Some m) → after_any left n ≡ Some left' → IsTrue (looks None left') → g ≡ f ++ n ∷ [] → Goes row ds g left' es
-goes_next row ds f g left left' v d es fs n h e first a pair only after l new =
+goes_next : (row : Layout) (ds : Items) (f : Reading) (left left' : Layout) (v : Var) (n : ℕ) (d : Data) (es fs : Items) → Goes row ds f left fs → fs ≡ item d es → first_variable left ≡ Some v → IsTrue (admits v n) → IsPairTree (v, n) d → ((m : ℕ) → IsTrue (admits v m) → IsPairTree (v, m) d → n ≡ m) → after_any left n ≡ Some left' → IsTrue (looks None left') → Goes row ds (f ++ (v, n) ∷ []) left' es
+goes_next row ds f left left' v n d es fs h e first a pair only after l =
     let (rest, is) = heads left v first in
     let two : Some (onto n rest whole) ≡ Some left' = sym (ap (λ (x : Layout). after_any x n) is) ∙ after in
     let same : onto n rest whole ≡ left' = cc in
     let h' : Goes row ds f (one v rest) (item d es) = rw (← is, ← e) h in
     let l' : IsTrue (looks None (onto n rest whole)) = rw same l in
-    rw (new, ← same) (next_pair row ds f v rest d es n h' a pair only l')
+    rw (← same) (next_pair row ds f v rest d es n h' a pair only l')
+
+-- ---- The pairs of a row that are put.
+
+-- the pairs before those that are left are read, and their bits are put after those before
+pub record IsBegun (row : Layout) (ds : Items) (left : Layout) (es : Items) (old now : List Bool) : Type 0 where
+  pub reading : Reading
+  pub goes : Goes row ds reading left es
+  pub bits : now ≡ old ++ spelled reading
+
+pub none_begun : (row left : Layout) (ds : Items) (old now : List Bool) → left ≡ row → IsTrue (looks None left) → now ≡ old → IsBegun row ds left ds old now
+none_begun row left ds old now same l put = record {
+  reading = [];
+  goes = record {
+    looks_well = l;
+    on = λ q h t. (subst (λ (x : Layout). Reads x [] q) same h, t);
+    back = λ r h t. (r, subst (λ (x : Layout). Reads x [] r) (sym same) h, t, refl);
+  };
+  bits = put ∙ sym (append-nil old);
+}
+
+pub next_begun : (row : Layout) (ds : Items) (left left' : Layout) (o : Option Sent) (v : Var) (n : ℕ) (d : Data) (es fs : Items) (old mid new : List Bool) → IsBegun row ds left fs old mid → fs ≡ item d es → first_variable left ≡ Some v → IsTrue (admits v n) → IsPairTree (v, n) d → o ≡ Some (v, n) → ((w : Var) (m : ℕ) → first_variable left ≡ Some w → IsTrue (admits w m) → IsPairTree (w, m) d → o ≡ Some (w, m)) → after_any left n ≡ Some left' → IsTrue (looks None left') → new ≡ mid ++ spelled ((v, n) ∷ []) → IsBegun row ds left' es old new
+next_begun row ds left left' o v n d es fs old mid new h e first a pair is only after l put = record {
+  reading = h.reading ++ (v, n) ∷ [];
+  goes = goes_next row ds h.reading left left' v n d es fs h.goes e first a pair (λ m b p. (some_pair_parts v v n m (sym is ∙ only v m first b p)).1) after l;
+  bits = both_put h.reading ((v, n) ∷ []) old mid new h.bits put;
+}
 
 -- where the next value is no pair of the next variable, these are no pairs of the row
-pub goes_wrong : (row : Layout) (ds : Items) (f : List ℕ) (left : Layout) (d : Data) (es fs : Items) (r : Reading) → Goes row ds f left fs → fs ≡ item d es → ((v : Var) (m : ℕ) → first_variable left ≡ Some v → IsTrue (admits v m) → IsPairTree (v, m) d → ⊥) → Reads row [] r → ArePairTrees r ds → ⊥
-goes_wrong row ds f left d es fs r g e wrong h t =
-    let (q, reads, trees, same) = g.back r h t in
+pub wrong_begun : (row left : Layout) (ds : Items) (d : Data) (es fs : Items) (old now : List Bool) (r : Reading) → IsBegun row ds left fs old now → fs ≡ item d es → ((v : Var) (m : ℕ) → first_variable left ≡ Some v → IsTrue (admits v m) → IsPairTree (v, m) d → ⊥) → Reads row [] r → ArePairTrees r ds → ⊥
+wrong_begun row left ds d es fs old now r g e wrong h t =
+    let (q, reads, trees, same) = g.goes.back r h t in
     by_first (first_variable left) refl q reads (subst (λ (x : Items). ArePairTrees q x) e trees)
   where
     by_first : (o : Option Var) → first_variable left ≡ o → (q : Reading) → Reads left [] q → ArePairTrees q (item d es) → ⊥
-    by_first None first q reads trees = subst (λ (x : Reading). ArePairTrees x (item d es)) (nothing_left left q g.looks_well first reads) trees
+    by_first None first q reads trees = subst (λ (x : Reading). ArePairTrees x (item d es)) (nothing_left left q g.goes.looks_well first reads) trees
     by_first (Some v) first q reads trees =
         let (m, q', a, small, is, pair, rest) = first_pair left v q d es first reads trees in
         wrong v m first a pair
 
-pub goes_short : (row : Layout) (ds : Items) (f : List ℕ) (left : Layout) (v : Var) (fs : Items) (r : Reading) → Goes row ds f left fs → fs ≡ no_items → first_variable left ≡ Some v → Reads row [] r → ArePairTrees r ds → ⊥
-goes_short row ds f left v fs r g e first h t =
-    let (q, reads, trees, same) = g.back r h t in
+-- nor where they end too early
+pub short_begun : (row left : Layout) (ds : Items) (v : Var) (fs : Items) (old now : List Bool) (r : Reading) → IsBegun row ds left fs old now → fs ≡ no_items → first_variable left ≡ Some v → Reads row [] r → ArePairTrees r ds → ⊥
+short_begun row left ds v fs old now r g e first h t =
+    let (q, reads, trees, same) = g.goes.back r h t in
     not_ended left v q first reads (subst (λ (x : Items). ArePairTrees q x) e trees)
 
 -- at the end
-pub goes_some : (row : Layout) (ds : Items) (f : List ℕ) (left : Layout) (fs : Items) → Goes row ds f left fs → fs ≡ no_items → first_variable left ≡ None → (r : Reading) × Reads row [] r × ArePairTrees r ds × (numbers r ≡ f)
+pub all_begun : (row left : Layout) (ds fs : Items) (old now : List Bool) → IsBegun row ds left fs old now → fs ≡ no_items → first_variable left ≡ None → (r : Reading) × Reads row [] r × ArePairTrees r ds × (now ≡ old ++ spelled r)
 unfolding Reads
-goes_some row ds f left fs g e first =
-    let all = is_whole left g.looks_well first in
+all_begun row left ds fs old now g e first =
+    let all = is_whole left g.goes.looks_well first in
     let none : Reads left [] [] = rw all refl in
-    let (r, reads, trees, same) = g.on [] none (rw e tt) in
-    (r, reads, trees, same ∙ append-nil f)
-
-pub goes_only : (row : Layout) (ds : Items) (f : List ℕ) (left : Layout) (fs : Items) (r : Reading) → Goes row ds f left fs → first_variable left ≡ None → Reads row [] r → ArePairTrees r ds → numbers r ≡ f
-goes_only row ds f left fs r g first h t =
-    let (q, reads, trees, same) = g.back r h t in
-    let none = nothing_left left q g.looks_well first reads in
-    same ∙ ap (λ (x : Reading). f ++ numbers x) none ∙ append-nil f
+    let both = g.goes.on [] none (rw e tt) in
+    let same = append-nil g.reading in
+    (g.reading, subst (λ (x : Reading). Reads row [] x) same both.0, subst (λ (x : Reading). ArePairTrees x ds) same both.1, g.bits)

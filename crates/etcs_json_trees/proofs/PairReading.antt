@@ -190,7 +190,7 @@ unfolding named_left
 named_none [] e = refl
 named_none (c ∷ t) e = ap (λ (o : Option (Named × List ℕ)). with_more o (c ∷ t) (λ x. named_from (length t) x)) e
 
--- something always stands for a text
+-- something is always left, if only the end
 pub some_left : (t : List ℕ) → false ≡ is_spent (named (named_left t))
 some_left t = by_first (first_pair t) refl
   where

@@ -83,11 +83,6 @@ body_long way nid dir r old one two framed passed =
     let l4 : length (num 13 0 ++ spelled []) ≡ 13 = length-sent L_PACKET 0 [] in
     omega (arith, l1, l2, l3, l4, length-head way nid dir, frame_is way)
 
-pub body_inside : (way : Way) (nid dir start bits : ℕ) (r : Reading) (old one two : List Bool) → one ≡ old ++ spelled ((NID_PACKET, nid) ∷ directed way dir ((L_PACKET, 0) ∷ [])) → two ≡ one ++ spelled r → start ≡ length old → bits ≡ frame_bits way → (start + bits ≤ length two) × (start + bits - 13 + 13 ≤ length two)
-body_inside way nid dir start bits r old one two framed passed is same =
-    let long = body_long way nid dir r old one two framed passed in
-    (omega (arith, long, is, same), omega (arith, long, is, same, frame_is way))
-
 pub body_put : (way : Way) (nid dir at len : ℕ) (r : Reading) (old one two new : List Bool) → one ≡ old ++ spelled ((NID_PACKET, nid) ∷ directed way dir ((L_PACKET, 0) ∷ [])) → two ≡ one ++ spelled r → len ≡ length two - length old → at ≡ length old + frame_bits way - 13 → new ≡ take at two ++ (num 13 len ++ drop (at + 13) two)
     → new ≡ old ++ spelled (reading_to way (typed nid dir r))
 body_put way nid dir at len r old one two new framed passed is place put =
@@ -187,10 +182,10 @@ plain_one way v text c s none shape h g =
     ∙ ap (λ (o : Option ℕ). fields_front o ++ fields_then v s) (sym none)
     ∙ fields_are way v s shape
 
-typed_unmarked : (nid dir : ℕ) (r : Reading) → IsUnmarked (typed nid dir r)
+pub typed_unmarked : (nid dir : ℕ) (r : Reading) → IsUnmarked (typed nid dir r)
 typed_unmarked nid dir r n e = absurd cc
 
-kept_unmarked : (nid dir : ℕ) (b : List Bool) → IsUnmarked (kept nid dir b)
+pub kept_unmarked : (nid dir : ℕ) (b : List Bool) → IsUnmarked (kept nid dir b)
 kept_unmarked nid dir b n e = absurd cc
 
 pub train_put : (way : Way) (has_marker : Bool) (dir n : ℕ) (text a b c : List ℕ) (old new : List Bool) → way ≡ ToTrain → text ≡ codes "{\"dir\":" ++ a → a ≡ decimal dir ++ 44 ∷ b → b ≡ codes "\"fields\":" ++ c → PutsTyped way dir c n old new → PutsPacket way has_marker text n old new
@@ -309,7 +304,7 @@ more_text way vs v text left next h e =
     ∙ sym (append_assoc s.0 (comma_if s.1 ++ one) next)
     ∙ ap (λ (t : Listed). t.0 ++ next) (sym (each_more (packet_tree way) (91 ∷ [], false) vs v))
 
-more_bits : (way : Way) (vs : List PacketValue) (v : PacketValue) (old mid new : List Bool) → mid ≡ old ++ spelled (readings_to way vs) → new ≡ mid ++ spelled (reading_to way v) → new ≡ old ++ spelled (readings_to way (vs ++ v ∷ []))
+pub more_bits : (way : Way) (vs : List PacketValue) (v : PacketValue) (old mid new : List Bool) → mid ≡ old ++ spelled (readings_to way vs) → new ≡ mid ++ spelled (reading_to way v) → new ≡ old ++ spelled (readings_to way (vs ++ v ∷ []))
 more_bits way vs v old mid new h e =
     let a = readings_to way vs in
     let one = reading_to way v in

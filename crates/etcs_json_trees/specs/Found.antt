@@ -1,10 +1,9 @@
 -- What tokens begin with, and what is found if only what fits its place is made.
-use Rattle.std.specs.Prelude.{◌≡◌, ◌⊎◌, ℕ, List, length, Option, Some, None, option_map}
+use Rattle.std.specs.Prelude.{◌≡◌, ◌⊎◌, ℕ, List, length, Option, Some, None}
 use Rattle.json.specs.Token.{Token}
 use Rattle.json.specs.Json.{items, members, value}
 use Rattle.serde_json.specs.Data.{Data, null, Items, Members, no_members, member, put}
 use Rattle.serde_json.specs.Read.{of_json, of_items, of_members, converted}
-use Rattle.etcs_packets.specs.PacketValues.{PacketValue, Form}
 use Rattle.etcs_json_trees.specs.declared.place.Place.{Place}
 use Rattle.etcs_json_trees.specs.Fits.{Fits, FitsItem}
 
@@ -42,7 +41,3 @@ FindsMember p n k read rest old new = (d : Data) × (e : Data) × (read ≡ Some
 abbrev pub HasNull : Members → Type 0
 HasNull no_members = ⊥
 HasNull (member k d ms) = (d ≡ null) ⊎ HasNull ms
-
--- o is the packet v
-abbrev pub IsFound : {P : Type 0} → (P → Form) → PacketValue → Option P → Type 0
-IsFound form v o = option_map (λ p. (form p).value) o ≡ Some v

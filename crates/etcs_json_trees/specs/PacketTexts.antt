@@ -1,10 +1,11 @@
 -- Parts of the text of packets, each with what is after it, and packets that are put as bits.
-use Rattle.std.specs.Prelude.{◌≡◌, ℕ, ◌≤◌, Bool, false, List, ◌++◌, length, IsTrue, codes, decimal}
+use Rattle.std.specs.Prelude.{◌≡◌, ℕ, ◌≤◌, Bool, false, List, [], ◌∷◌, ◌++◌, length, IsTrue, codes, decimal}
 use Rattle.serde_json.specs.Written.{compact_text}
+use Rattle.etcs_vars.specs.declared.var.Var.TheVariants.{L_PACKET, NID_PACKET}
 use Rattle.etcs_vars.specs.Reading.{Reading, spelled}
 use Rattle.etcs_tables.specs.declared.row.Way.{Way}
 use Rattle.etcs_tables.specs.declared.row.Way.TheVariants.{ToTrain, ToTrack}
-use Rattle.etcs_tables.specs.Frames.{is_direction, is_marker}
+use Rattle.etcs_tables.specs.Frames.{directed, is_direction, is_marker}
 use Rattle.etcs_tables.specs.Layouts.{ROW_LIMIT}
 use Rattle.etcs_tables.specs.Typed.{IsFramed}
 use Rattle.etcs_packets.specs.PacketValues.{PacketValue, marker, typed, nid_of, variables_of, IsPacketTo}
@@ -33,6 +34,10 @@ IsRowOf way nid r = (dir : ℕ) → IsTrue (is_direction way dir) → length (sp
 -- a packet isn't packet 0 without a frame
 abbrev pub IsUnmarked : PacketValue → Type 0
 IsUnmarked v = (n : ℕ) → v ≡ marker n → ⊥
+
+-- a typed packet of these variables is put after these bits, with zeros as L_PACKET
+abbrev pub IsUnmeasured : Way → ℕ → ℕ → Reading → List Bool → List Bool → Type 0
+IsUnmeasured way nid dir r old new = new ≡ (old ++ spelled ((NID_PACKET, nid) ∷ directed way dir ((L_PACKET, 0) ∷ []))) ++ spelled r
 
 -- a text is that of a typed packet of this direction, from the list of its variables on, and n bytes more, and its bits
 -- are put after those before

@@ -77,16 +77,16 @@ taken_as p t =
 unfoldable pub first_pair : List ℕ → Option (Named × List ℕ)
 first_pair t = if nat_lt 64 (length t) then taken_as (pair_in (drop 1 t)) t else None
 
--- what stands for a text that doesn't begin with a comma and a pair: no variable has this name
+-- how a list of pairs ends: the text that doesn't begin with a comma and a pair, in a name that no variable has
 abbrev pub stuck : List ℕ → Named
 stuck t = ((0 ∷ t, false), 0)
 
--- a pair and those after it; if there is none, what stands for the text
+-- a pair and those after it; if there is none, the end with this text
 abbrev pub with_more : Option (Named × List ℕ) → List ℕ → (List ℕ → List Named) → List Named
 with_more None t more = stuck t ∷ []
 with_more (Some x) t more = x.0 ∷ more x.1
 
--- the pairs with which a text begins, at most k, each after a comma, and then what stands for the text after them
+-- the pairs with which a text begins, at most k, each after a comma, and the end with the text after them
 abbrev pub named_from : ℕ → List ℕ → List Named
 named_from zero t = stuck t ∷ []
 named_from (suc k) t = with_more (first_pair t) t (λ s. named_from k s)
@@ -95,7 +95,7 @@ named_from (suc k) t = with_more (first_pair t) t (λ s. named_from k s)
 unfoldable pub named_left : List ℕ → List Named
 named_left t = named_from (length t) t
 
--- the pairs of a list of which those before this byte were taken, and what stands for the text after the list
+-- the pairs of a list of which those before this byte were taken, and the end with the text after the list
 abbrev pub pairs_left : ℕ → List ℕ → List Named
 pairs_left after t = named_left (after ∷ t)
 

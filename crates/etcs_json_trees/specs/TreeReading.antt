@@ -60,3 +60,7 @@ ArePacketTrees way [] no_items = Unit {0}
 ArePacketTrees way [] (item d ds) = ⊥
 ArePacketTrees way (v ∷ vs) no_items = ⊥
 ArePacketTrees way (v ∷ vs) (item d ds) = IsPacketTree way v d × ArePacketTrees way vs ds
+
+-- d is the list of the trees of the packets
+abbrev pub IsPacketList : Way → List PacketValue → Data → Type 0
+IsPacketList way vs d = (ds : Items) × (d ≡ array ds) × ArePacketTrees way vs ds

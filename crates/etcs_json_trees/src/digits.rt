@@ -1,27 +1,31 @@
 //! Numbers and bits as values of JSON.
 
-ghost use Rattle.std.specs.Prelude.{◌≡◌, ◌↔◌, ℕ, ◌<◌, IsTrue, List, Bool, Some, IfOk, IfSome};
+ghost use Rattle.std.specs.Prelude.{◌≡◌, ◌↔◌, ℕ, ◌<◌, IsTrue, List, Bool, Some, Err, IfOk, IfSome};
 ghost use Rattle.serde_json.specs.Data.{string};
 ghost use Rattle.serde_json.specs.View.{view};
 ghost use Rattle.etcs_packet_text.specs.Trees.{bits_tree};
 ghost use Rattle.etcs_json_trees.specs.TreeReading.{plain};
 
+use crate::fault::Fault;
 use etcs_bits::Bits;
 use serde_json::Value;
-use std::alloc::{AllocError, Global};
+use std::alloc::Global;
 
-/// Returns the bits of a text of the digits 0 and 1, in its order; `None` exactly if the value is anything else.
+/// Returns the bits of a text of the digits 0 and 1, in its order.
 ///
 /// # Errors
 ///
-/// `AllocError` if out of memory.
-pub fn bits_in(alloc: Global, value: &Value) -> Result<Option<Bits>, AllocError>
-    ensures some { IfOk result (λ o. IfSome o (λ b. view value.now ≡ bits_tree b)) }
-    ensures only { IfOk result (λ o. (b : List Bool) → view value.now ≡ bits_tree b → o ≡ Some b) }
+/// `Invalid` only if the value is anything else; `Memory` if out of memory.
+pub fn bits_in(alloc: Global, value: &Value) -> Result<Bits, Fault>
+    ensures ok { IfOk result (λ b. view value.now ≡ bits_tree b) }
+    ensures invalid { result ≡ Err Fault.Invalid → (b : List Bool) → view value.now ≡ bits_tree b → ⊥ }
 {
-    match value.as_str() {
-        Some(text) => Bits::from_digits(alloc, text.as_bytes()),
-        None => Ok(None),
+    let Some(text) = value.as_str() else {
+        return Err(Fault::Invalid);
+    };
+    match Bits::from_digits(alloc, text.as_bytes())? {
+        Some(bits) => Ok(bits),
+        None => Err(Fault::Invalid),
     }
 }
 

@@ -1,11 +1,11 @@
-//! Why no value is read from a text.
+//! Why nothing is read from a text or a tree.
 
 use std::alloc::{AllocError, AllocFailed};
 
-/// Why no value is read from a text.
+/// Why nothing is read from a text or a tree.
 #[derive(Clone, Copy, Debug, PartialEq, Eq)]
-pub(crate) enum Fault {
-    /// It isn't JSON.
+pub enum Fault {
+    /// A text that isn't JSON, or a tree that isn't what is to be read.
     Invalid,
     /// Out of memory.
     Memory,

@@ -37,7 +37,7 @@ pub(crate) fn front_len(text: &[u8; 64], var: Var) -> Option<usize>
 }
 
 /// The first 32 bytes.
-#[inline(always)]
+#[inline]
 fn first_32(bytes: &[u8]) -> &[u8; 32]
     requires { 32 ≤ length bytes.now }
     ensures { result.now ≡ take 32 bytes.now }
@@ -106,7 +106,7 @@ fn same_within(text: &[u8; 32], front: &[u8; 32], at: usize, len: usize) -> bool
 }
 
 /// Whether the eight bytes from a place on are the same.
-#[inline(always)]
+#[inline]
 pub(crate) fn same_eight(text: &[u8], front: &[u8], at: usize) -> bool
     requires text { at + 8 ≤ length text.now }
     requires front { at + 8 ≤ length front.now }
@@ -122,7 +122,7 @@ pub(crate) fn same_eight(text: &[u8], front: &[u8], at: usize) -> bool
 }
 
 /// Whether the four bytes from a place on are the same.
-#[inline(always)]
+#[inline]
 pub(crate) fn same_four(text: &[u8], front: &[u8], at: usize) -> bool
     requires text { at + 4 ≤ length text.now }
     requires front { at + 4 ≤ length front.now }

@@ -1,6 +1,6 @@
 //! Packets put as bits, read from the text that `json_line` writes of them.
 
-ghost use Rattle.std.specs.Prelude.{◌≡◌, ◌-◌, ◌≤◌, ◌++◌, ℕ, List, All, IfSome, false, length, drop};
+ghost use Rattle.std.specs.Prelude.{◌≡◌, ◌-◌, ◌≤◌, ◌++◌, List, All, IfSome, false, length, drop};
 ghost use Rattle.serde_json.specs.Written.{compact_text};
 ghost use Rattle.etcs_vars.specs.Reading.{Reading, spelled};
 ghost use Rattle.etcs_tables.specs.declared.row.Way.TheVariants.{ToTrain, ToTrack};
@@ -10,12 +10,13 @@ ghost use Rattle.etcs_packets.specs.PacketReadings.{reading_to, readings_to};
 ghost use Rattle.etcs_packet_text.specs.Trees.{pairs_tree, packets_tree};
 ghost use Rattle.etcs_json_trees.specs.PacketTexts.{Leaves, IsRowOf, IsUnmarked, PutsMarker, PutsPacket, PutsTyped, dir_then};
 
+use crate::packet_len::put_packet_len;
 use crate::written::digits::put_digits;
 use crate::written::pair_text::PairText;
 use crate::written::text::Text;
 use etcs_flat::inner::check_other;
 use etcs_packets::inner::{AnyPacket, send_frame};
-use etcs_tables::{ROW_LIMIT, Way, frame_bits, is_direction};
+use etcs_tables::{Way, frame_bits, is_direction};
 use etcs_vars::inner::VarSink;
 use etcs_vars::{BitPage, Var};
 
@@ -34,22 +35,19 @@ fn put_pairs<P: AnyPacket>(nid: u8, text: &[u8], out: &mut BitPage) -> Option<us
 }
 
 /// Puts the packet of this number and direction with the list of whose pairs a text begins, and returns how many bytes are
-/// after the list. L_PACKET is put when the length is known.
+/// after the list.
 #[inline(always)]
 fn put_body<P: AnyPacket>(nid: u8, dir: u8, text: &[u8], out: &mut BitPage) -> Option<usize>
     ensures { IfSome result (λ n. (r : Reading) × IsFramed P.WAY nid dir r × Leaves n (λ s. text.now ≡ compact_text (pairs_tree r) ++ s) × (out.new ≡ out.old ++ spelled (reading_to P.WAY (typed nid dir r)))) }
 {
-    if !is_direction(P::WAY, dir) {
+    let way = P::WAY;
+    if !is_direction(way, dir) {
         return None;
     }
     let start = out.len();
-    send_frame(P::WAY, u64::from(nid), dir, 0, out).ok()?;
+    send_frame(way, u64::from(nid), dir, 0, out).ok()?;
     let after = put_pairs::<P>(nid, text, out)?;
-    let len = out.len() - start;
-    if len > frame_bits(P::WAY) + ROW_LIMIT {
-        return None;
-    }
-    out.put_over(start + frame_bits(P::WAY) - 13, 13, len as u64);
+    put_packet_len(way, start, out)?;
     Some(after)
 }
 

@@ -1,6 +1,6 @@
 //! The number of a pair and what is after it.
 
-ghost use Rattle.std.specs.Prelude.{◌≡◌, ◌+◌, ◌^◌, ◌<◌, ◌≤◌, ◌⊎◌, ◌++◌, ◌∷◌, ℕ, List, true, IfSome, IfNone, length, take, drop, decimal};
+ghost use Rattle.std.specs.Prelude.{◌≡◌, ◌+◌, ◌^◌, ◌<◌, ◌≤◌, ◌⊎◌, ◌++◌, ◌∷◌, ℕ, List, true, IfSome, IfNone, length, drop, decimal};
 ghost use Rattle.etcs_packet_text.specs.Show.{hex_digit};
 ghost use Rattle.etcs_json_trees.specs.PairTexts.{NoDigit, hex_text, number_text};
 
@@ -63,7 +63,7 @@ fn more_digits(text: &[u8; 64], at: usize, most: usize, first: u64) -> (u64, usi
 }
 
 /// How many digits a number of this many bits has at most, or a few more.
-#[inline(always)]
+#[inline]
 fn most_digits(width: usize) -> usize
     requires { width ≤ 33 }
     ensures some { 0 < result }
@@ -83,7 +83,7 @@ fn most_digits(width: usize) -> usize
 }
 
 /// What the byte at a place is above the digit zero, 0 to 9 if it is a digit.
-#[inline(always)]
+#[inline]
 fn digit_at(text: &[u8; 64], at: usize) -> u64
     requires { at < 64 }
     ensures digit { result < 10 → drop at text.now ≡ (48 + result) ∷ drop (at + 1) text.now }

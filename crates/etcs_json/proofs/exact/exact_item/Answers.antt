@@ -6,6 +6,7 @@ use Rattle.etcs_text.specs.declared.entry.Kind.{Kind}
 use Rattle.etcs_text.specs.Entries.{EntryReads, EntryValue, entry_value}
 use Rattle.etcs_text.specs.Trees.{json_tree}
 use Rattle.etcs_json.specs.JsonLines.{SaysItem}
+use Rattle.etcs_json.proofs.ItemLengths.{item_whole, item_long_at}
 use Rattle.etcs_json.proofs.OneStored.{one_entry}
 use Rattle.etcs_json.proofs.OwnStored.{says_itself}
 use Rattle.etcs_json.proofs.PlainTrees.{read_tree, utf8_tree}
@@ -21,14 +22,17 @@ says_written kind line e r reads is =
 all_taken : (line text rest front : List ℕ) (n : ℕ) → text ≡ line ++ rest → n ≡ length line → take n text ≡ front → line ≡ front
 all_taken line text rest front n is long taken = sym (ap (take n) is ∙ take_at line rest n (sym long)) ∙ taken
 
-pub item_on-requires : goal.item_on-requires
-item_on-requires c = let (e, r, reads, within, text, bits) = c.in-Some.ensures in (e, r, reads, bits)
+pub item_on-requires-clause-whole : goal.item_on-requires-clause-whole
+item_on-requires-clause-whole c = let (e, r, reads, within, text, bits) = c.in-Some.ensures in item_whole c.args.kind e r c.line_item.new.page reads bits
 
-pub returns : goal.returns
-returns c =
+pub item_on-requires-clause-long : goal.item_on-requires-clause-long
+item_on-requires-clause-long c = let (e, r, reads, within, text, bits) = c.in-Some.ensures in item_long_at c.args.kind e r c.line_item.new.page reads bits
+
+pub returns-in-Ok : goal.returns-in-Ok
+returns-in-Ok c =
     let (e, r, reads, within, text, bits) = c.in-Some.ensures in
-    let (q, own, same) = c.in_ok-entry.ensures in
+    let (q, own, same) = c.in-Ok.ensures.ok in
     let (rest, is) = c.in_ok-text.ensures in
-    let one = one_entry c.args.kind e (entry_value c.in_ok-entry.entry) r q reads own (sym bits ∙ same) in
+    let one = one_entry c.args.kind e (entry_value c.in-Ok.entry) r q reads own (sym bits ∙ same) in
     let all = all_taken c.args.line.now c.as_slice.result.now rest (compact_text (json_tree e)) c.in-Some.used (c.as_slice.ensures.value ∙ is) c.if-used-line.false text in
-    says_written c.args.kind c.args.line.now (entry_value c.in_ok-entry.entry) q own (all ∙ ap (λ (z : EntryValue). compact_text (json_tree z)) one)
+    says_written c.args.kind c.args.line.now (entry_value c.in-Ok.entry) q own (all ∙ ap (λ (z : EntryValue). compact_text (json_tree z)) one)

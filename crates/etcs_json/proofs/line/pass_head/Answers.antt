@@ -3,7 +3,7 @@ use Rattle.serde_json.specs.Written.{compact_text}
 use Rattle.etcs_tables.specs.Headers.{head_row}
 use Rattle.etcs_tables.specs.declared.item.RowItem.TheVariants.{One}
 use Rattle.etcs_packet_text.specs.Trees.{pairs_tree}
-use Rattle.etcs_json.proofs.MessageTrees.{head_fields}
+use Rattle.etcs_json.proofs.ItemTrees.{head_fields}
 use Rattle.etcs_json.proofs.TakenTexts.{passed}
 use Rattle.etcs_json.proofs.line.pass_head.Goals as goal
 

@@ -4,7 +4,7 @@ use Rattle.etcs_vars.specs.Reading.{Reading, numbers, spelled}
 use Rattle.etcs_telegram.specs.Telegrams.{header_of}
 use Rattle.etcs_packet_text.specs.Trees.{pairs_tree}
 use Rattle.etcs_json.proofs.TakenTexts.{passed}
-use Rattle.etcs_json.proofs.TelegramTrees.{header_read}
+use Rattle.etcs_json.proofs.ItemTrees.{header_read}
 use Rattle.etcs_json.proofs.line.pass_header.Goals as goal
 
 pub returns : goal.returns

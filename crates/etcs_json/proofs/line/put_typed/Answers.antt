@@ -1,5 +1,6 @@
 use Rattle.std.proofs.Common.{ℕ, ◌+◌, ◌++◌, List, length, refl, sym, ap, subst, ◌∙◌}
 use Rattle.std.specs.Prelude.{codes}
+use Rattle.etcs_vars.specs.declared.var.Var.TheVariants.{PADDING}
 use Rattle.etcs_tables.specs.declared.row.Way.{Way}
 use Rattle.etcs_tables.specs.Headers.{head_row}
 use Rattle.etcs_tables.specs.Layouts.{layout}
@@ -7,7 +8,8 @@ use Rattle.etcs_tables.specs.Rows.{message_row_to}
 use Rattle.etcs_rows.proofs.FrameLemmas.{row_found}
 use Rattle.etcs_reader.specs.Fields.{ReadsFields}
 use Rattle.etcs_messages.specs.Messages.{typed_message}
-use Rattle.etcs_json.proofs.PutItems.{typed_completes, typed_put, typed_rest}
+use Rattle.etcs_json.specs.Puts.{rest_of}
+use Rattle.etcs_json.proofs.PutItems.{kept_put, typed_completes, typed_put}
 use Rattle.etcs_json.proofs.TakenTexts.{after_taken, between_taken, front_taken, typed_taken}
 use Rattle.etcs_json.proofs.line.put_typed.Goals as goal
 
@@ -29,5 +31,5 @@ returns g c =
     let between = between_taken way nid c.pass_head.new.text c.pass_way.new.text c.byte_and.new.self c.pass.new.self (rw c.WAY-2.ensures at c.in_ok-pass_way.ensures) c.in_ok-nid.ensures c.in_ok-pass.ensures in
     let beyond = after_taken way vs padding c.pass.new.self c.pass_packets.new.text c.pass_padding.new.text listed padded in
     let text = typed_taken way nid head body vs padding (codes "{\"fields\":" ++ own) c.pass_head.new.text c.pass.new.self c.pass_padding.new.text front between beyond in
-    let bits = typed_put way head body vs padding c.args.out.now c.pass_head.new.out c.put_own.new.out c.pass_packets.new.out c.pass_padding.new.out hbits obits pbits dbits in
-    (typed_message nid head body vs padding, typed_rest way head body vs padding, typed_completes way nid (layout items) head body vs padding found reads own_fields (carried refl) few, (c.pass_padding.new.text, ap (λ (z : List ℕ). length z) (sym c.left-2.ensures), text), bits)
+    let bits = typed_put way nid head body vs padding c.args.out.now c.pass_head.new.out c.put_own.new.out c.pass_packets.new.out c.pass_padding.new.out hbits obits pbits (kept_put PADDING padding c.pass_packets.new.out c.pass_padding.new.out refl dbits) in
+    (typed_message nid head body vs padding, rest_of way (typed_message nid head body vs padding), typed_completes way nid (layout items) head body vs padding found reads own_fields (carried refl) few, (c.pass_padding.new.text, ap (λ (z : List ℕ). length z) (sym c.left-2.ensures), text), bits)

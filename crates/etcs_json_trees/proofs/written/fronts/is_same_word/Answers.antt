@@ -1,15 +1,9 @@
-use Rattle.std.proofs.Common.{◌≡◌, ◌∙◌, ℕ, List, ap, sym, w64}
-use Rattle.std.proofs.lemmas.Bool.{eqb-true, eq-eqb}
-use Rattle.std.specs.Int.{from_le_bytes}
-use Rattle.etcs_json_trees.proofs.Eight.{same_word}
+use Rattle.std.proofs.Common.{w64}
+use Rattle.std.proofs.lemmas.Nat.{le_bytes_8}
+use Rattle.etcs_json_trees.proofs.Eight.{same_number}
 use Rattle.etcs_json_trees.proofs.written.fronts.is_same_word.Goals as goal
 
 pub returns : goal.returns
 returns c =
-    let a = c.args.first.now in
-    let b = c.args.second.now in
-    let one : c.from_le_bytes.result ≡ from_le_bytes w64 a = c.from_le_bytes.ensures in
-    let two : c.from_le_bytes-2.result ≡ from_le_bytes w64 b = c.from_le_bytes-2.ensures in (
-      λ h. same_word a b c.told-first c.told-second c.fits-first c.fits-second (sym one ∙ eqb-true _ _ h ∙ two),
-      λ e. eq-eqb _ _ (one ∙ ap (λ (z : List ℕ). from_le_bytes w64 z) e ∙ sym two),
-    )
+    same_number w64 c.args.first.now c.args.second.now _ _ c.from_le_bytes.ensures c.from_le_bytes-2.ensures
+    (le_bytes_8 _ _ c.told-first c.fits-first c.from_le_bytes.ensures) (le_bytes_8 _ _ c.told-second c.fits-second c.from_le_bytes-2.ensures)

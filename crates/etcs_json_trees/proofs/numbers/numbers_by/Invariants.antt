@@ -1,8 +1,0 @@
-use Rattle.std.proofs.Common.{drop}
-use Rattle.serde_json.specs.View.{items_view}
-use Rattle.etcs_tables.specs.Layouts.{layout}
-use Rattle.etcs_json_trees.proofs.PairLemmas.{Goes}
-use Rattle.etcs_json_trees.proofs.numbers.numbers_by.Given as goal
-
-abbrev pub invariant-loop-value : goal.invariant-loop-value
-invariant-loop-value l = Goes (layout l.fn.row.items.now) (items_view l.list) l.numbers.items l.place (items_view (drop l.value-index l.list))

@@ -1,4 +1,0 @@
-use Rattle.etcs_json_trees.proofs.pairs.+write_hex.Given as goal
-
-abbrev pub decreases-write_hex : goal.decreases-write_hex
-decreases-write_hex l = l.count

@@ -1,41 +1,40 @@
--- What a first feed of the reader of a kind returns for an item, and for other bits.
-use Rattle.std.proofs.Common.{◌≡◌, ℕ, ◌+◌, ◌*◌, Bool, List, [], Result, Ok, Err, ap, refl, sym, subst, ◌∙◌, arith}
-use Rattle.etcs_vars.specs.declared.var.Var.{Var}
-use Rattle.etcs_vars.specs.declared.feed.Fed.{Fed}
-use Rattle.etcs_vars.specs.declared.feed.ReadFault.{ReadFault}
-use Rattle.etcs_vars.specs.declared.feed.Fed.TheVariants.{Done, More}
-use Rattle.etcs_vars.specs.declared.feed.ReadFault.TheVariants.{Refused, Ended}
-use Rattle.etcs_vars.specs.Reading.{IsOutcome, done, refused, more}
-use Rattle.etcs_sequence.specs.Progress as inner
+-- What bytes begin with, by their account or by a reader's first feed.
+use Rattle.std.proofs.Common.{◌≡◌, ℕ, ◌+◌, ◌*◌, ◌/◌, Bool, List, [], Ok, ap, length, take, sym, subst, ◌∙◌, arith}
+use Rattle.std.proofs.lemmas.List.{length-take-le}
+use Rattle.etcs_vars.specs.declared.feed.Fed.TheVariants.{Done}
+use Rattle.etcs_vars.specs.Reading.{Reading, IsOutcome, done, refused, more, readings_of, spelled}
+use Rattle.etcs_vars.proofs.Outcomes.{more_wanted, none_refused}
 use Rattle.etcs_text.specs.declared.entry.Kind.{Kind}
 use Rattle.etcs_text.specs.Entries.{EntryReads, EntryValue}
-use Rattle.etcs_text.specs.Readers.{Feeds, finished, progress_of}
+use Rattle.etcs_text.specs.Readers.{Feeds, Progress, finished}
+use Rattle.etcs_text.proofs.ItemKinds.{kind_regular}
+use Rattle.etcs_reasons.proofs.ItemLengths.{item_length}
+use Rattle.etcs_reasons.specs.Accounts.{Accounts}
+use Rattle.etcs_reasons.specs.declared.account.Part.{Part}
+use Rattle.etcs_reasons.specs.declared.account.End.TheVariants as end
+use Rattle.etcs_c.proofs.Fronts.{outcome_front}
 
-inner_finished : {V : Type 0} (item : V → EntryValue) (s : inner.Progress V) (e : EntryValue) → progress_of item s ≡ finished e → (v : V) × (s ≡ inner.finished v)
-inner_finished item (inner.reading b) e h = absurd cc
-inner_finished item (inner.finished v) e h = (v, refl)
-inner_finished item (inner.stopped i x) e h = absurd cc
-inner_finished item (inner.starved n) e h = absurd cc
+-- the item that was fed, which is this one
+pub first_whole : (kind : Kind) (b : List Bool) (k : ℕ) (at : Progress) (v : EntryValue) → Feeds (EntryReads kind) [] b (Ok (Done k)) at → at ≡ finished v → IsOutcome (EntryReads kind) b (done v (8 * k))
+first_whole kind b k at v (e, at_e, le, o) is =
+    let same : finished v ≡ finished e = sym is ∙ at_e in
+    let one : e ≡ v = cc in
+    let none : 0 + 8 * k ≡ 8 * k = omega arith in
+    subst (λ (n : ℕ). IsOutcome (EntryReads kind) b (done v n)) none (subst (λ (u : EntryValue). IsOutcome (EntryReads kind) b (done u (0 + 8 * k))) one o)
 
-module _ {V : Type 0} (item : V → EntryValue) (kind : Kind) (b : List Bool) (at : inner.Progress V) where
-  abbrev pub First : Result Fed ReadFault → Type 0
-  First answer = Feeds (EntryReads kind) [] b answer (progress_of item at)
+module _ (kind : Kind) (b : List Bool) (p : Reading) where
+  abbrev Items : Reading → Type 0
+  Items = readings_of (EntryReads kind)
 
-  pub first_whole : (k : ℕ) (v : V) → at ≡ inner.finished v → First (Ok (Done k)) → IsOutcome (EntryReads kind) b (done (item v) (8 * k))
-  first_whole k v is (e, at_e, le, o) =
-      let same : finished (item v) ≡ finished e = ap (progress_of item) (sym is) ∙ at_e in
-      let one : e ≡ item v = cc in
-      let none : 0 + 8 * k ≡ 8 * k = omega arith in
-      subst (λ (n : ℕ). IsOutcome (EntryReads kind) b (done (item v) n)) none (subst (λ (u : EntryValue). IsOutcome (EntryReads kind) b (done u (0 + 8 * k))) one o)
+  -- an account of the first bits that an item may have is one of all
+  pub account_whole : (n : ℕ) → n ≡ length (spelled p) / 8 → Accounts Items p end.Whole (take 8184 b) → (e : EntryValue) × IsOutcome (EntryReads kind) b (done e (8 * n)) × EntryReads kind e p
+  account_whole n n_is ((e, reads), k, within, is) =
+      let long : length (spelled p) ≡ k = ap length is ∙ length-take-le k (take 8184 b) within in
+      let eight : k ≡ 8 * n = omega (arith, (item_length kind e p reads).0, n_is, long) in
+      (e, subst (λ (m : ℕ). IsOutcome (EntryReads kind) b (done e m)) eight (outcome_front kind b (done e k) (within, p, reads, is)), reads)
 
-  pub first_taken : (k : ℕ) → ((v : V) → at ≡ inner.finished v → ⊥) → First (Ok (Done k)) → ⊥
-  first_taken k not (e, at_e, le, o) = let (v, is) = inner_finished item at e at_e in not v is
+  pub account_open : (part : Part) → Accounts Items p (end.Open part) (take 8184 b) → IsOutcome (EntryReads kind) b more
+  account_open part (shows, owner, short) = outcome_front kind b more (more_wanted Items (kind_regular kind) (take 8184 b) owner)
 
-  pub first_more : First (Ok More) → IsOutcome (EntryReads kind) b more
-  first_more f = f.1
-
-  pub first_refused : (i : ℕ) (x : Var) → First (Err (Refused i x)) → IsOutcome (EntryReads kind) b (refused i x)
-  first_refused i x f = f
-
-  pub first_ended : First (Err Ended) → ⊥
-  first_ended f = f
+  pub account_refused : (i : ℕ) (part : Part) → Accounts Items p (end.Refused i part) (take 8184 b) → IsOutcome (EntryReads kind) b (refused i part.var)
+  account_refused i part (shows, r, short) = outcome_front kind b (refused i part.var) ((none_refused Items (kind_regular kind) (take 8184 b) i part.var r, r.within, r.blocked), r.owned)

@@ -1,14 +1,11 @@
 -- What is found in as many bits as an item may have is found in all of them.
-use Rattle.std.proofs.Common.{◌≡◌, ◌+◌, ◌*◌, ◌≤◌, Bool, List, [], ◌∷◌, length, take, sym, ap, subst, ◌∙◌, arith, inl, inr}
+use Rattle.std.proofs.Common.{◌≡◌, ◌+◌, ◌≤◌, Bool, List, [], ◌∷◌, length, take, sym, ap, subst, ◌∙◌, arith, inl, inr}
 use Rattle.std.proofs.lemmas.Bool.{cases_lt}
 use Rattle.std.proofs.lemmas.List.{append-nil, length-append, length-take, length-take-le, take-take, take_all}
-use Rattle.etcs_vars.specs.Reading.{Reading, spelled, readings_of, IsOutcome, NoneYet, Viable, Owner, more}
+use Rattle.etcs_vars.specs.Reading.{Reading, spelled, readings_of, Outcome, IsOutcome, NoneYet, Viable, Owner, done, refused, more}
 use Rattle.etcs_text.specs.declared.entry.Kind.{Kind}
-use Rattle.etcs_text.specs.Entries.{EntryReads}
-use Rattle.etcs_c.specs.declared.found.Found.{Found}
-use Rattle.etcs_c.specs.declared.found.Found.TheVariants as found_as
-use Rattle.etcs_c.specs.Answers.{Finds}
-use Rattle.etcs_c.proofs.Whole.{item_bytes}
+use Rattle.etcs_text.specs.Entries.{EntryReads, EntryValue}
+use Rattle.etcs_reasons.proofs.ItemLengths.{item_length}
 
 abbrev Items : Kind → Reading → Type 0
 Items kind = readings_of (EntryReads kind)
@@ -16,7 +13,7 @@ Items kind = readings_of (EntryReads kind)
 -- an item is among them
 none_front : (kind : Kind) (b : List Bool) → NoneYet (Items kind) (take 8184 b) → NoneYet (Items kind) b
 none_front kind b none k le (r, l, e) =
-    let most = (item_bytes l.0 r l.1.1).most in
+    let most = (item_length kind l.0 r l.1).1 in
     let short : k ≤ 8184 = omega (arith, most, ap (λ (t : List Bool). length t) e, length-take-le k b le) in
     let inside : k ≤ length (take 8184 b) = omega (arith, le, short, length-take 8184 b) in
     none k inside (r, l, e ∙ sym (take-take k 8184 b short))
@@ -27,22 +24,21 @@ long_none kind b ge none (r, [], l, e) =
     let front = take 8184 b in
     none (length front) (omega arith) (r, l, e ∙ append-nil front ∙ sym (take_all (length front) front (omega arith)))
 long_none kind b ge none (r, x ∷ c, l, e) =
-    let most = (item_bytes l.0 r l.1.1).most in
+    let most = (item_length kind l.0 r l.1).1 in
     let long : length (spelled r) ≡ length (take 8184 b) + length (x ∷ c) = ap (λ (t : List Bool). length t) e ∙ length-append (take 8184 b) (x ∷ c) in
     absurd (omega (arith, most, long, length-take 8184 b, ge))
 
-pub found_front : (kind : Kind) (b : List Bool) (found : Found) → Finds kind (take 8184 b) found → Finds kind b found
-found_front kind b (found_as.Whole e k) (le, r, reads, spells) =
-    let short : 8 * k ≤ 8184 = omega (arith, le, length-take 8184 b) in
-    (omega (arith, le, length-take 8184 b), r, reads, spells ∙ take-take (8 * k) 8184 b short)
-found_front kind b found_as.More (none, viable) =
-    elim (cases_lt (length b) 8184) [
-      | inl lt ↦ subst (λ (t : List Bool). IsOutcome (EntryReads kind) t more) (take_all 8184 b (omega (arith, lt))) (none, viable)
-      | inr ge ↦ absurd (long_none kind b ge none viable)
-    ]
-found_front kind b (found_as.Refused i x) ((none, lt, blocked), owner) =
+pub outcome_front : (kind : Kind) (b : List Bool) (o : Outcome EntryValue) → IsOutcome (EntryReads kind) (take 8184 b) o → IsOutcome (EntryReads kind) b o
+outcome_front kind b (done e k) (le, r, reads, spells) =
+    let short : k ≤ 8184 = omega (arith, le, length-take 8184 b) in
+    (omega (arith, le, length-take 8184 b), r, reads, spells ∙ take-take k 8184 b short)
+outcome_front kind b (refused i x) ((none, lt, blocked), owner) =
     let short : i + 1 ≤ 8184 = omega (arith, lt, length-take 8184 b) in
     let next : take (i + 1) (take 8184 b) ≡ take (i + 1) b = take-take (i + 1) 8184 b short in
     let front : take i (take 8184 b) ≡ take i b = take-take i 8184 b (omega (arith, short)) in
     ((none_front kind b none, omega (arith, lt, length-take 8184 b), λ v. blocked (rw next v)), subst (λ (t : List Bool). Owner (Items kind) t x) front owner)
-found_front kind b found_as.Memory h = tt
+outcome_front kind b more (none, viable) =
+    elim (cases_lt (length b) 8184) [
+      | inl lt ↦ subst (λ (t : List Bool). IsOutcome (EntryReads kind) t more) (take_all 8184 b (omega (arith, lt))) (none, viable)
+      | inr ge ↦ absurd (long_none kind b ge none viable)
+    ]

@@ -1,17 +1,17 @@
 -- Telegrams of a group one after another.
-use Rattle.std.proofs.Common.{◌≡◌, ◌+◌, ◌<◌, ℕ, List, [], ◌∷◌, take, length, reverse, get_or, sym, ap, subst, ◌∙◌, refl, arith, inl, inr}
+use Rattle.std.proofs.Common.{◌≡◌, Bool, ◌+◌, ◌<◌, ℕ, List, [], ◌∷◌, take, length, reverse, get_or, sym, ap, subst, ◌∙◌, arith, inl, inr}
 use Rattle.std.specs.Prelude.{Option, Some, slice_get}
 use Rattle.std.proofs.lemmas.List.{reverse-append, take_more}
 use Rattle.std.proofs.lemmas.Option.{slice_get-get_or}
 use Rattle.etcs_telegram.specs.Telegrams.{TelegramContent}
-use Rattle.etcs_text.specs.declared.entry.Entry.{Entry}
+use Rattle.etcs_bits.specs.Bits.{bits}
+use Rattle.etcs_vars.specs.Reading.{done, refused, more}
+use Rattle.etcs_text.specs.declared.entry.Kind.{Kind}
 use Rattle.etcs_group.specs.Groups.{HeldOf, HoldsNone, IsHeldOf, Joins, JoinsSet}
 use Rattle.etcs_c.specs.declared.answer.EtcsAnswer.{EtcsAnswer}
 use Rattle.etcs_c.specs.declared.groups.EtcsTelegram.{EtcsTelegram}
-use Rattle.etcs_c.specs.declared.found.Found.{Found}
-use Rattle.etcs_c.specs.declared.found.Found.TheVariants.{Whole, More, Refused, Memory}
-use Rattle.etcs_c.specs.Answers.{Says}
-use Rattle.etcs_c.specs.Groups.{AreHeld, IsOf, SaysFirst, SaysNone, SaysUnheld}
+use Rattle.etcs_c.specs.Answers.{SaysNone}
+use Rattle.etcs_c.specs.Groups.{AreHeld, IsOf, SaysFirst, SaysUnheld}
 
 -- before the first telegram nothing is held
 pub none_held : (rs : List EtcsTelegram) (slots : List (Option TelegramContent)) → HoldsNone slots → AreHeld (take 0 rs) slots
@@ -24,23 +24,23 @@ one_more rs i d t old new lt is (good, fits) adds (ts, are, none, held) =
     let last : reverse (take (i + 1) rs) ≡ get_or rs i d ∷ reverse (take i rs) = ap (λ (l : List EtcsTelegram). reverse l) (take_more rs i d lt) ∙ reverse-append (take i rs) (get_or rs i d ∷ []) in
     (t ∷ ts, rw last (is, are), (joins, none), adds ts held)
 
--- the answer for bytes that no telegram begins with, whose status isn't 0
-pub said_none : (found : Found) → ((e : Entry) (k : ℕ) → found ≡ Whole e k → ⊥) → (s : ℕ) (a : EtcsAnswer) → Says found s a → SaysNone found s a × (s ≡ 0 → ⊥)
-said_none (Whole e k) not s a says = absurd (not e k refl)
-said_none More not s a says = (says, λ z. omega (arith, z, says))
-said_none (Refused i x) not s a says = (says, λ z. omega (arith, z, says.0))
-said_none Memory not s a says = (says, λ z. omega (arith, z, says))
+-- the status for bytes that begin with no telegram isn't 0
+pub none_fails : (kind : Kind) (b : List Bool) (s : ℕ) (a : EtcsAnswer) → SaysNone kind b s a → s ≡ 0 → ⊥
+none_fails kind b s a (inl (done e n, o, (taken, none))) z = none
+none_fails kind b s a (inl (refused i x, o, (bit, var, is))) z = omega (arith, z, is)
+none_fails kind b s a (inl (more, o, (is, t))) z = omega (arith, z, is)
+none_fails kind b s a (inr (is, t)) z = omega (arith, z, is)
 
 -- it says nothing of how many are held
-none_same : (found : Found) (s : ℕ) (a a' : EtcsAnswer) → SaysNone found s a → a'.bit ≡ a.bit → a'.var ≡ a.var → SaysNone found s a'
-none_same (Whole e k) s a a' says bit var = absurd says
-none_same More s a a' says bit var = says
-none_same (Refused i x) s a a' says bit var = (says.0, bit ∙ says.1, var ∙ says.2)
-none_same Memory s a a' says bit var = says
+none_same : (kind : Kind) (b : List Bool) (s : ℕ) (a a' : EtcsAnswer) → SaysNone kind b s a → a'.bit ≡ a.bit → a'.var ≡ a.var → SaysNone kind b s a'
+none_same kind b s a a' (inl (done e n, o, (taken, none))) bit var = absurd none
+none_same kind b s a a' (inl (refused i x, o, (at, held, is))) bit var = inl (refused i x, o, (bit ∙ at, var ∙ held, is))
+none_same kind b s a a' (inl (more, o, says)) bit var = inl (more, o, says)
+none_same kind b s a a' (inr says) bit var = inr says
 
 unheld_same : (r : EtcsTelegram) (slots : List (Option TelegramContent)) (s : ℕ) (a a' : EtcsAnswer) → SaysUnheld r slots s a → a'.bit ≡ a.bit → a'.var ≡ a.var → SaysUnheld r slots s a'
 unheld_same r slots s a a' (inl h) bit var = inl h
-unheld_same r slots s a a' (inr (inl (size, found, kind, finds, says))) bit var = inr (inl (size, found, kind, finds, none_same found s a a' says bit var))
+unheld_same r slots s a a' (inr (inl (kind, number, telegrams, says))) bit var = inr (inl (kind, number, telegrams, none_same kind (bits r.bytes) s a a' says bit var))
 unheld_same r slots s a a' (inr (inr h)) bit var = inr (inr h)
 
 -- the first that isn't held, with its place

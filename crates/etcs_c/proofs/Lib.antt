@@ -1,4 +1,3 @@
-pub mod Checking
 pub mod Delivering
 pub mod Firsts
 pub mod Fits
@@ -8,6 +7,7 @@ pub mod Packing
 pub mod Packs
 pub mod Refusals
 pub mod Rooms
+pub mod Saying
 pub mod Whole
 pub mod Equality
 pub mod Names

@@ -1,50 +1,30 @@
 -- When no item has given fields.
-use Rattle.std.proofs.Common.{Result, inl, inr, ◌≡◌, ℕ, ◌+◌, ◌*◌, ◌/◌, ◌%◌, ◌≤◌, Bool, List, [], ◌∷◌, ◌++◌, length, take, drop, refl, sym, ap, subst, ◌∙◌, arith}
+use Rattle.std.proofs.Common.{inl, inr, ◌≡◌, ℕ, ◌<◌, ◌*◌, ◌/◌, ◌%◌, Bool, List, [], ◌∷◌, ◌++◌, length, take, drop, refl, sym, ap, subst, ◌∙◌, arith}
 use Rattle.std.proofs.lemmas.List.{append-nil, take_all, take-append-drop}
 use Rattle.etcs_vars.specs.declared.var.Var.{Var}
 use Rattle.etcs_vars.specs.declared.var.Var.TheVariants.{PADDING, OTHER_DATA, NID_MESSAGE, L_MESSAGE}
 use Rattle.etcs_vars.specs.Reading.{Reading, spelled, kept, readings_of, NoneYet, IsOutcome, done, refused, more}
 use Rattle.etcs_vars.proofs.Apart.{AllFit, apart}
 use Rattle.etcs_packets.specs.PacketReadings.{readings_to}
-use Rattle.etcs_telegram.specs.declared.size.Size.{Size}
-use Rattle.etcs_telegram.specs.declared.size.Size.TheVariants as size
-use Rattle.etcs_telegram.specs.Telegrams.{pad_bits, user_bits}
-use Rattle.etcs_telegram.proofs.Spellings.{whole_length}
 use Rattle.etcs_messages.specs.Messages.{head_reading, typed_message, kept_message}
-use Rattle.etcs_messages.proofs.Bytes.{message_bytes}
 use Rattle.etcs_text.specs.declared.entry.Kind.{Kind}
-use Rattle.etcs_text.specs.Entries.{EntryReads, EntryValue, Spells, of_message, of_telegram}
+use Rattle.etcs_text.specs.Entries.{EntryReads, EntryValue, Spells, entry_kind, of_message, of_telegram}
 use Rattle.etcs_text.proofs.ItemKinds.{kind_regular}
 use Rattle.etcs_c.specs.declared.fields.EtcsField.{EtcsField}
-use Rattle.std.specs.Prelude.{IfOk, MatchResult}
-use Rattle.etcs_text.specs.declared.entry.Entry.{Entry}
 use Rattle.etcs_text.specs.Encodings.{IsEncoded}
 use Rattle.etcs_c.specs.declared.answer.EtcsAnswer.{EtcsAnswer}
-use Rattle.etcs_c.specs.declared.found.Found.{Found}
-use Rattle.etcs_c.specs.declared.found.Found.TheVariants as found_as
-use Rattle.etcs_c.specs.Writes.{Starves, Writes}
-use Rattle.etcs_c.specs.Answers.{Finds, Says}
+use Rattle.etcs_c.specs.Writes.{Writes}
+use Rattle.etcs_c.specs.Answers.{SaysNone}
 use Rattle.etcs_c.specs.Built.{IsBuilt, NoneHas}
-use Rattle.etcs_c.proofs.Delivering.{encoding_said}
+use Rattle.etcs_c.proofs.Fronts.{outcome_front}
+use Rattle.etcs_reasons.proofs.ItemLengths.{item_length}
+use Rattle.etcs_bits.specs.Bits.{bits}
+use Rattle.std.specs.Prelude.{All}
 use Rattle.etcs_c.specs.Fields.{fields_of}
 use Rattle.etcs_c.specs.ItemFields.{AreFit, packed, whole_bytes}
 use Rattle.etcs_c.proofs.Packing.{fit_reading, packed_reading}
 
 -- ---- The spelling of an item.
-
-pub record InBytes (r : Reading) : Type 0 where
-  pub whole : length (spelled r) % 8 ≡ 0
-  pub most : length (spelled r) ≤ 8 * 1023
-
-sized : (s : Size) (n : ℕ) → n ≡ user_bits s + pad_bits s → (n % 8 ≡ 0) × (n ≤ 8 * 1023)
-sized size.Short n h = (omega (arith, h), omega (arith, h))
-sized size.Long n h = (omega (arith, h), omega (arith, h))
-
-pub item_bytes : (e : EntryValue) (r : Reading) → Spells e r → InBytes r
-item_bytes (of_telegram t) r h =
-    let n = sized t.size (length (spelled r)) (whole_length t.size r (t, (refl, h))) in
-    record { whole = n.0; most = n.1 }
-item_bytes (of_message way m) r h = let n = message_bytes way r (m, h) in record { whole = n.0; most = n.1 }
 
 all_bytes : (b : List Bool) → length b % 8 ≡ 0 → whole_bytes b ≡ b
 all_bytes b h = take_all (8 * (length b / 8)) b (omega (arith, h))
@@ -65,7 +45,7 @@ one_sent (of_message way (kept_message nid b)) r q h k =
 fields_spell : (e : EntryValue) (r : Reading) (fs : List EtcsField) → Spells e r → fs ≡ fields_of r → whole_bytes (packed fs) ≡ spelled r
 fields_spell e r fs h is =
     let bits : packed fs ≡ spelled r = ap packed is ∙ packed_reading r in
-    ap whole_bytes bits ∙ all_bytes (spelled r) (item_bytes e r h).whole
+    ap whole_bytes bits ∙ all_bytes (spelled r) (item_length (entry_kind e) e r (refl, h)).0
 
 fits : (kind : Kind) (e : EntryValue) (r : Reading) → EntryReads kind e r → AllFit r
 fits kind e r h = (kind_regular kind).fit r (e, h)
@@ -96,23 +76,28 @@ other_none kind fs e n q (le, p, reads, bits) h not e' (r, h', is) =
     let read : q ≡ r = one_sent e q p h reads.1 ∙ one.0 in
     not (is ∙ ap fields_of (sym read))
 
--- the kind of an item that bytes of a kind begin with
-pub found_reads : (kind : Kind) (b : List Bool) (e : EntryValue) (n : ℕ) (q : Reading) → IsOutcome (EntryReads kind) b (done e n) → Spells e q → EntryReads kind e q
-found_reads kind b e n q (le, p, reads, bits) h = (reads.0, h)
-
 -- ---- The status and the text, by what was found.
 
-pub built_said : {V E : Type 0} (items : V → List ℕ) (kind : Kind) (fs : List EtcsField) (e : EntryValue) (n : ℕ) (q : Reading) → IsOutcome (EntryReads kind) (whole_bytes (packed fs)) (done e n) → Spells e q → fs ≡ fields_of q → (old new : List ℕ) (s : ℕ) (a : EtcsAnswer) (made : Result V E) → IfOk made (λ v. IsEncoded e (items v)) → MatchResult made (λ v. Writes (items v) old new s a) (λ x. Starves old new s) → IsBuilt kind fs old new s a
-built_said items kind fs e n q o h is old new s a made made_is writes = inl (e, (q, found_reads kind (whole_bytes (packed fs)) e n q o h, is), encoding_said items e old new s a made made_is writes)
+-- the bytes of the bits of its fields are its encoding
+pub built_said : (kind : Kind) (fs : List EtcsField) (e : EntryValue) (r : Reading) → EntryReads kind e r → fs ≡ fields_of r → (bytes : List ℕ) → All (λ b. b < 256) bytes → bits bytes ≡ take 8184 (whole_bytes (packed fs)) → (old new : List ℕ) (s : ℕ) (a : EtcsAnswer) → Writes bytes old new s a → IsBuilt kind fs old new s a
+built_said kind fs e r reads is bytes small bits_are old new s a writes =
+    let spell = fields_spell e r fs reads.1 is in
+    let all : take 8184 (spelled r) ≡ spelled r = take_all 8184 (spelled r) (item_length kind e r reads).1 in
+    let encoded : IsEncoded e bytes = record { reading = r; reads = reads.1; small = small; bits_are = bits_are ∙ ap (λ (t : List Bool). take 8184 t) spell ∙ all } in
+    inl (e, (r, reads, is), inl (bytes, encoded, writes))
 
-pub other_said : (kind : Kind) (fs : List EtcsField) (e : EntryValue) (n : ℕ) (q : Reading) → IsOutcome (EntryReads kind) (whole_bytes (packed fs)) (done e n) → Spells e q → (fs ≡ fields_of q → ⊥) → (old : List ℕ) (a : EtcsAnswer) → IsBuilt kind fs old old 7 a
-other_said kind fs e n q o h not old a = inr (inl (other_none kind fs e n q o h not, inl (refl, inr (e, n, o)), refl))
+pub other_said : (kind : Kind) (fs : List EtcsField) (e : EntryValue) (n : ℕ) (q : Reading) → IsOutcome (EntryReads kind) (whole_bytes (packed fs)) (done e n) → Spells e q → (fs ≡ fields_of q → ⊥) → (old new : List ℕ) (s : ℕ) (a : EtcsAnswer) → s ≡ 7 → new ≡ old → IsBuilt kind fs old new s a
+other_said kind fs e n q o h not old new s a is same = inr (inl (other_none kind fs e n q o h not, inl (is, inr (e, n, o)), same))
 
 pub unfit_said : (kind : Kind) (fs : List EtcsField) → (AreFit fs → ⊥) → (old : List ℕ) (a : EtcsAnswer) → IsBuilt kind fs old old 7 a
 unfit_said kind fs not old a = inr (inl (unfit_none kind fs not, inl (refl, inl not), refl))
 
-pub missed_said : (kind : Kind) (fs : List EtcsField) → AreFit fs → (found : Found) (old : List ℕ) (s : ℕ) (a : EtcsAnswer) → ((e : Entry) (k : ℕ) → found ≡ found_as.Whole e k → ⊥) → Finds kind (whole_bytes (packed fs)) found → Says found s a → IsBuilt kind fs old old s a
-missed_said kind fs fit (found_as.Whole e k) old s a not o says = absurd (not e k refl)
-missed_said kind fs fit found_as.More old s a not o says = inr (inl (more_none kind fs o, inr (fit, inl (says, o)), refl))
-missed_said kind fs fit (found_as.Refused i x) old s a not o (is, bit, var) = inr (inl (refused_none kind fs i x o, inr (fit, inr (i, x, is, bit, var, o)), refl))
-missed_said kind fs fit found_as.Memory old s a not o says = inr (inr (says, refl))
+pub missed_said : (kind : Kind) (fs : List EtcsField) → AreFit fs → (old : List ℕ) (s : ℕ) (a : EtcsAnswer) → SaysNone kind (take 8184 (whole_bytes (packed fs))) s a → IsBuilt kind fs old old s a
+missed_said kind fs fit old s a (inl (done e n, o, (taken, none))) = absurd none
+missed_said kind fs fit old s a (inl (refused i x, o, (bit, var, is))) =
+    let all = outcome_front kind (whole_bytes (packed fs)) (refused i x) o in
+    inr (inl (refused_none kind fs i x all, inr (fit, inr (i, x, is, bit, var, all)), refl))
+missed_said kind fs fit old s a (inl (more, o, (is, t))) =
+    let all = outcome_front kind (whole_bytes (packed fs)) more o in
+    inr (inl (more_none kind fs all, inr (fit, inl (is, all)), refl))
+missed_said kind fs fit old s a (inr (is, t)) = inr (inr (is, refl))

@@ -6,7 +6,7 @@ use Rattle.etcs_vars.specs.declared.var.Var.{Var}
 use Rattle.etcs_vars.specs.Reading.{IsOutcome, Outcome, done, refused, more}
 use Rattle.etcs_text.specs.declared.entry.Kind.{Kind}
 use Rattle.etcs_text.specs.declared.entry.Kind.TheVariants.{Long, Short, Radio, Train}
-use Rattle.etcs_text.specs.Entries.{EntryReads, EntryValue, entry_text, entry_value}
+use Rattle.etcs_text.specs.Entries.{EntryReads, EntryValue, entry_text}
 use Rattle.etcs_text.specs.Encodings.{IsEncoded}
 use Rattle.etcs_text.specs.Trees.{json_tree}
 use Rattle.etcs_json.specs.JsonLines.{OfLine, SaysItem, SaysRefused}
@@ -14,8 +14,6 @@ use Rattle.etcs_json.specs.Loose.{IsLoose}
 use Rattle.etcs_json.specs.TreeReading.{IsTreeOf}
 use Rattle.etcs_c.specs.declared.answer.EtcsAnswer.{EtcsAnswer}
 use Rattle.etcs_c.specs.Writes.{Starves, Writes, name_field}
-use Rattle.etcs_c.specs.declared.found.Found.{Found}
-use Rattle.etcs_c.specs.declared.found.Found.TheVariants.{Whole, More, Refused, Memory}
 use Rattle.etcs_c.specs.declared.texts.Wanted.{Wanted}
 use Rattle.etcs_c.specs.declared.texts.Wanted.TheVariants.{Show, Json}
 
@@ -26,38 +24,28 @@ kind_number Short = 2
 kind_number Radio = 3
 kind_number Train = 4
 
--- what the bits begin with, of items of the kind (`IsOutcome`): an item of this many bytes, the beginning of one, or a
--- refused bit. If out of memory, nothing is promised
-abbrev pub Finds : Kind → List Bool → Found → Type 0
-Finds kind b (Whole e k) = IsOutcome (EntryReads kind) b (done (entry_value e) (8 * k))
-Finds kind b More = IsOutcome (EntryReads kind) b more
-Finds kind b (Refused i x) = IsOutcome (EntryReads kind) b (refused i x)
-Finds kind b Memory = Unit {0}
+-- this for the kind of the number n; or no kind has the number, and the status is 5, and Rest
+abbrev pub OfKind : ℕ → (Kind → Type 0) → Type 0 → ℕ → Type 0
+OfKind n Says Rest s = ((kind : Kind) × (kind_number kind ≡ n) × Says kind) ⊎ ((s ≡ 5) × ((kind : Kind) → kind_number kind ≡ n → ⊥) × Rest)
 
--- the status and the numbers of what was found
-abbrev pub Says : Found → ℕ → EtcsAnswer → Type 0
-Says (Whole e k) s a = (s ≡ 0) × (a.taken ≡ k)
-Says More s a = s ≡ 1
-Says (Refused i x) s a = (s ≡ 2) × (a.bit ≡ i) × (a.var ≡ name_field x)
-Says Memory s a = s ≡ 4
+-- what is returned for an outcome: for an item how many bytes it has, and Whole of it; for a refused bit which it is, its
+-- variable, and Refused of both; for the beginning of an item 1, and Rest
+abbrev pub OfOutcome : (EntryValue → Type 0) → (ℕ → Var → Type 0) → Type 0 → Outcome EntryValue → ℕ → EtcsAnswer → Type 0
+OfOutcome Whole Refused Rest (done e n) s a = (n ≡ 8 * a.taken) × Whole e
+OfOutcome Whole Refused Rest (refused i x) s a = (a.bit ≡ i) × (a.var ≡ name_field x) × Refused i x
+OfOutcome Whole Refused Rest more s a = (s ≡ 1) × Rest
 
--- no kind has the number, and the status is 5
-abbrev pub NoKind : ℕ → ℕ → Type 0
-NoKind n s = (s ≡ 5) × ((kind : Kind) → kind_number kind ≡ n → ⊥)
+-- that for what the bits begin with, of items of the kind (`IsOutcome`); or it is out of memory, with 4 and Rest
+abbrev pub OfBits : Kind → List Bool → (EntryValue → Type 0) → (ℕ → Var → Type 0) → Type 0 → ℕ → EtcsAnswer → Type 0
+OfBits kind b Whole Refused Rest s a = ((o : Outcome EntryValue) × IsOutcome (EntryReads kind) b o × OfOutcome Whole Refused Rest o s a) ⊎ ((s ≡ 4) × Rest)
 
--- the status and the numbers of an outcome: an item and how many bytes it has, the beginning of one, or a refused bit
-abbrev pub SaysOutcome : Outcome EntryValue → ℕ → EtcsAnswer → Type 0
-SaysOutcome (done e n) s a = (s ≡ 0) × (n ≡ 8 * a.taken)
-SaysOutcome more s a = s ≡ 1
-SaysOutcome (refused i x) s a = (s ≡ 2) × (a.bit ≡ i) × (a.var ≡ name_field x)
-
--- the status and the numbers are those of what the bits begin with, of items of the kind (`IsOutcome`); or it is out of memory
+-- `etcs_check`: the status and the numbers of what the bits begin with
 abbrev pub SaysBits : Kind → List Bool → ℕ → EtcsAnswer → Type 0
-SaysBits kind b s a = ((o : Outcome EntryValue) × IsOutcome (EntryReads kind) b o × SaysOutcome o s a) ⊎ (s ≡ 4)
+SaysBits kind b s a = OfBits kind b (λ e. s ≡ 0) (λ i x. s ≡ 2) (Unit {0}) s a
 
--- `etcs_check`: that; or no kind has the number
-abbrev pub Checks : ℕ → List Bool → ℕ → EtcsAnswer → Type 0
-Checks n b s a = ((kind : Kind) × (kind_number kind ≡ n) × SaysBits kind b s a) ⊎ NoKind n s
+-- they begin with no item, or it is out of memory
+abbrev pub SaysNone : Kind → List Bool → ℕ → EtcsAnswer → Type 0
+SaysNone kind b s a = OfBits kind b (λ e. ⊥) (λ i x. s ≡ 2) (Unit {0}) s a
 
 -- the text is what is written of the item: its lines of text, or its JSON
 abbrev pub IsText : Wanted → EntryValue → List ℕ → Type 0
@@ -68,22 +56,12 @@ IsText Json e text = text ≡ compact_text (json_tree e)
 abbrev pub OutputsOf : Wanted → EntryValue → List ℕ → List ℕ → ℕ → EtcsAnswer → Type 0
 OutputsOf wanted e old new s a = ((text : List ℕ) × IsText wanted e text × Writes text old new s a) ⊎ Starves old new s
 
--- for an item, how many bytes it has, and what is written of it; else as for a check, and nothing is written
-abbrev pub SaysText : Wanted → Found → List ℕ → List ℕ → ℕ → EtcsAnswer → Type 0
-SaysText wanted (Whole e k) old new s a = (a.taken ≡ k) × OutputsOf wanted (entry_value e) old new s a
-SaysText wanted More old new s a = Says More s a × (new ≡ old)
-SaysText wanted (Refused i x) old new s a = Says (Refused i x) s a × (new ≡ old)
-SaysText wanted Memory old new s a = Says Memory s a × (new ≡ old)
+-- `etcs_show` and `etcs_to_json`: for an item, how many bytes it has, and what is written of it; else as for a check, and
+-- nothing is written
+abbrev pub SaysText : Wanted → Kind → List Bool → List ℕ → List ℕ → ℕ → EtcsAnswer → Type 0
+SaysText wanted kind b old new s a = OfBits kind b (λ e. OutputsOf wanted e old new s a) (λ i x. (s ≡ 2) × (new ≡ old)) (new ≡ old) s a
 
--- `etcs_show` and `etcs_to_json`: that, for what the bits begin with; or no kind has the number
-abbrev pub Outputs : Wanted → ℕ → List Bool → List ℕ → List ℕ → ℕ → EtcsAnswer → Type 0
-Outputs wanted n b old new s a = ((kind : Kind) × (found : Found) × (kind_number kind ≡ n) × Finds kind b found × SaysText wanted found old new s a) ⊎ (NoKind n s × (new ≡ old))
-
--- the encoding of the item whose JSON the line is is written; or it is the JSON of none: the bits of its older form are
--- refused, or it has no tree of an item, nor one of this form
+-- `etcs_from_json`: the encoding of the item whose JSON the line is is written; or it is the JSON of none: the bits of its
+-- older form are refused, or it has no tree of an item, nor one of this form
 abbrev pub SaysLine : Kind → List ℕ → List ℕ → List ℕ → ℕ → EtcsAnswer → Type 0
 SaysLine kind line old new s a = ((e : EntryValue) × (bytes : List ℕ) × SaysItem kind line e × IsEncoded e bytes × Writes bytes old new s a) ⊎ (((i : ℕ) × (x : Var) × (s ≡ 2) × (a.bit ≡ i) × (a.var ≡ name_field x) × (new ≡ old) × SaysRefused kind line i x) ⊎ (((s ≡ 6) × (new ≡ old) × ((e : EntryValue) → IsLoose kind e → OfLine (λ d. IsTreeOf e d) line → ⊥)) ⊎ Starves old new s))
-
--- `etcs_from_json`: that; or no kind has the number
-abbrev pub OutputsJson : ℕ → List ℕ → List ℕ → List ℕ → ℕ → EtcsAnswer → Type 0
-OutputsJson n line old new s a = ((kind : Kind) × (kind_number kind ≡ n) × SaysLine kind line old new s a) ⊎ (NoKind n s × (new ≡ old))

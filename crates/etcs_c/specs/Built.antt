@@ -1,5 +1,5 @@
 -- Items built from their fields, as C has them.
-use Rattle.std.specs.Prelude.{◌≡◌, ℕ, ◌⊎◌, Bool, List}
+use Rattle.std.specs.Prelude.{◌≡◌, ℕ, ◌⊎◌, List}
 use Rattle.etcs_vars.specs.declared.var.Var.{Var}
 use Rattle.etcs_vars.specs.Reading.{Reading, IsOutcome, done, refused, more}
 use Rattle.etcs_text.specs.declared.entry.Kind.{Kind}
@@ -8,7 +8,6 @@ use Rattle.etcs_text.specs.Encodings.{IsEncoded}
 use Rattle.etcs_c.specs.declared.answer.EtcsAnswer.{EtcsAnswer}
 use Rattle.etcs_c.specs.declared.fields.EtcsField.{EtcsField}
 use Rattle.etcs_c.specs.Writes.{Starves, Writes, name_field}
-use Rattle.etcs_c.specs.Answers.{NoKind, kind_number}
 use Rattle.etcs_c.specs.Fields.{fields_of}
 use Rattle.etcs_c.specs.ItemFields.{AreFit, packed, whole_bytes}
 
@@ -33,11 +32,7 @@ AreBad kind fs = (AreFit fs → ⊥) ⊎ ((e : EntryValue) × (n : ℕ) × IsOut
 abbrev pub Misses : Kind → List EtcsField → ℕ → EtcsAnswer → Type 0
 Misses kind fs s a = ((s ≡ 7) × AreBad kind fs) ⊎ (AreFit fs × (((s ≡ 1) × IsOutcome (EntryReads kind) (whole_bytes (packed fs)) more) ⊎ ((i : ℕ) × (x : Var) × (s ≡ 2) × (a.bit ≡ i) × (a.var ≡ name_field x) × IsOutcome (EntryReads kind) (whole_bytes (packed fs)) (refused i x))))
 
--- the encoding of the item whose fields these are is written; or no item of the kind has them, and nothing is written;
--- or it is out of memory
+-- `etcs_from_fields`: the encoding of the item whose fields these are is written; or no item of the kind has them, and
+-- nothing is written; or it is out of memory
 abbrev pub IsBuilt : Kind → List EtcsField → List ℕ → List ℕ → ℕ → EtcsAnswer → Type 0
 IsBuilt kind fs old new s a = ((e : EntryValue) × HasFields kind fs e × SaysPacked e old new s a) ⊎ ((NoneHas kind fs × Misses kind fs s a × (new ≡ old)) ⊎ Starves old new s)
-
--- `etcs_from_fields`: that; or no kind has the number
-abbrev pub Builds : ℕ → List EtcsField → List ℕ → List ℕ → ℕ → EtcsAnswer → Type 0
-Builds n fs old new s a = ((kind : Kind) × (kind_number kind ≡ n) × IsBuilt kind fs old new s a) ⊎ (NoKind n s × (new ≡ old))

@@ -2,9 +2,10 @@
 use Rattle.std.specs.Prelude.{◌≡◌, ◌↔◌, ◌⊎◌, ◌*◌, ℕ, Bool, true, false, List, [], ◌∷◌, map, reverse, take, slice_get, Option, Some}
 use Rattle.etcs_bits.specs.Bits.{bits}
 use Rattle.etcs_vars.specs.Reading.{IsOutcome, done}
-use Rattle.etcs_telegram.specs.declared.size.Size.{Size}
 use Rattle.etcs_telegram.specs.Telegrams.{TelegramContent, telegram_value}
-use Rattle.etcs_text.specs.Entries.{EntryReads, kind_of, of_telegram}
+use Rattle.etcs_text.specs.declared.entry.Kind.{Kind}
+use Rattle.etcs_text.specs.Entries.{EntryReads, of_telegram}
+use Rattle.etcs_text.specs.Kinds.{IsOfTelegrams}
 use Rattle.etcs_group.specs.declared.clash.Clash.{Clash}
 use Rattle.etcs_group.specs.declared.clash.Clash.TheVariants.{BadPosition, BadDuplicate, OtherGroup, OtherTotal, Counter, Differs}
 use Rattle.etcs_group.specs.Clashes.{IsFirstClash}
@@ -14,10 +15,7 @@ use Rattle.etcs_group.specs.Orders.{NoneRefused}
 use Rattle.etcs_c.specs.declared.answer.EtcsAnswer.{EtcsAnswer}
 use Rattle.etcs_c.specs.declared.groups.EtcsGroup.{EtcsGroup}
 use Rattle.etcs_c.specs.declared.groups.EtcsTelegram.{EtcsTelegram}
-use Rattle.etcs_c.specs.declared.found.Found.{Found}
-use Rattle.etcs_c.specs.declared.found.Found.TheVariants.{Whole, More, Refused, Memory}
-use Rattle.etcs_c.specs.Answers.{Finds, kind_number}
-use Rattle.etcs_c.specs.Writes.{name_field}
+use Rattle.etcs_c.specs.Answers.{SaysNone, kind_number}
 
 -- the status of a clash
 abbrev pub clash_status : Clash → ℕ
@@ -30,7 +28,7 @@ clash_status Differs = 16
 
 -- the bytes begin with this telegram, which is of the kind
 abbrev pub IsOf : EtcsTelegram → TelegramContent → Type 0
-IsOf r t = (size : Size) × (k : ℕ) × (kind_number (kind_of size) ≡ r.kind) × IsOutcome (EntryReads (kind_of size)) (bits r.bytes) (done (of_telegram (telegram_value t)) (8 * k))
+IsOf r t = (kind : Kind) × (k : ℕ) × (kind_number kind ≡ r.kind) × IsOutcome (EntryReads kind) (bits r.bytes) (done (of_telegram (telegram_value t)) (8 * k))
 
 -- the same of each of the telegrams, in order
 abbrev pub AreOf : List EtcsTelegram → List TelegramContent → Type 0
@@ -53,20 +51,13 @@ flag false = 0
 abbrev pub IsState : List (Option TelegramContent) → EtcsGroup → Type 0
 IsState slots g = ((m : List Bool) × (g.missing ≡ map flag m) × ((p : ℕ) → (slice_get m p ≡ Some true) ↔ IsMissing slots p)) × ((whole : Bool) × (g.is_complete ≡ flag whole) × ((whole ≡ true) ↔ IsWhole slots))
 
--- the status and the numbers for bytes that begin with no telegram
-abbrev pub SaysNone : Found → ℕ → EtcsAnswer → Type 0
-SaysNone (Whole e k) s a = ⊥
-SaysNone More s a = s ≡ 1
-SaysNone (Refused i x) s a = (s ≡ 2) × (a.bit ≡ i) × (a.var ≡ name_field x)
-SaysNone Memory s a = s ≡ 4
-
 -- why a telegram isn't held beside these: its first clash with them; what its bytes begin with; or 5, since its kind is
 -- that of no telegram
 abbrev pub SaysUnheld : EtcsTelegram → List (Option TelegramContent) → ℕ → EtcsAnswer → Type 0
 SaysUnheld r slots s a =
     ((t : TelegramContent) × (c : Clash) × IsOf r t × IsFirstClash c slots t × (s ≡ clash_status c))
-    ⊎ (((size : Size) × (found : Found) × (kind_number (kind_of size) ≡ r.kind) × Finds (kind_of size) (bits r.bytes) found × SaysNone found s a)
-    ⊎ ((s ≡ 5) × ((size : Size) → kind_number (kind_of size) ≡ r.kind → ⊥)))
+    ⊎ (((kind : Kind) × (kind_number kind ≡ r.kind) × IsOfTelegrams kind × SaysNone kind (bits r.bytes) s a)
+    ⊎ ((s ≡ 5) × ((kind : Kind) → IsOfTelegrams kind → kind_number kind ≡ r.kind → ⊥)))
 
 -- the index of the first telegram that isn't held beside those before it, and why
 abbrev pub SaysFirst : List EtcsTelegram → ℕ → EtcsAnswer → Type 0

@@ -1,15 +1,14 @@
 -- The bits of fields, and what `etcs_fields` returns for an item.
 use Rattle.std.specs.Prelude.{◌≡◌, ℕ, ◌*◌, ◌/◌, ◌^◌, ◌<◌, ◌≤◌, All, flat_map, length, take, Bool, List, ◌⊎◌}
 use Rattle.etcs_bits.specs.Bits.{num}
-use Rattle.etcs_vars.specs.Reading.{Reading}
-use Rattle.etcs_text.specs.Entries.{Spells, entry_value}
+use Rattle.etcs_vars.specs.Reading.{Reading, IsOutcome, done}
+use Rattle.etcs_text.specs.declared.entry.Kind.{Kind}
+use Rattle.etcs_text.specs.Entries.{EntryReads, EntryValue, Spells}
 use Rattle.etcs_c.specs.declared.answer.EtcsAnswer.{EtcsAnswer}
 use Rattle.etcs_c.specs.declared.fields.EtcsField.{EtcsField}
 use Rattle.etcs_c.specs.Writes.{Starves, Writes}
 use Rattle.etcs_c.specs.Fields.{fields_of}
-use Rattle.etcs_c.specs.declared.found.Found.{Found}
-use Rattle.etcs_c.specs.declared.found.Found.TheVariants.{Whole, More, Refused, Memory}
-use Rattle.etcs_c.specs.Answers.{Says}
+use Rattle.etcs_c.specs.Answers.{OfBits}
 
 -- ---- The bits of fields.
 
@@ -31,9 +30,10 @@ whole_bytes b = take (8 * (length b / 8)) b
 
 -- ---- What a call returns.
 
+-- this is the reading of the item of the kind with which the bits begin, and the answer has how many bytes it has
+abbrev pub IsWhole : Kind → List Bool → Reading → EtcsAnswer → Type 0
+IsWhole kind b r a = (e : EntryValue) × IsOutcome (EntryReads kind) b (done e (8 * a.taken)) × EntryReads kind e r
+
 -- `etcs_fields`: for an item, how many bytes it has, and its fields; else as for a check, and nothing is written
-abbrev pub SaysFields : Found → List EtcsField → List EtcsField → ℕ → EtcsAnswer → Type 0
-SaysFields (Whole e k) old new s a = (a.taken ≡ k) × (((r : Reading) × Spells (entry_value e) r × Writes (fields_of r) old new s a) ⊎ Starves old new s)
-SaysFields More old new s a = Says More s a × (new ≡ old)
-SaysFields (Refused i x) old new s a = Says (Refused i x) s a × (new ≡ old)
-SaysFields Memory old new s a = Says Memory s a × (new ≡ old)
+abbrev pub SaysFields : Kind → List Bool → List EtcsField → List EtcsField → ℕ → EtcsAnswer → Type 0
+SaysFields kind b old new s a = OfBits kind b (λ e. ((r : Reading) × Spells e r × Writes (fields_of r) old new s a) ⊎ Starves old new s) (λ i x. (s ≡ 2) × (new ≡ old)) (new ≡ old) s a

@@ -1,17 +1,18 @@
 //! Items built from their fields.
 
-ghost use Rattle.std.specs.Prelude.{◌≡◌, ◌+◌, ◌-◌, ◌≤◌, min, length, take};
+ghost use Rattle.std.specs.Prelude.{◌≡◌, ◌+◌, ◌-◌, ◌≤◌, ◌<◌, ◌⊎◌, All, min, length, take};
 ghost use Rattle.std.specs.Bool.{Decides};
 ghost use Rattle.etcs_bits.specs.Bits.{bits, num, replaced};
-ghost use Rattle.etcs_c.specs.Answers.{Finds};
 ghost use Rattle.etcs_c.specs.Built.{IsBuilt};
+ghost use Rattle.etcs_c.specs.Fields.{fields_of};
 ghost use Rattle.etcs_c.specs.ItemFields.{AreFit, IsFit, packed, whole_bytes};
+ghost use Rattle.etcs_c.specs.Writes.{Starves, Writes};
 
-use crate::answer::{BAD_FIELDS, EtcsAnswer, NO_MEMORY, WHOLE, deliver};
-use crate::fields::{EtcsField, has_fields};
-use crate::found::{Found, find, say};
-use crate::json::encoding_of;
+use crate::answer::{BAD_FIELDS, EtcsAnswer, NO_MEMORY, WHOLE, write_out};
+use crate::fields::{EtcsField, fields_in};
+use crate::found::variables_of;
 use etcs_bits::inner::write;
+use etcs_reasons::Account;
 use etcs_text::Kind;
 use std::alloc::{AllocError, Global};
 
@@ -72,31 +73,37 @@ fn pack(fields: &[EtcsField], out: &mut [u8]) -> usize
     place / 8
 }
 
-/// Writes the encoding of what was found in the bits of these fields, if they are its fields.
+/// For callers: each byte is below 256.
+fn are_bytes(bytes: &[u8])
+    ensures { All (λ b. b < 256) bytes.now }
+{
+    let _ = bytes;
+}
+
+/// Writes these bytes, which are those of an item with these variables, if the fields are its fields.
 fn build(
     alloc: Global,
-    kind: Kind,
-    found: &Found,
+    account: &Account,
     fields: &[EtcsField],
+    bytes: &[u8],
     out: &mut [u8],
     answer: &mut EtcsAnswer,
 ) -> u32
-    requires fit { AreFit fields.now }
-    requires found { Finds kind (whole_bytes (packed fields.now)) found.now }
-    ensures { IsBuilt kind fields.now out.old out.new result answer.new }
+    ensures { ((fields.now ≡ fields_of account.now.fields.items) × Writes bytes.now out.old out.new result answer.new) ⊎ (((fields.now ≡ fields_of account.now.fields.items → ⊥) × (result ≡ 7) × (out.new ≡ out.old)) ⊎ Starves out.old out.new result) }
 {
-    let status = say(found, answer);
-    match found {
-        Found::Whole { entry, .. } => match has_fields(alloc, entry, fields) {
-            Ok(true) => deliver(WHOLE, encoding_of(alloc, entry), out, answer),
-            Ok(false) => BAD_FIELDS,
-            Err(AllocError) => NO_MEMORY,
-        },
-        _ => status,
+    match fields_in(alloc, account.fields.as_slice()) {
+        Ok(own) => {
+            if own.as_slice() == fields {
+                write_out(WHOLE, bytes, out, answer)
+            } else {
+                BAD_FIELDS
+            }
+        }
+        Err(AllocError) => NO_MEMORY,
     }
 }
 
-/// Writes the encoding of the item of the kind whose fields these are.
+/// Writes the encoding of the item of the kind whose fields these are: the bytes of their bits.
 pub(crate) fn from_fields(
     alloc: Global,
     kind: Kind,
@@ -111,6 +118,10 @@ pub(crate) fn from_fields(
     }
     let mut room = [0; LONGEST];
     let count = pack(fields, &mut room);
-    let found = find(alloc, kind, &room[..count]);
-    build(alloc, kind, &found, fields, out, answer)
+    let bytes = &room[..count];
+    are_bytes(bytes);
+    match variables_of(alloc, kind, bytes, answer) {
+        Ok(account) => build(alloc, &account, fields, bytes, out, answer),
+        Err(status) => status,
+    }
 }

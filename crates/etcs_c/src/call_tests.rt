@@ -5,8 +5,8 @@ use crate::{
     etcs_explain_json, etcs_fields, etcs_fields_before, etcs_from_fields, etcs_from_json,
     etcs_line_bytes, etcs_line_front, etcs_meaning, etcs_show, etcs_to_json, etcs_version,
 };
-use etcs_fakes::{starve, starve_to};
-use std::alloc::Global;
+use etcs_fakes::starve;
+use std::alloc::{AllocError, Global};
 use std::test::Fail;
 
 /// Message 24 to the train: NID_MESSAGE 24, L_MESSAGE 10, then T_TRAIN, M_ACK, NID_LRBG and PADDING, which are zeros.
@@ -539,17 +539,29 @@ fn why_hollow(alloc: Global) -> (u32, usize) {
     (status, answer.written)
 }
 
+/// Whether the sentence is whole or it is out of memory, with no memory at first and with 16 bytes more each time. Memory is
+/// used up only once, since that takes long.
+fn are_whole(alloc: Global, whole: (u32, usize)) -> Result<bool, AllocError> {
+    let spare: Vec<u8> = Vec::with_capacity(alloc, 8192)?;
+    let held = starve(alloc)?;
+    drop(spare);
+    let mut are_whole = true;
+    for step in 0..128usize {
+        let kept: Vec<u8> = Vec::with_capacity(alloc, 8192 - step * 16)?;
+        let found = why_hollow(alloc);
+        drop(kept);
+        are_whole &= found.0 == 4 || (found.0 == whole.0 && found.1 == whole.1);
+    }
+    drop(held);
+    Ok(are_whole)
+}
+
 /// With whatever memory there is, the sentence is whole, or it is out of memory.
 #[test]
 fn whole_sentences(rt: HostRuntime) -> Result<(), Fail> {
     let alloc = rt.alloc();
     let whole = why_hollow(alloc);
     assert_eq!(rt; whole.0, 6);
-    for step in 0..128usize {
-        let held = starve_to(alloc, step * 16)?;
-        let found = why_hollow(alloc);
-        drop(held);
-        assert!(rt; found.0 == 4 || (found.0 == whole.0 && found.1 == whole.1));
-    }
+    assert!(rt; are_whole(alloc, whole)?);
     Ok(())
 }

@@ -1,21 +1,18 @@
 //! Why bytes or a line of JSON are no item.
 
-ghost use Rattle.std.specs.Prelude.{◌≡◌, ◌*◌, ◌<◌, ℕ, IfOk, MatchResult, length};
+ghost use Rattle.std.specs.Prelude.{◌≡◌, ◌<◌, ℕ, IfOk, MatchResult, length};
 ghost use Rattle.etcs_bits.specs.Bits.{bits};
 ghost use Rattle.etcs_reasons.specs.declared.account.End.{End};
 ghost use Rattle.etcs_reasons.specs.declared.account.Part.{Part};
-ghost use Rattle.etcs_c.specs.declared.found.Found.{Found};
-ghost use Rattle.etcs_c.specs.Answers.{Finds};
-ghost use Rattle.etcs_c.specs.Explained.{IsRefused, SaysBefore, SaysLineWhy, SaysUnwritten, SaysWhy};
+ghost use Rattle.etcs_c.specs.Explained.{IsRefused, SaysBefore, SaysLineWhy, SaysUnrefused, SaysWhy};
 
 use crate::answer::{
     BAD_JSON, EtcsAnswer, MORE, NO_MEMORY, REFUSED, WHOLE, accept, deliver, refuse,
 };
 use crate::fields::{EtcsField, fields_in};
-use crate::found::{find, say};
+use crate::found::check;
 use etcs_explain::json_reason;
 use etcs_json::{JsonFault, from_line};
-use etcs_reasons::inner::MOST_BYTES;
 use etcs_reasons::{Account, End, Wanted, reason_of};
 use etcs_text::Kind;
 use std::alloc::{AllocError, Global};
@@ -29,7 +26,7 @@ fn refused_of(
     wanted: Wanted,
     answer: &mut EtcsAnswer,
 ) -> Result<Account, u32>
-    ensures { MatchResult result (λ a. IsRefused kind (bits bytes.now) wanted a answer.new) (λ s. (found : Found) × Finds kind (bits bytes.now) found × SaysUnwritten found s answer.new) }
+    ensures { MatchResult result (λ a. IsRefused kind (bits bytes.now) wanted a answer.new) (λ s. SaysUnrefused kind (bits bytes.now) s answer.new) }
 {
     answer.written = 0;
     match Account::unless_whole(alloc, kind, bytes, wanted) {
@@ -39,9 +36,9 @@ fn refused_of(
                 refuse(bit, part.var, answer);
                 Ok(account)
             }
-            End::Open(_) if bytes.len() <= MOST_BYTES => Err(MORE),
-            _ => {
-                let status = say(&find(alloc, kind, bytes), answer);
+            End::Open(_) => Err(MORE),
+            End::Whole => {
+                let status = check(alloc, kind, bytes, answer);
                 answer.written = 0;
                 Err(status)
             }
@@ -74,7 +71,7 @@ pub(crate) fn write_why(
     out: &mut [u8],
     answer: &mut EtcsAnswer,
 ) -> u32
-    ensures { (found : Found) × Finds kind (bits bytes.now) found × SaysWhy found out.old out.new result answer.new }
+    ensures { SaysWhy kind (bits bytes.now) out.old out.new result answer.new }
 {
     match refused_of(alloc, kind, bytes, Wanted::Reason, answer) {
         Ok(account) => {
@@ -93,7 +90,7 @@ pub(crate) fn write_before(
     out: &mut [EtcsField],
     answer: &mut EtcsAnswer,
 ) -> u32
-    ensures { (found : Found) × Finds kind (bits bytes.now) found × SaysBefore kind (bits bytes.now) found out.old out.new result answer.new }
+    ensures { SaysBefore kind (bits bytes.now) out.old out.new result answer.new }
 {
     match refused_of(alloc, kind, bytes, Wanted::Fields, answer) {
         Ok(account) => {

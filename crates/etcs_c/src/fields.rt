@@ -1,14 +1,14 @@
 //! The fields of items: their variables, of which bits of one run are joined.
 
 ghost use Rattle.std.specs.Prelude.{◌≡◌, IfOk};
-ghost use Rattle.std.specs.Bool.{Decides};
-ghost use Rattle.etcs_vars.specs.Reading.{Reading};
-ghost use Rattle.etcs_text.specs.Entries.{Spells, entry_value};
+ghost use Rattle.etcs_bits.specs.Bits.{bits};
 ghost use Rattle.etcs_c.specs.Fields.{field, fields_of, is_run, joins, var_number};
+ghost use Rattle.etcs_c.specs.ItemFields.{SaysFields};
 
-use crate::items::send_item;
+use crate::answer::{EtcsAnswer, WHOLE, deliver};
+use crate::found::variables_of;
 use crate::vars::var_number;
-use etcs_text::Entry;
+use etcs_text::Kind;
 use etcs_vars::Var;
 use etcs_vars::inner::VarSink;
 use std::alloc::{AllocError, Global};
@@ -138,19 +138,6 @@ impl VarSink for FieldList {
     }
 }
 
-/// Returns the fields of an item, in the order of sending.
-///
-/// # Errors
-///
-/// `AllocError` if out of memory.
-pub fn fields_of(alloc: Global, entry: &Entry) -> Result<Vec<EtcsField>, AllocError>
-    ensures { IfOk result (λ fields. (r : Reading) × Spells (entry_value entry.now) r × (fields.items ≡ fields_of r)) }
-{
-    let mut list = FieldList::new(alloc);
-    send_item(entry, &mut list)?;
-    list.into_vec()
-}
-
 /// Returns the fields of variables, in their order.
 ///
 /// # Errors
@@ -164,14 +151,21 @@ pub fn fields_in(alloc: Global, vars: &[(Var, u64)]) -> Result<Vec<EtcsField>, A
     list.into_vec()
 }
 
-/// Returns `true` exactly if these are the fields of an item, all of them.
-///
-/// # Errors
-///
-/// `AllocError` if out of memory.
-pub fn has_fields(alloc: Global, entry: &Entry, fields: &[EtcsField]) -> Result<bool, AllocError>
-    ensures { IfOk result (λ has. (r : Reading) × Spells (entry_value entry.now) r × Decides has (fields.now ≡ fields_of r)) }
+/// Returns the status of what the bytes begin with, and writes the fields of an item.
+pub(crate) fn write_fields(
+    alloc: Global,
+    kind: Kind,
+    bytes: &[u8],
+    out: &mut [EtcsField],
+    answer: &mut EtcsAnswer,
+) -> u32
+    ensures { SaysFields kind (bits bytes.now) out.old out.new result answer.new }
 {
-    let own = fields_of(alloc, entry)?;
-    Ok(own.as_slice() == fields)
+    match variables_of(alloc, kind, bytes, answer) {
+        Ok(account) => {
+            let fields = fields_in(alloc, account.fields.as_slice());
+            deliver(WHOLE, fields, out, answer)
+        }
+        Err(status) => status,
+    }
 }

@@ -1,9 +1,9 @@
 //! Balise groups.
 
 ghost use Rattle.std.specs.Prelude.{◌≡◌, ◌⊎◌, List, ◌∷◌, map, IfSome, IsNone};
-ghost use Rattle.etcs_telegram.specs.declared.size.Size.{Size};
 ghost use Rattle.etcs_telegram.specs.Telegrams.{TelegramContent};
-ghost use Rattle.etcs_text.specs.Entries.{kind_of};
+ghost use Rattle.etcs_text.specs.declared.entry.Kind.{Kind};
+ghost use Rattle.etcs_text.specs.Kinds.{IsOfTelegrams};
 ghost use Rattle.etcs_group.specs.declared.clash.Clash.{Clash};
 ghost use Rattle.etcs_group.specs.Clashes.{IsFirstClash};
 ghost use Rattle.etcs_group.specs.Groups.{IsHeldOf, Joins};
@@ -14,10 +14,9 @@ use crate::answer::{
     CLASH_COUNTER, CLASH_DIFFERS, CLASH_DUPLICATE, CLASH_GROUP, CLASH_POSITION, CLASH_TOTAL,
     EtcsAnswer, UNKNOWN_KIND, WHOLE,
 };
-use crate::found::{Found, find_telegram, say};
+use crate::found::item_of;
 use etcs_group::{Assembly, Clash, Telegram};
-use etcs_telegram::Size;
-use etcs_text::Entry;
+use etcs_text::{Entry, Kind};
 use std::alloc::Global;
 
 /// A telegram of either size.
@@ -40,14 +39,14 @@ pub struct EtcsGroup {
     pub is_complete: u32,
 }
 
-/// The size of the telegrams of this kind.
-fn size_of(kind: u32) -> Option<Size>
-    ensures some { IfSome result (λ size. kind_number (kind_of size) ≡ kind) }
-    ensures none { IsNone result → (size : Size) → kind_number (kind_of size) ≡ kind → ⊥ }
+/// The kind of this number, if it is one of telegrams.
+fn telegram_kind(number: u32) -> Option<Kind>
+    ensures some { IfSome result (λ kind. (kind_number kind ≡ number) × IsOfTelegrams kind) }
+    ensures none { IsNone result → (kind : Kind) → IsOfTelegrams kind → kind_number kind ≡ number → ⊥ }
 {
-    match kind {
-        1 => Some(Size::Long),
-        2 => Some(Size::Short),
+    match number {
+        1 => Some(Kind::Long),
+        2 => Some(Kind::Short),
         _ => None,
     }
 }
@@ -86,15 +85,15 @@ fn add(
 ) -> u32
     ensures { ((t : TelegramContent) × IsOf telegram.now t × Joins assembly.old t × ((earlier : List TelegramContent) → IsHeldOf earlier assembly.old → IsHeldOf (t ∷ earlier) assembly.new) × (result ≡ 0)) ⊎ ((result ≡ 0 → ⊥) × SaysUnheld telegram.now assembly.old result answer.new) }
 {
-    let Some(size) = size_of(telegram.kind) else {
+    let Some(kind) = telegram_kind(telegram.kind) else {
         return UNKNOWN_KIND;
     };
-    match find_telegram(alloc, size, &telegram.bytes) {
-        Found::Whole { entry, .. } => match entry {
+    match item_of(alloc, kind, &telegram.bytes, answer) {
+        Ok((entry, _)) => match entry {
             Entry::Telegram(telegram) => hold(telegram, assembly),
             _ => unreachable!(),
         },
-        found => say(&found, answer),
+        Err(status) => status,
     }
 }
 

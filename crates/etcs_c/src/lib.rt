@@ -19,8 +19,6 @@ mod explained;
 mod fields;
 mod found;
 mod groups;
-mod item_fields;
-mod items;
 mod json;
 mod kind;
 mod lines;
@@ -28,19 +26,17 @@ mod meanings;
 mod texts;
 mod vars;
 
-ghost use Rattle.std.specs.Prelude.{◌≡◌, ◌++◌, ◌∷◌, ◌⊎◌, [], codes, length};
+ghost use Rattle.std.specs.Prelude.{◌≡◌, ◌++◌, ◌∷◌, [], ⊤, codes, length};
 ghost use Rattle.etcs_bits.specs.Bits.{bits};
 ghost use Rattle.etcs_runs.specs.Digits.{line_front};
-ghost use Rattle.etcs_text.specs.declared.entry.Kind.{Kind};
-ghost use Rattle.etcs_c.specs.Answers.{Checks, Finds, NoKind, Outputs, OutputsJson, kind_number};
-ghost use Rattle.etcs_c.specs.Built.{Builds};
+ghost use Rattle.etcs_c.specs.Answers.{OfKind, SaysBits, SaysLine, SaysText};
+ghost use Rattle.etcs_c.specs.Built.{IsBuilt};
 ghost use Rattle.etcs_c.specs.Explained.{SaysBefore, SaysLineWhy, SaysWhy};
 ghost use Rattle.etcs_c.specs.Groups.{SaysGroup};
 ghost use Rattle.etcs_c.specs.ItemFields.{SaysFields};
 ghost use Rattle.etcs_c.specs.Lines.{SaysBytes};
 ghost use Rattle.etcs_c.specs.Meanings.{SaysMeaning};
 ghost use Rattle.etcs_c.specs.Writes.{Writes};
-ghost use Rattle.etcs_c.specs.declared.found.Found.{Found};
 ghost use Rattle.etcs_c.specs.declared.texts.Wanted.TheVariants as wanted;
 
 pub use answer::EtcsAnswer;
@@ -49,10 +45,10 @@ use built::from_fields;
 use etcs_runs::line_front;
 use explained::{write_before, write_line_why, write_why};
 pub use fields::EtcsField;
+use fields::write_fields;
 use found::check;
 use groups::assemble;
 pub use groups::{EtcsGroup, EtcsTelegram};
-use item_fields::write_fields;
 use json::from_json;
 use kind::kind_of;
 use lines::write_bytes;
@@ -69,7 +65,7 @@ const VERSION: &[u8] = b"0.2.0\0";
 /// holds unless the status is `ETCS_NO_MEMORY` or `ETCS_UNKNOWN_KIND`.
 #[unsafe(no_mangle)]
 pub extern "C" fn etcs_check(alloc: Global, kind: u32, bytes: &[u8], answer: &mut EtcsAnswer) -> u32
-    ensures { Checks kind (bits bytes.now) result answer.new }
+    ensures { OfKind kind (λ k. SaysBits k (bits bytes.now) result answer.new) ⊤ result }
 {
     match kind_of(kind) {
         Some(kind) => check(alloc, kind, bytes, answer),
@@ -88,7 +84,7 @@ pub extern "C" fn etcs_show(
     out: &mut [u8],
     answer: &mut EtcsAnswer,
 ) -> u32
-    ensures { Outputs (wanted.Show item) kind (bits bytes.now) out.old out.new result answer.new }
+    ensures { OfKind kind (λ k. SaysText (wanted.Show item) k (bits bytes.now) out.old out.new result answer.new) (out.new ≡ out.old) result }
 {
     match kind_of(kind) {
         Some(kind) => write_text(alloc, Wanted::Show(item), kind, bytes, out, answer),
@@ -106,7 +102,7 @@ pub extern "C" fn etcs_to_json(
     out: &mut [u8],
     answer: &mut EtcsAnswer,
 ) -> u32
-    ensures { Outputs wanted.Json kind (bits bytes.now) out.old out.new result answer.new }
+    ensures { OfKind kind (λ k. SaysText wanted.Json k (bits bytes.now) out.old out.new result answer.new) (out.new ≡ out.old) result }
 {
     match kind_of(kind) {
         Some(kind) => write_text(alloc, Wanted::Json, kind, bytes, out, answer),
@@ -127,7 +123,7 @@ pub extern "C" fn etcs_from_json(
     out: &mut [u8],
     answer: &mut EtcsAnswer,
 ) -> u32
-    ensures { OutputsJson kind line.now out.old out.new result answer.new }
+    ensures { OfKind kind (λ k. SaysLine k line.now out.old out.new result answer.new) (out.new ≡ out.old) result }
 {
     match kind_of(kind) {
         Some(kind) => from_json(alloc, kind, line, out, answer),
@@ -145,7 +141,7 @@ pub extern "C" fn etcs_fields(
     out: &mut [EtcsField],
     answer: &mut EtcsAnswer,
 ) -> u32
-    ensures { ((k : Kind) × (found : Found) × (kind_number k ≡ kind) × Finds k (bits bytes.now) found × SaysFields found out.old out.new result answer.new) ⊎ (NoKind kind result × (out.new ≡ out.old)) }
+    ensures { OfKind kind (λ k. SaysFields k (bits bytes.now) out.old out.new result answer.new) (out.new ≡ out.old) result }
 {
     match kind_of(kind) {
         Some(kind) => write_fields(alloc, kind, bytes, out, answer),
@@ -169,7 +165,7 @@ pub extern "C" fn etcs_from_fields(
     out: &mut [u8],
     answer: &mut EtcsAnswer,
 ) -> u32
-    ensures { Builds kind fields.now out.old out.new result answer.new }
+    ensures { OfKind kind (λ k. IsBuilt k fields.now out.old out.new result answer.new) (out.new ≡ out.old) result }
 {
     match kind_of(kind) {
         Some(kind) => from_fields(alloc, kind, fields, out, answer),
@@ -188,7 +184,7 @@ pub extern "C" fn etcs_explain(
     out: &mut [u8],
     answer: &mut EtcsAnswer,
 ) -> u32
-    ensures { ((k : Kind) × (found : Found) × (kind_number k ≡ kind) × Finds k (bits bytes.now) found × SaysWhy found out.old out.new result answer.new) ⊎ (NoKind kind result × (out.new ≡ out.old)) }
+    ensures { OfKind kind (λ k. SaysWhy k (bits bytes.now) out.old out.new result answer.new) (out.new ≡ out.old) result }
 {
     match kind_of(kind) {
         Some(kind) => write_why(alloc, kind, bytes, out, answer),
@@ -208,7 +204,7 @@ pub extern "C" fn etcs_fields_before(
     out: &mut [EtcsField],
     answer: &mut EtcsAnswer,
 ) -> u32
-    ensures { ((k : Kind) × (found : Found) × (kind_number k ≡ kind) × Finds k (bits bytes.now) found × SaysBefore k (bits bytes.now) found out.old out.new result answer.new) ⊎ (NoKind kind result × (out.new ≡ out.old)) }
+    ensures { OfKind kind (λ k. SaysBefore k (bits bytes.now) out.old out.new result answer.new) (out.new ≡ out.old) result }
 {
     match kind_of(kind) {
         Some(kind) => write_before(alloc, kind, bytes, out, answer),
@@ -230,7 +226,7 @@ pub extern "C" fn etcs_explain_json(
     out: &mut [u8],
     answer: &mut EtcsAnswer,
 ) -> u32
-    ensures { ((k : Kind) × (kind_number k ≡ kind) × SaysLineWhy k line.now out.old out.new result answer.new) ⊎ (NoKind kind result × (out.new ≡ out.old)) }
+    ensures { OfKind kind (λ k. SaysLineWhy k line.now out.old out.new result answer.new) (out.new ≡ out.old) result }
 {
     match kind_of(kind) {
         Some(kind) => write_line_why(alloc, kind, line, out, answer),
@@ -254,7 +250,7 @@ pub extern "C" fn etcs_meaning(
     out: &mut [u8],
     answer: &mut EtcsAnswer,
 ) -> u32
-    ensures { ((k : Kind) × (kind_number k ≡ kind) × SaysMeaning var number out.old out.new result answer.new) ⊎ (NoKind kind result × (out.new ≡ out.old)) }
+    ensures { OfKind kind (λ k. SaysMeaning var number out.old out.new result answer.new) (out.new ≡ out.old) result }
 {
     match kind_of(kind) {
         Some(kind) => {

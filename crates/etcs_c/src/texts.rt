@@ -5,10 +5,10 @@ ghost use Rattle.etcs_bits.specs.Bits.{bits};
 ghost use Rattle.serde_json.specs.Written.{compact_text};
 ghost use Rattle.etcs_text.specs.Entries.{entry_value};
 ghost use Rattle.etcs_text.specs.Trees.{json_tree};
-ghost use Rattle.etcs_c.specs.Answers.{Finds, IsText, SaysText};
+ghost use Rattle.etcs_c.specs.Answers.{IsText, SaysText};
 
 use crate::answer::{EtcsAnswer, WHOLE, deliver};
-use crate::found::{Found, find, say};
+use crate::found::item_of;
 use etcs_text::{Entry, Kind, json_line, show_lines};
 use std::alloc::{AllocError, Global};
 
@@ -44,23 +44,6 @@ fn text_of(alloc: Global, wanted: Wanted, entry: &Entry) -> Result<Vec<u8>, Allo
     Ok(text)
 }
 
-/// Returns the status of what was found, and writes the text of an item.
-fn say_text(
-    alloc: Global,
-    wanted: Wanted,
-    found: &Found,
-    out: &mut [u8],
-    answer: &mut EtcsAnswer,
-) -> u32
-    ensures { SaysText wanted found.now out.old out.new result answer.new }
-{
-    let status = say(found, answer);
-    match found {
-        Found::Whole { entry, .. } => deliver(WHOLE, text_of(alloc, wanted, entry), out, answer),
-        _ => status,
-    }
-}
-
 /// Returns the status of what the bytes begin with, and writes the text of an item.
 pub(crate) fn write_text(
     alloc: Global,
@@ -70,7 +53,13 @@ pub(crate) fn write_text(
     out: &mut [u8],
     answer: &mut EtcsAnswer,
 ) -> u32
-    ensures { (found : Found) × Finds kind (bits bytes.now) found × SaysText wanted found out.old out.new result answer.new }
+    ensures { SaysText wanted kind (bits bytes.now) out.old out.new result answer.new }
 {
-    say_text(alloc, wanted, &find(alloc, kind, bytes), out, answer)
+    match item_of(alloc, kind, bytes, answer) {
+        Ok((entry, taken)) => {
+            answer.taken = taken;
+            deliver(WHOLE, text_of(alloc, wanted, &entry), out, answer)
+        }
+        Err(status) => status,
+    }
 }

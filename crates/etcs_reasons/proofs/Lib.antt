@@ -1,3 +1,4 @@
 pub mod Accounting
+pub mod Feeding
 pub mod ItemLengths
 pub mod Nearest

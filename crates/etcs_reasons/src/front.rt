@@ -4,6 +4,7 @@ use crate::kinds::{user_bits, wanted_bytes, way_of};
 use crate::numbers::low_byte;
 use etcs_bits::peek;
 use etcs_rows::Place;
+use etcs_rows::inner::{EntryNumbers, pass_entry};
 use etcs_tables::{
     Row, RowItem, frame_bits, head_bits, head_row, header_row, message_bits, row_of,
 };
@@ -113,8 +114,15 @@ impl Front {
     /// What is left of the packet's row, which begins at this bit, if the packet is typed.
     fn place_after(&self, bytes: &[u8], row: usize) -> Option<Place> {
         let mut place = Place::start(row_of(way_of(self.kind), self.packet)?);
+        let mut numbers = EntryNumbers::new();
+        let end = self.start.saturating_add(self.length);
         let mut at = row;
         while at < self.bit {
+            let left = end.saturating_sub(at);
+            if let Some(bits) = pass_entry(&mut place, bytes, at, left, &mut numbers) {
+                at = at.checked_add(bits)?;
+                continue;
+            }
             let width = place.var()?.width();
             place.pass(peek(bytes, at, width)?);
             at = at.checked_add(width)?;

@@ -5,6 +5,7 @@
 
 mod account;
 mod bits;
+mod first;
 mod front;
 pub mod inner;
 mod kinds;

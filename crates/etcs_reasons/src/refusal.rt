@@ -1,24 +1,24 @@
 //! Why bytes are not an item.
 
-ghost use Rattle.std.specs.Prelude.{◌≡◌, ◌<◌, ℕ, length, string_bytes, take, IfOk, IfSome, IsNone, IsTrue};
+ghost use Rattle.std.specs.Prelude.{◌≡◌, ◌<◌, ℕ, length, string_bytes, take, IfOk, IfSome, IsNone};
 ghost use Rattle.etcs_bits.specs.Bits.{bits};
 ghost use Rattle.etcs_vars.specs.declared.var.Var.{Var};
 ghost use Rattle.etcs_vars.specs.Reading.{readings_of};
 ghost use Rattle.etcs_vars.specs.Walking.{Refuses};
-ghost use Rattle.etcs_text.specs.Entries.{EntryValue, EntryReads};
-ghost use Rattle.etcs_text.specs.Verdicts.{IsItem};
+ghost use Rattle.etcs_text.specs.Entries.{EntryReads};
 ghost use Rattle.etcs_reasons.specs.declared.account.End.{End};
 ghost use Rattle.etcs_reasons.specs.declared.account.Part.{Part};
 ghost use Rattle.etcs_reasons.specs.Sentences.{IsWritten};
 
 use crate::account::{Account, End, Wanted};
+use crate::first::is_item;
 use crate::front::Front;
 use crate::kinds::{wanted_bytes, way_of, way_of_message};
 use crate::numbers::is_or_are;
 use crate::reasons::{often, write_reason};
 use crate::text::Text;
 use etcs_tables::{Way, message_row};
-use etcs_text::{Kind, SingleReader, Verdict};
+use etcs_text::Kind;
 use etcs_vars::Var;
 use std::alloc::{AllocError, Global};
 
@@ -44,40 +44,16 @@ static ADVICE: [(Kind, &str); 4] = [
     (Kind::Train, "these bytes are a message to the track: --kind train"),
 ];
 
-/// Whether bytes are an item of a kind, and nothing else: if this is true, they are. No clause says when it is.
-///
-/// # Errors
-///
-/// If memory runs out.
-pub fn is_item(alloc: Global, kind: Kind, bytes: &[u8]) -> Result<bool, AllocError>
-    ensures { IfOk result (λ b. IsTrue b → (e : EntryValue) × IsItem kind bytes.now e) }
-{
-    // no item of the kind has another number of bytes
-    if wanted_bytes(kind, bytes) != Some(bytes.len()) {
-        return Ok(false);
-    }
-    let mut reader = SingleReader::new(alloc, kind);
-    let is_item = reads_item(&mut reader, bytes);
-    drop(reader);
-    is_item
-}
-
-/// Whether the bytes are an item of the reader's kind, and nothing else.
-fn reads_item(reader: &mut SingleReader, bytes: &[u8]) -> Result<bool, AllocError>
-    ensures { IfOk result (λ b. IsTrue b → (e : EntryValue) × IsItem reader.old bytes.now e) }
-{
-    match reader.read(bytes)? {
-        Verdict::Item(_) => Ok(true),
-        _ => Ok(false),
-    }
-}
-
 /// Whether the bytes are an item of a kind, other than a message that is kept as bits, which nearly any bytes may be.
 fn is_meant(alloc: Global, kind: Kind, bytes: &[u8]) -> Result<bool, AllocError> {
     if let (Kind::Radio | Kind::Train, Some(number)) = (kind, bytes.first()) {
         if message_row(way_of(kind), *number).is_none() {
             return Ok(false);
         }
+    }
+    // no item of the kind has another number of bytes
+    if wanted_bytes(kind, bytes) != Some(bytes.len()) {
+        return Ok(false);
     }
     is_item(alloc, kind, bytes)
 }

@@ -1,17 +1,15 @@
-use Rattle.std.proofs.Common.{◌≡◌, ◌∙◌, ◌*◌, sym, true, false}
-use Rattle.etcs_text.specs.Entries.{entry_value}
-use Rattle.etcs_c.proofs.Whole.{built_said, missed_said, other_said}
+use Rattle.std.proofs.Common.{◌∙◌, ap, inl, inr, refl, sym}
+use Rattle.std.proofs.lemmas.Bool.{true≢false}
+use Rattle.etcs_c.specs.Fields.{fields_of}
+use Rattle.etcs_c.proofs.Equality.{same_fields}
 use Rattle.etcs_c.proofs.built.build.Goals as goal
 
-pub returns-in-Ok-true : goal.returns-in-Ok-true
-returns-in-Ok-true c =
-    let (q, spells, has) = c.in-Ok-true.ensures in
-    built_said (λ v. v.items) c.args.kind c.args.fields.now (entry_value c.in-Whole.entry) (8 * c.in-Whole.taken) q (rw c.in-Whole.is at c.requires.found) spells (has.0 c.in-Ok-true.field-0-test) c.args.out.now c.deliver.new.out c.deliver.result c.deliver.new.answer c.encoding_of.result c.encoding_of.ensures c.deliver.ensures.writes
+pub returns-then-eq : goal.returns-then-eq
+returns-then-eq c =
+    let own = same_fields c.eq.result c.as_slice-in-Ok.result.now c.args.fields.now (fields_of c.args.account.now.fields.items) c.eq.ensures (c.as_slice-in-Ok.ensures.value ∙ c.in-Ok.ensures ∙ ap fields_of c.as_slice.ensures.value) in
+    inl (own.0 c.if-eq.true, c.write_out.ensures.writes)
 
-pub returns-in-Ok-false : goal.returns-in-Ok-false
-returns-in-Ok-false c =
-    let (q, spells, has) = c.in-Ok-false.ensures in
-    other_said c.args.kind c.args.fields.now (entry_value c.in-Whole.entry) (8 * c.in-Whole.taken) q (rw c.in-Whole.is at c.requires.found) spells (λ e. absurd (let no : true ≡ false = sym (has.1 e) ∙ c.in-Ok-false.field-0-test in cc)) c.args.out.now c.say-status.new.answer
-
-pub returns-in_default : goal.returns-in_default
-returns-in_default c = missed_said c.args.kind c.args.fields.now c.requires.fit c.args.found.now c.args.out.now c.say-status.result c.say-status.new.answer c.in_default.not-Whole c.requires.found c.say-status.ensures
+pub returns-in-Ok : goal.returns-in-Ok
+returns-in-Ok c =
+    let own = same_fields c.eq.result c.as_slice-in-Ok.result.now c.args.fields.now (fields_of c.args.account.now.fields.items) c.eq.ensures (c.as_slice-in-Ok.ensures.value ∙ c.in-Ok.ensures ∙ ap fields_of c.as_slice.ensures.value) in
+    inr (inl (λ is. absurd (true≢false (sym (own.1 is) ∙ c.if-eq.false)), refl, refl))

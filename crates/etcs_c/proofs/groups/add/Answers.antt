@@ -1,9 +1,9 @@
 use Rattle.std.proofs.Common.{inl, inr}
-use Rattle.etcs_c.proofs.Holding.{said_none}
+use Rattle.etcs_bits.specs.Bits.{bits}
+use Rattle.etcs_c.proofs.Holding.{none_fails}
 use Rattle.etcs_c.proofs.groups.add.Goals as goal
 
-pub returns-in_default-find_telegram : goal.returns-in_default-find_telegram
-returns-in_default-find_telegram c =
-    let found = c.find_telegram.result in
-    let said = said_none found c.in_default-find_telegram.not-Whole c.say.result c.say.new.answer c.say.ensures in
-    inr (said.1, inr (inl (c.in-Some.size, found, c.in-Some.ensures.some, c.find_telegram.ensures, said.0)))
+pub returns-in-Err : goal.returns-in-Err
+returns-in-Err c =
+    let says = c.in-Err.ensures in
+    inr (none_fails c.in-Some.kind (bits c.args.telegram.now.bytes) c.in-Err.status c.item_of.new.answer says, inr (inl (c.in-Some.kind, c.in-Some.ensures.some.0, c.in-Some.ensures.some.1, says)))

@@ -322,12 +322,18 @@ class Statements:
         return all(given.values())
 
 
+def crates_over_statements(rt):
+    """Returns the repository's crates, lowest first, as `rt ci` proves them: over the statements of the libraries below."""
+    rt.Crate.cuts_libraries = True
+    rt.rtlib.Crate = rt.Crate
+    return sorted(rt.rtlib.crates_below(TOP), key=lambda it: len(it.below()))
+
+
 def build_over_statements(rt, name):
     """Builds a program or a static library over the statements of the libraries below it, and returns whether that went well."""
-    rt.Crate.cuts_libraries = True
     os.chdir(TOP)
     rt.Crate.allowed = rt.handles_of(TOP)
-    crate = next(it for it in rt.crates_of(TOP) if it.name == name)
+    crate = next(it for it in crates_over_statements(rt) if it.name == name)
     below = sorted(crate.below(), key=lambda it: len(it.below()))
     held = rt.rtlib.lock([*below, crate])
     made = Statements(rt, [*below, *([] if crate.is_static else [crate])])
@@ -369,10 +375,12 @@ def build(rt, folder):
     if crate.makes_rlib():
         rtlib.stop(f"{crate.name} is neither a program nor a static library")
     below = crate.below()
-    if not all(it.has_kept() for it in below):
+    # a kit whose `rt ci` keeps nothing has no Kept
+    if hasattr(rt, "Kept") and not all(it.has_kept() for it in below):
         return build_over_statements(rt, crate.name)
-    # as rt does, it begins with what other checkouts on this machine kept
-    rt.share_work(is_alone=True)
+    if hasattr(rt, "share_work"):
+        # as rt does, it begins with what other checkouts on this machine kept
+        rt.share_work(is_alone=True)
     crate.held = rtlib.lock([*below, crate])
     for it in [*below, crate]:
         rtlib.stop_on_links(it.folder)

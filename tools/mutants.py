@@ -256,7 +256,10 @@ def try_alone(rt, crate, mutant, kept):
     why = said.partition(": ")[2]
     if "only because a proof file names" in why:
         return "lost", why
-    return {rt.REFUSED: "refused", rt.AT_LIMIT: "refused", rt.MISSED: "proved"}.get(kind, "unknown"), why
+    # some kits say how it was refused, others only whether it was
+    if kind in (getattr(rt, "REFUSED", True), getattr(rt, "AT_LIMIT", True)):
+        return "refused", why
+    return "proved" if "NOT REFUSED" in said else "unknown", why
 
 
 def beside(folder):
@@ -275,7 +278,7 @@ def over(rt, crate):
     @contextmanager
     def kept():
         with tempfile.TemporaryDirectory(prefix="mutants-", dir=f"{crate.folder}/out") as room:
-            rt.linked(f"{crate.folder}/out/incremental", f"{room}/kept")
+            shutil.copytree(f"{crate.folder}/out/incremental", f"{room}/kept", copy_function=os.link)
             yield f"{room}/kept"
 
     return kept
@@ -298,7 +301,8 @@ def is_ready(rt, crate):
     """Returns whether the libraries below the crate are built, and a check of the crate has kept its work."""
     if any(it.build_rlib(["--jobs", "1"], anew=False) for it in crate.below()):
         return False
-    rt.adopt(crate, is_alone=False)
+    if hasattr(rt, "adopt"):
+        rt.adopt(crate, is_alone=False)
     if os.path.isdir(f"{crate.folder}/out/incremental"):
         return True
     print(f"{crate.name} isn't proved: run rt check there first", file=sys.stderr)
@@ -365,10 +369,12 @@ def try_all(words):
 
 def try_gate(names):
     """Tries the mutants of the gate, of all crates or of these, as many crates at a time as there are cores and memory for, and returns the status."""
+    from build import crates_over_statements
+
     rt = toolchain()
     # as under rt ci, which built the libraries: their statements
-    rt.Crate.cuts_libraries = True
-    every = [(it, [Mutant(f"{it.name}/{name}", text, gate_of(text)) for name, text in edits_of(it.folder).items() if gate_of(text)]) for it in rt.crates_of(TOP)]
+    crates = crates_over_statements(rt)
+    every = [(it, [Mutant(f"{it.name}/{name}", text, gate_of(text)) for name, text in edits_of(it.folder).items() if gate_of(text)]) for it in crates]
     every = [it for it in every if it[1] and (not names or it[0].name in names)]
     places = max(1, min(rt.processors(), int(0.85 * rt.free() / MEMORY)))
 

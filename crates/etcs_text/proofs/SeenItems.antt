@@ -1,9 +1,10 @@
 -- Items that are seen in the first bytes of others.
-use Rattle.std.proofs.Common.{◌≡◌, ◌⊎◌, inl, inr, ℕ, ◌*◌, ◌<◌, ◌≤◌, Bool, List, length, take, Option, Some, None, refl, sym, ap, ◌∙◌, arith}
+use Rattle.std.proofs.Common.{◌≡◌, ◌⊎◌, inl, inr, ℕ, ◌*◌, ◌<◌, ◌≤◌, Bool, List, ◌++◌, length, take, Option, Some, None, refl, sym, ap, ◌∙◌, arith}
 use Rattle.std.specs.Prelude.{All, IfSome}
-use Rattle.std.proofs.lemmas.List.{length-take, take-take}
+use Rattle.std.proofs.lemmas.List.{length-take, take-take, take-append-le}
 use Rattle.std.proofs.lemmas.List.Elements.{All-take}
 use Rattle.etcs_bits.specs.Bits.{bits, part}
+use Rattle.etcs_bits.proofs.ByteBits.{bits-append}
 use Rattle.etcs_bits.proofs.Positions.{length-bits}
 use Rattle.etcs_bits.proofs.Owned.{bits-take}
 use Rattle.etcs_vars.specs.Reading.{Reading, IsOutcome, done, spelled}
@@ -59,6 +60,13 @@ module _ (kind : Kind) (bytes : List ℕ) (m : ℕ) (o : Option ℕ) (inside : m
       by : (r : Option ℕ) → IfSome r (λ n. n ≤ length (take m bytes)) → IfSome r (BeginsWith kind (take m bytes)) → IfSome r (λ n. 0 < n)
       by None h is = tt
       by (Some n) h is = seen_some kind bytes m n inside (omega (arith, h, length-take m bytes)) is
+
+-- ---- Copied bytes.
+
+-- the first bits of bytes are those of a copy that others follow
+pub copied_front : (bytes copy rest : List ℕ) (n : ℕ) → copy ≡ bytes → n ≤ length bytes → part 0 (8 * n) (bits (copy ++ rest)) ≡ part 0 (8 * n) (bits bytes)
+copied_front bytes copy rest n same within =
+    ap (take (8 * n)) (bits-append copy rest ∙ ap (λ l. bits l ++ bits rest) same) ∙ take-append-le (8 * n) (bits bytes) (bits rest) (omega (arith, length-bits bytes, within))
 
 -- ---- How many bits it has.
 

@@ -3,6 +3,7 @@
 ghost use Rattle.std.specs.Prelude.{◌≡◌, ◌*◌, ◌^◌, ◌<◌, ◌≤◌, Bool, List, length, take, IfSome};
 ghost use Rattle.etcs_bits.specs.Bits.{bits, part};
 ghost use Rattle.etcs_vars.specs.Reading.{IsOutcome, Reading, done, spelled};
+ghost use Rattle.etcs_messages.specs.Messages.{MessageReads, MessageValue};
 ghost use Rattle.etcs_text.specs.declared.entry.Kind.TheVariants.{Radio, Train};
 ghost use Rattle.etcs_text.specs.Encodings.{IsEncoded};
 ghost use Rattle.etcs_text.specs.Entries.{EntryReads, EntryValue, entry_bits, kind_of};
@@ -10,10 +11,15 @@ ghost use Rattle.etcs_text.specs.Entries.{EntryReads, EntryValue, entry_bits, ki
 use crate::Kind;
 use crate::encodings::are_bytes;
 use etcs_messages::inner::message_seen;
+use etcs_messages::{Head, Own};
+use etcs_packets::inner::AnyPacket;
 use etcs_telegram::Size;
 
 /// The most bytes of an item, and so of one that is seen.
 pub(crate) const MOST_SEEN: usize = 1023;
+
+/// The most bytes of a piece that is copied.
+const MOST_COPIED: usize = 56;
 
 /// How many bytes an item of the kind has with which these bytes begin, if it lies whole in them. It may always return
 /// `None`, also if they begin with an item. Takes no memory.
@@ -76,7 +82,7 @@ fn radio_seen(piece: &[u8]) -> Option<usize>
     ensures within { IfSome result (λ n. n ≤ length piece.now) }
     ensures reads { IfSome result (λ n. (e : EntryValue) × (r : Reading) × EntryReads Radio e r × (spelled r ≡ part 0 (8 * n) (bits piece.now))) }
 {
-    message_seen::<etcs_radio::RadioHead, etcs_radio::Body>(piece)
+    either_seen::<etcs_radio::RadioHead, etcs_radio::Body>(piece)
 }
 
 /// Those of a message to the track.
@@ -86,5 +92,36 @@ fn train_seen(piece: &[u8]) -> Option<usize>
     ensures within { IfSome result (λ n. n ≤ length piece.now) }
     ensures reads { IfSome result (λ n. (e : EntryValue) × (r : Reading) × EntryReads Train e r × (spelled r ≡ part 0 (8 * n) (bits piece.now))) }
 {
-    message_seen::<etcs_train::TrainHead, etcs_train::TrainBody>(piece)
+    either_seen::<etcs_train::TrainHead, etcs_train::TrainBody>(piece)
+}
+
+/// As `message_seen`. A short piece is copied first: numbers are read eight bytes at a time, which takes longer where fewer
+/// are left.
+#[inline(always)]
+fn either_seen<H: Head, B: Own<Front = H>>(piece: &[u8]) -> Option<usize>
+    requires { length (bits piece.now) < 2 ^ 64 }
+    ensures within { IfSome result (λ n. n ≤ length piece.now) }
+    ensures reads { IfSome result (λ n. (m : MessageValue) × (r : Reading) × MessageReads H.Packet.WAY m r × (spelled r ≡ part 0 (8 * n) (bits piece.now))) }
+{
+    if piece.len() > MOST_COPIED {
+        return message_seen::<H, B>(piece);
+    }
+    copied_seen::<H, B>(piece)
+}
+
+/// As `message_seen`, in a copy of the piece with zeros after it.
+#[inline(always)]
+fn copied_seen<H: Head, B: Own<Front = H>>(piece: &[u8]) -> Option<usize>
+    requires { length piece.now ≤ 56 }
+    ensures within { IfSome result (λ n. n ≤ length piece.now) }
+    ensures reads { IfSome result (λ n. (m : MessageValue) × (r : Reading) × MessageReads H.Packet.WAY m r × (spelled r ≡ part 0 (8 * n) (bits piece.now))) }
+{
+    let count = piece.len();
+    let mut copy = [0; MOST_COPIED + 8];
+    copy[..count].copy_from_slice(piece);
+    let bytes = message_seen::<H, B>(&copy)?;
+    if bytes > count {
+        return None;
+    }
+    Some(bytes)
 }

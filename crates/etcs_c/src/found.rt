@@ -11,13 +11,26 @@ ghost use Rattle.etcs_c.specs.ItemFields.{IsWhole};
 use crate::answer::{EtcsAnswer, MORE, NO_MEMORY, accept, refuse};
 use etcs_reasons::inner::fed;
 use etcs_reasons::{Account, End};
+use etcs_text::inner::seen;
 use etcs_text::{Entry, EntryReader, Kind};
 use etcs_vars::{Fed, ReadFault};
 use std::alloc::{AllocError, Global};
 
 /// Returns the status of what the bytes begin with, of items of this kind, and puts the numbers of it into the answer. Most
 /// items are accepted or refused without making a value of them.
+#[inline(always)]
 pub(crate) fn check(alloc: Global, kind: Kind, bytes: &[u8], answer: &mut EtcsAnswer) -> u32
+    ensures { SaysBits kind (bits bytes.now) result answer.new }
+{
+    match seen(kind, bytes) {
+        Some(taken) => accept(taken, answer),
+        None => check_unseen(alloc, kind, bytes, answer),
+    }
+}
+
+/// As [`check`], where no item is seen.
+#[inline(never)]
+fn check_unseen(alloc: Global, kind: Kind, bytes: &[u8], answer: &mut EtcsAnswer) -> u32
     ensures { SaysBits kind (bits bytes.now) result answer.new }
 {
     match fed(alloc, kind, bytes) {

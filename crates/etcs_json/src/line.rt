@@ -219,6 +219,17 @@ fn put_data(way: Way, nid: u8, digits: &[u8], out: &mut BitPage) -> Option<()>
     Some(())
 }
 
+/// Takes the list of a message's own variables, of which most have none, and what is before the header's list.
+#[inline(always)]
+fn pass_own(text: &mut Text<'_>) -> Option<()>
+    ensures { OnSome result ((t : List ℕ) × (text.old ≡ t ++ (codes "header\":" ++ text.new))) }
+{
+    if text.skip(b"[],\"header\":") {
+        return Some(());
+    }
+    text.before(b"header\":")
+}
+
 /// The same for a typed message, with the list of whose own variables a text begins. Which these are depends on its number,
 /// which comes later: the list is skipped, and read then.
 #[inline(always)]
@@ -226,7 +237,7 @@ fn put_typed<P: AnyPacket>(own: &[u8], out: &mut BitPage) -> Option<(u8, usize)>
     ensures { IfSome result (λ p. PutsMessage P.WAY p.0 (codes "{\"fields\":" ++ own.now) out.old out.new p.1) }
 {
     let mut text = Text::new(own);
-    text.before(b"header\":")?;
+    pass_own(&mut text)?;
     let header = text.left().len() + 10;
     pass_head(P::WAY, &mut text, out)?;
     pass_way(P::WAY, &mut text)?;

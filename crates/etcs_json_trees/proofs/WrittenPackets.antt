@@ -134,23 +134,13 @@ pairs_put way nid text rest a b x y n old new opened (r, framed, went) end long 
 
 -- ---- The text of a packet with fields.
 
-same_end : (x y u w : List ℕ) → x ++ u ≡ y ++ w → length u ≡ length w → u ≡ w
-same_end x y u w e long =
-    let same : length x ≡ length y = omega (arith, long, ap length e, length-append x u, length-append y w) in
-    sym (drop-append_seam x u) ∙ ap (λ (k : ℕ). drop k (x ++ u)) same ∙ ap (drop (length y)) e ∙ drop-append_seam y w
-
--- the list of pairs, and the number that was found after it
-pub fields_put : (nid dir m : ℕ) (r : Reading) (text t a s end beyond : List ℕ) → text ≡ t ++ (codes "nid\":" ++ a) → a ≡ decimal nid ++ 125 ∷ s → Leaves m (λ z. text ≡ compact_text (pairs_tree r) ++ z) → m ≡ length a + 7 → end ≡ drop (length text - m) text → end ≡ codes ",\"" ++ beyond → text ≡ fields_then (typed nid dir r) s
-fields_put nid dir m r text t a s end beyond found number (z, long, listed) far there quoted =
+-- the list of pairs, and the number after it
+pub fields_put : (nid n dir m : ℕ) (r : Reading) (text end a s : List ℕ) → Leaves m (λ z. text ≡ compact_text (pairs_tree r) ++ z) → end ≡ drop (length text - m) text → end ≡ codes ",\"nid\":" ++ a → a ≡ decimal n ++ 125 ∷ s → n ≡ nid → text ≡ fields_then (typed nid dir r) s
+fields_put nid n dir m r text end a s leaves there front number same =
     let x = compact_text (pairs_tree r) in
-    let all : length text ≡ length x + length z = ap length listed ∙ length-append x z in
-    let at : length text - m ≡ length x = omega (arith, all, long) in
-    let rest : end ≡ z = there ∙ ap (λ (k : ℕ). drop k text) at ∙ ap (drop (length x)) listed ∙ drop-append_seam x z in
-    let z_is : z ≡ codes ",\"" ++ beyond = sym rest ∙ quoted in
-    let same : codes "nid\":" ++ a ≡ beyond = same_end t (x ++ codes ",\"") (codes "nid\":" ++ a) beyond (sym found ∙ listed ∙ ap (λ (w : List ℕ). x ++ w) z_is ∙ sym (append_assoc x (codes ",\"") beyond)) (omega (arith, far, long, ap length z_is)) in
-    listed
-    ∙ ap (λ (w : List ℕ). x ++ w) (z_is ∙ ap (λ (w : List ℕ). codes ",\"" ++ w) (sym same))
-    ∙ ap (λ (w : List ℕ). x ++ (codes ",\"nid\":" ++ w)) number
+    (left_after m text x leaves).1
+    ∙ ap (λ (w : List ℕ). x ++ w) (sym there ∙ front)
+    ∙ ap (λ (w : List ℕ). x ++ (codes ",\"nid\":" ++ w)) (number ∙ ap (λ (k : ℕ). decimal k ++ 125 ∷ s) same)
 
 pub typed_put : (way : Way) (dir n : ℕ) (text : List ℕ) (old new : List Bool) (nid : ℕ) (r : Reading) (s : List ℕ) → IsFramed way nid dir r → length s ≡ n → text ≡ fields_then (typed nid dir r) s → new ≡ old ++ spelled (reading_to way (typed nid dir r)) → PutsTyped way dir text n old new
 typed_put way dir n text old new nid r s framed long is put = (nid, r, framed, (s, long, is), put)

@@ -1,8 +1,9 @@
 -- Rows without groups that are put of the text of their pairs.
 use Rattle.std.proofs.Common.{◌≡◌, ℕ, ◌+◌, ◌-◌, ◌≤◌, Bool, List, [], ◌∷◌, ◌++◌, length, drop, Option, None, Some, Result, Ok, Err, refl, sym, ap, subst, ◌∙◌, append_assoc, append-nil, arith}
-use Rattle.std.specs.Prelude.{IfOk, IfSome, IsTrue}
+use Rattle.std.specs.Prelude.{◌==◌, IfOk, IfSome, IsTrue, codes}
 use Rattle.std.specs.Result.{result_ok}
 use Rattle.std.proofs.Math.Seq.{drop-append_seam}
+use Rattle.std.proofs.lemmas.Bool.{eqb-true}
 use Rattle.std.proofs.lemmas.List.{length-append}
 use Rattle.serde_json.specs.Written.{compact_text}
 use Rattle.etcs_vars.specs.declared.var.Var.{Var}
@@ -75,6 +76,13 @@ nothing_left s = refl
 
 pub all_taken : (table : List RowItem) (s t : Left) (r : Reading) → IsTaken table [] s t r → Reads (layout table) [] r
 all_taken table s t r h = subst (Reads (layout table) []) (append-nil r) (h.more [] (nothing_left h.scope))
+
+-- none of a table without variables
+pub none_read : (table : List RowItem) (text left : List ℕ) (n : ℕ) (old new : List Bool) → IsTrue (length table == 0) → text ≡ codes "[]" ++ left → n ≡ length left → new ≡ old → (r : Reading) × Reads (layout table) [] r × (n ≤ length text) × (text ≡ compact_text (pairs_tree r) ++ drop (length text - n) text) × (new ≡ old ++ spelled r)
+none_read [] text left n old new none e long same =
+    let after = left_after n text (compact_text (pairs_tree [])) (left, sym long, e) in
+    ([], nothing_left [], after.0, after.1, same ∙ sym (append-nil old))
+none_read (item ∷ table) text left n old new none e long same = let some : length (item ∷ table) ≡ 0 = eqb-true (length (item ∷ table)) 0 none in absurd cc
 
 -- ---- Several of them.
 

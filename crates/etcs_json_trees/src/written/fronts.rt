@@ -147,7 +147,7 @@ fn is_same_word(first: &[u8; 8], second: &[u8; 8]) -> bool
 
 /// Whether four bytes are the same, compared as one number.
 #[inline(always)]
-fn is_same_half(first: &[u8; 4], second: &[u8; 4]) -> bool
+pub(crate) fn is_same_half(first: &[u8; 4], second: &[u8; 4]) -> bool
     ensures { IsTrue result ↔ (first.now ≡ second.now) }
 {
     u32::from_le_bytes(*first) == u32::from_le_bytes(*second)

@@ -12,6 +12,7 @@ ghost use Rattle.etcs_json_trees.specs.PacketTexts.{Leaves, IsRowOf, IsUnmarked,
 
 use crate::packet_len::put_packet_len;
 use crate::written::digits::put_digits;
+use crate::written::fronts::{is_same_half, same_eight};
 use crate::written::pair_text::PairText;
 use crate::written::text::Text;
 use etcs_flat::inner::check_other;
@@ -51,22 +52,75 @@ fn put_body<P: AnyPacket>(nid: u8, dir: u8, text: &[u8], out: &mut BitPage) -> O
     Some(after)
 }
 
+/// The number of the packet to the train whose list begins with the pair of Q_SCALE, and then with a name of these letters.
+#[inline(always)]
+fn number_by_second(letters: &[u8; 4]) -> Option<u8> {
+    match letters {
+        _ if is_same_half(letters, b"D_LI") => Some(5),
+        _ if is_same_half(letters, b"V_MA") => Some(12),
+        _ if is_same_half(letters, b"V_LO") => Some(15),
+        _ if is_same_half(letters, b"L_SE") => Some(16),
+        _ if is_same_half(letters, b"D_GR") => Some(21),
+        _ if is_same_half(letters, b"D_ST") => Some(27),
+        _ if is_same_half(letters, b"D_LE") => Some(41),
+        _ if is_same_half(letters, b"T_CY") => Some(58),
+        _ if is_same_half(letters, b"NID_") => Some(65),
+        _ if is_same_half(letters, b"Q_TR") => Some(68),
+        _ if is_same_half(letters, b"D_MA") => Some(80),
+        _ if is_same_half(letters, b"D_RB") => Some(131),
+        _ => None,
+    }
+}
+
+/// The number of the position report in whose list this is around the front of the third name, after the pairs of Q_SCALE
+/// and of NID_LRBG with seven or eight digits.
+#[inline(always)]
+fn number_by_third(around: &[u8; 3]) -> Option<u8> {
+    match around {
+        [b'"', b'D', _] | [_, b'"', b'D'] => Some(0),
+        [b'"', b'N', _] | [_, b'"', b'N'] => Some(1),
+        _ => None,
+    }
+}
+
+/// The number of the packet with the list of whose pairs a text begins, where the first names show it. The packet may have
+/// another.
+#[inline(always)]
+fn number_by_names(way: Way, text: &[u8]) -> Option<u8> {
+    let text = text.first_chunk::<40>()?;
+    let has_scale = same_eight(text, b"[[\"Q_SCAL", 0);
+    match way {
+        Way::ToTrain if has_scale => number_by_second(text[17..].first_chunk::<4>()?),
+        Way::ToTrack if has_scale => number_by_third(text[37..].first_chunk::<3>()?),
+        _ => None,
+    }
+}
+
+/// The number of the packet with the list of whose pairs a text begins. The packet may have another.
+#[inline(always)]
+fn number_of(way: Way, text: &[u8]) -> Option<u8> {
+    if let Some(nid) = number_by_names(way, text) {
+        return Some(nid);
+    }
+    let mut left = Text::new(text);
+    left.before(b"nid\":")?;
+    left.byte_and(b'}')
+}
+
 /// Puts the packet of this direction with the list of whose pairs a text begins, and returns how many bytes are after the
 /// packet. Its number comes after the list, but is needed first.
 #[inline(never)]
 fn put_typed<P: AnyPacket>(dir: u8, text: &[u8], out: &mut BitPage) -> Option<usize>
     ensures { IfSome result (λ n. PutsTyped P.WAY dir text.now n out.old out.new) }
 {
+    let nid = number_of(P::WAY, text)?;
+    let after = put_body::<P>(nid, dir, text, out)?;
     let mut left = Text::new(text);
-    left.before(b"nid\":")?;
-    let after = left.left().len() + 7;
-    let nid = left.byte_and(b'}')?;
-    if put_body::<P>(nid, dir, text, out)? != after {
+    left.take(text.len() - after);
+    left.pass(b",\"nid\":")?;
+    if left.byte_and(b'}')? != nid {
         return None;
     }
-    let mut beyond = Text::new(text);
-    beyond.take(text.len() - after);
-    beyond.pass(b",\"")?;
     Some(left.left().len())
 }
 

@@ -10,6 +10,7 @@ ghost use Rattle.etcs_tables.specs.declared.row.Way.TheVariants.{ToTrain, ToTrac
 ghost use Rattle.etcs_packet_text.specs.Trees.{pairs_tree};
 
 use crate::written::pair_text::PairText;
+use crate::written::text::Text;
 use etcs_bodies::{NextNumber, Numbers};
 use etcs_tables::{Row, RowItem, Way};
 use etcs_vars::inner::VarSink;
@@ -17,8 +18,21 @@ use etcs_vars::{BitPage, Var};
 
 /// Puts the variables of a row without groups with the list of whose pairs a text begins, and returns how many bytes are
 /// after it. When it succeeds isn't promised, nor what is put after `None`.
-#[inline(never)]
+#[inline(always)]
 pub fn put_row(row: Row, text: &[u8], out: &mut BitPage) -> Option<usize>
+    ensures { IfSome result (λ n. (r : Reading) × Reads (layout row.items.now) [] r × (n ≤ length text.now) × (text.now ≡ compact_text (pairs_tree r) ++ drop (length text.now - n) text.now) × (out.new ≡ out.old ++ spelled r)) }
+{
+    if row.items.is_empty() {
+        let mut left = Text::new(text);
+        left.pass(b"[]")?;
+        return Some(left.left().len());
+    }
+    put_items(row, text, out)
+}
+
+/// As [`put_row`], of a row with variables.
+#[inline(never)]
+fn put_items(row: Row, text: &[u8], out: &mut BitPage) -> Option<usize>
     ensures { IfSome result (λ n. (r : Reading) × Reads (layout row.items.now) [] r × (n ≤ length text.now) × (text.now ≡ compact_text (pairs_tree r) ++ drop (length text.now - n) text.now) × (out.new ≡ out.old ++ spelled r)) }
 {
     let mut pairs = PairText::new(text)?;

@@ -2,7 +2,7 @@ use Rattle.std.proofs.Common.{drop}
 use Rattle.etcs_bodies.specs.Taking.{named}
 use Rattle.etcs_json_trees.specs.PairTexts.{pairs_left}
 use Rattle.etcs_json_trees.proofs.WrittenRows.{IsPut}
-use Rattle.etcs_json_trees.proofs.written.rows.put_row.Given as goal
+use Rattle.etcs_json_trees.proofs.written.rows.put_items.Given as goal
 
 abbrev pub invariant-loop-item : goal.invariant-loop-item
 invariant-loop-item l =

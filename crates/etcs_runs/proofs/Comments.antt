@@ -1,12 +1,9 @@
 -- What is before a comment.
-use Rattle.std.proofs.Common.{◌≡◌, ℕ, zero, suc, ◌+◌, ◌-◌, ◌<◌, ◌≤◌, Bool, true, false, ◌&&◌, ◌||◌, ◌==◌, cond, List, [], ◌∷◌, ◌++◌, length, take, drop, drop-cons, slice_index, Result, refl, sym, ap, subst, ◌∙◌, arith, inl, inr}
-use Rattle.std.proofs.lemmas.List.{append-nil, append_assoc, drop_all, get_or-drop, get_or-take, get_or_past, length-drop, take_all, take_more}
+use Rattle.std.proofs.Common.{◌≡◌, ℕ, zero, suc, ◌+◌, ◌-◌, ◌<◌, ◌≤◌, Bool, true, false, ◌&&◌, ◌||◌, ◌==◌, cond, List, [], ◌∷◌, ◌++◌, length, take, drop, drop-cons, slice_index, refl, sym, ap, subst, ◌∙◌, arith, inl, inr}
+use Rattle.std.proofs.lemmas.List.{append-nil, append_assoc, drop_all, get_or-drop, get_or_past, take_all, take_more}
 use Rattle.std.proofs.lemmas.Bool.{cases_lt}
-use Rattle.memchr.specs.Find.{NoneBefore, Nowhere, Passes, is_byte3}
-use Rattle.etcs_runs.specs.Digits.{are_enough, begins_comment, is_blank, read_text, text_digits, without_comment}
-use Rattle.etcs_runs.specs.declared.digits.NoBytes.{NoBytes}
-use Rattle.etcs_runs.specs.Answers.{Says, says_enough}
-use Rattle.etcs_runs.proofs.Runs.{enough_said}
+use Rattle.memchr.specs.Find.{Nowhere, Passes, is_byte3}
+use Rattle.etcs_runs.specs.Digits.{begins_comment, is_blank, without_comment}
 
 module _ (line : List ℕ) (n : ℕ) (lt : n < length line) where
   here : drop n line ≡ slice_index line n ∷ drop (suc n) line
@@ -22,16 +19,9 @@ module _ (line : List ℕ) (n : ℕ) (lt : n < length line) where
       ∙ ap (λ (z : Bool). cond z [] (slice_index line n ∷ without_comment (drop (suc n) line))) first
       ∙ ap (λ (k : ℕ). cond b [] (slice_index line n ∷ without_comment (drop k line))) next
 
--- what a slice to its end has
-pub tail : (line : List ℕ) (n : ℕ) → take (length line - n) (drop n line) ≡ drop n line
-tail line n = take_all (length line - n) (drop n line) (omega (arith, length-drop n line))
-
 -- up to n a line has no comment
 abbrev pub Passed : List ℕ → ℕ → Type 0
 Passed line n = without_comment line ≡ take n line ++ without_comment (drop n line)
-
-pub begun : (line : List ℕ) (n : ℕ) → n < length line → begins_comment (drop n line) ≡ true → Passed line n → take n line ≡ without_comment line
-begun line n lt h passed = sym (passed ∙ ap (λ (z : List ℕ). take n line ++ z) (cut line n lt true h) ∙ append-nil (take n line))
 
 pub not_begun : (line : List ℕ) (n : ℕ) → n < length line → begins_comment (drop n line) ≡ false → Passed line n → Passed line (n + 1)
 not_begun line n lt h passed =
@@ -72,83 +62,27 @@ pub unmarked : (line : List ℕ) (q : ℕ) → (is_byte3 35 59 47 (slice_index l
 unmarked line q none =
     by_second (begins_comment (drop q line)) (drop q line) refl (λ h. none (ap (is_byte3 35 59 47) (sym (get_or-drop q line 1 0)) ∙ h))
 
--- ---- The search from a place.
+-- a line that is passed to its end
+pub passed_all : (line : List ℕ) (n : ℕ) → length line ≤ n → Passed line n → without_comment line ≡ line
+passed_all line n past h =
+    h ∙ ap (λ (z : List ℕ). take n line ++ without_comment z) (drop_all n line past) ∙ append-nil (take n line) ∙ take_all n line past
 
-module _ (line : List ℕ) (start m : ℕ) (within : m ≤ length line) (none : Nowhere (Passes (is_byte3 35 59 47) (take (length line - start) (drop start line))) 0 (m - start)) where
-  no_mark : (k : ℕ) → start ≤ k → k < m → is_byte3 35 59 47 (slice_index line k) ≡ true → ⊥
-  no_mark k low high marked =
-      none (k - start) (omega arith) (omega (arith, low, high))
-      (ap (is_byte3 35 59 47)
-      (get_or-take (length line - start) (drop start line) (k - start) 0 (omega (arith, low, high, within))
-      ∙ get_or-drop start line (k - start) 0
-      ∙ ap (slice_index line) (omega (arith, low)))
-      ∙ marked)
-
-  pub searched_to : start ≤ m → Passed line (start - 1) → Passed line (m - 1)
-  searched_to le h =
-      pass_to line (start - 1) (m - 1) (omega (arith, le)) (omega (arith, within)) (λ q low high. unmarked line q (no_mark (q + 1) (omega (arith, low)) (omega (arith, high)))) h
-
--- ---- The first mark from a place.
-
-abbrev MarkedAt : List ℕ → ℕ → ℕ → Type 0
-MarkedAt line start = Passes (is_byte3 35 59 47) (take (length line - start) (drop start line))
-
-module _ (line : List ℕ) (start at : ℕ) (low : start ≤ length line) (found : NoneBefore (MarkedAt line start) 0 (length (take (length line - start) (drop start line))) at) where
-  pub mark_within : start + at + 1 ≤ length line
-  mark_within = omega (arith, low, found.high, ap length (tail line start), length-drop start line)
-
-  to_mark : Passed line (start - 1) → Passed line (start + at - 1)
-  to_mark = searched_to line start (start + at) (omega (arith, mark_within)) (subst (λ (k : ℕ). Nowhere (MarkedAt line start) 0 k) (omega arith) found.before) (omega arith)
-
-  pub mark_begins : 0 < start + at → begins_comment (take (length line - (start + at - 1)) (drop (start + at - 1) line)) ≡ true → Passed line (start - 1) → take (start + at - 1) line ≡ without_comment line
-  mark_begins some h passed = begun line (start + at - 1) (omega (arith, mark_within, some)) (ap begins_comment (sym (tail line (start + at - 1))) ∙ h) (to_mark passed)
-
-  pub mark_passed : 0 < start + at → begins_comment (take (length line - (start + at - 1)) (drop (start + at - 1) line)) ≡ false → Passed line (start - 1) → Passed line (start + at + 1 - 1)
-  mark_passed some h passed =
-      subst (Passed line) (omega (arith, some))
-      (not_begun line (start + at - 1) (omega (arith, mark_within, some)) (ap begins_comment (sym (tail line (start + at - 1))) ∙ h) (to_mark passed))
-
-  pub mark_in_front : start + at ≤ 0 → Passed line (start - 1) → Passed line (start + at + 1 - 1)
-  mark_in_front none = subst (Passed line) (omega (arith, none))
-
--- nor after the end
-no_mark_after : (line : List ℕ) (start : ℕ) → Nowhere (MarkedAt line start) 0 (length line - start) → (k : ℕ) → start ≤ k → is_byte3 35 59 47 (slice_index line k) ≡ true → ⊥
-no_mark_after line start none k low marked =
+no_mark : (line : List ℕ) → Nowhere (Passes (is_byte3 35 59 47) line) 0 (length line) → (k : ℕ) → is_byte3 35 59 47 (slice_index line k) ≡ true → ⊥
+no_mark line none k marked =
     elim (cases_lt k (length line)) [
-      | inl less ↦ no_mark line start (length line) (omega arith) none k low less marked
+      | inl less ↦ none k (omega arith) less marked
       | inr past ↦ (let h : false ≡ true = ap (is_byte3 35 59 47) (sym (get_or_past line k 0 past)) ∙ marked in cc)
     ]
 
--- where there is none
-pub unmarked_line : (line : List ℕ) (start : ℕ) → start ≤ length line → Nowhere (MarkedAt line start) 0 (length (take (length line - start) (drop start line))) → Passed line (start - 1) → without_comment line ≡ line
-unmarked_line line start low none passed =
-    let end = length line in
-    let searched : Nowhere (MarkedAt line start) 0 (end - start) = subst (λ (k : ℕ). Nowhere (MarkedAt line start) 0 k) (ap length (tail line start) ∙ length-drop start line) none in
-    let all : Passed line end = pass_to line (start - 1) end (omega (arith, low)) (omega arith)
-    (λ q above below. unmarked line q (no_mark_after line start searched (q + 1) (omega (arith, above)))) passed in
-    all ∙ ap (λ (z : List ℕ). take end line ++ without_comment z) (drop_all end line (omega arith)) ∙ append-nil (take end line) ∙ take_all end line (omega arith)
+-- ---- The first mark.
 
--- ---- What is read of a line.
+abbrev Marked : List ℕ → ℕ → Type 0
+Marked line = Passes (is_byte3 35 59 47) line
 
-read_by : (b : Bool) (line : List ℕ) → are_enough (text_digits (without_comment line)) ≡ b → read_text line ≡ cond b (without_comment line) line
-read_by b line h = ap (λ (z : Bool). cond z (without_comment line) line) h
+-- no comment begins before the character in front of it
+pub to_mark : (line : List ℕ) (mark : ℕ) → mark ≤ length line → Nowhere (Marked line) 0 mark → Passed line (mark - 1)
+to_mark line mark within none = pass_to line 0 (mark - 1) (omega arith) (omega (arith, within)) (λ q low high. unmarked line q (none (q + 1) (omega arith) (omega (arith, high)))) refl
 
-enough_before : (line front buffer : List ℕ) (r : Result ℕ NoBytes) → front ≡ without_comment line → Says (text_digits front) r buffer → are_enough (text_digits (without_comment line)) ≡ says_enough r
-enough_before line front buffer r is says = ap (λ (z : List ℕ). are_enough (text_digits z)) (sym is) ∙ sym (enough_said (text_digits front) buffer r says)
-
--- what is before its comment, which has digits enough
-pub says_before : (line front buffer : List ℕ) (r : Result ℕ NoBytes) → front ≡ without_comment line → Says (text_digits front) r buffer → says_enough r ≡ true → Says (text_digits (read_text line)) r buffer
-says_before line front buffer r is says enough =
-    subst (λ (z : List ℕ). Says (text_digits z) r buffer) (is ∙ sym (read_by true line (enough_before line front buffer r is says ∙ enough))) says
-
--- all of it, where that has too few
-pub read_all : (line front buffer : List ℕ) (r : Result ℕ NoBytes) → front ≡ without_comment line → Says (text_digits front) r buffer → says_enough r ≡ false → read_text line ≡ line
-read_all line front buffer r is says few = read_by false line (enough_before line front buffer r is says ∙ few)
-
-same_read : (b : Bool) (line front : List ℕ) → front ≡ line → cond b front line ≡ line
-same_read true line front is = is
-same_read false line front is = refl
-
--- or where there is none
-pub read_whole : (line : List ℕ) → without_comment line ≡ line → read_text line ≡ line
-read_whole line is = same_read (are_enough (text_digits (without_comment line))) line (without_comment line) is
+-- nor anywhere, where there is none
+pub unmarked_line : (line : List ℕ) → Nowhere (Marked line) 0 (length line) → without_comment line ≡ line
+unmarked_line line none = passed_all line (length line) (omega arith) (pass_to line 0 (length line) (omega arith) (omega arith) (λ q low high. unmarked line q (no_mark line none (q + 1))) refl)

@@ -2,11 +2,8 @@
 use Rattle.std.proofs.Common.{◌≡◌, ℕ, zero, suc, ◌+◌, ◌-◌, ◌<◌, ◌≤◌, Bool, true, false, cond, not, ◌&&◌, List, [], ◌∷◌, ◌++◌, length, take, drop, drop-cons, slice_index, refl, sym, ap, ◌∙◌, arith}
 use Rattle.std.specs.List.{list_all}
 use Rattle.std.proofs.lemmas.List.{append-nil, append_assoc, take-append-drop, take_more, take-take, length-take}
-use Rattle.etcs_runs.specs.Cuts.{parts_at}
-use Rattle.etcs_runs.specs.declared.digits.Cut.{Cut}
-use Rattle.etcs_runs.specs.declared.digits.Cut.TheVariants.{Gaps, Joints}
 use Rattle.etcs_runs.specs.Digits.{are_enough, before_digits, before_end, before_last, before_words, begins_comment, end_front, group_words, is_blank, is_gap, is_group, is_joint, kept, last_first, line_front, passed_words, read_text, text_digits, without_comment, without_end, without_mark, word_parts}
-use Rattle.etcs_runs.proofs.Words.{both}
+use Rattle.etcs_runs.proofs.LastWords.{both}
 
 -- ---- The end of a text.
 
@@ -66,21 +63,11 @@ before_last-take at t end start is all le before =
 
 -- ---- A text before its digits.
 
-module _ (text w : List ℕ) (ws : List (List ℕ)) (is : last_first is_gap text ≡ w ∷ ws) (cut : Cut) (n : ℕ) where
-  before_end-is : before_end text ≡ end_front (w ∷ ws) text
-  before_end-is = ap (λ (z : List (List ℕ)). end_front z text) is
-
-  pub before_end-groups : is_group w ≡ true → cut ≡ Gaps → n ≡ group_words (last_first is_gap text) → before_words (parts_at cut) n text ≡ before_end text
-  before_end-groups h c k =
-      ap (λ (z : Cut). before_words (parts_at z) n text) c
-      ∙ ap (λ (z : ℕ). before_words is_gap z text) (k ∙ ap group_words is)
-      ∙ sym (before_end-is ∙ ap (λ (b : Bool). cond b (before_words is_gap (group_words (w ∷ ws)) text) (before_words is_joint (word_parts w) text)) h)
-
-  pub before_end-word : is_group w ≡ false → cut ≡ Joints → n ≡ word_parts w → before_words (parts_at cut) n text ≡ before_end text
-  before_end-word h c k =
-      ap (λ (z : Cut). before_words (parts_at z) n text) c
-      ∙ ap (λ (z : ℕ). before_words is_joint z text) k
-      ∙ sym (before_end-is ∙ ap (λ (b : Bool). cond b (before_words is_gap (group_words (w ∷ ws)) text) (before_words is_joint (word_parts w) text)) h)
+pub before_end-groups : (text w : List ℕ) (ws : List (List ℕ)) → last_first is_gap text ≡ w ∷ ws → is_group w ≡ true → before_words is_gap (group_words (last_first is_gap text)) text ≡ before_end text
+before_end-groups text w ws is h =
+    let groups = before_words is_gap (group_words (w ∷ ws)) text in
+    ap (λ (z : List (List ℕ)). before_words is_gap (group_words z) text) is
+    ∙ sym (ap (λ (z : List (List ℕ)). end_front z text) is ∙ ap (λ (b : Bool). cond b groups (before_words is_joint (word_parts w) text)) h)
 
 -- ---- It is the front of the text.
 

@@ -1,6 +1,6 @@
 pub mod Known
 pub mod LineTexts
-pub mod Words
+pub mod LastWords
 pub mod Pairs
 pub mod Decoding
 pub mod Runs

@@ -6,7 +6,7 @@ use Rattle.std.proofs.lemmas.Bool.Decides.{nat_tests}
 use Rattle.std.proofs.lemmas.List.Sums.{AllPass-from_list_all, list_all-from_AllPass}
 use Rattle.hex.specs.Hex.{is_hex_digit}
 use Rattle.etcs_runs.specs.Digits.{are_enough, bare, end_digits, found, groups, is_blank, is_gap, is_group, is_joint, is_passed_over, is_x, last_first, line_digits, read_text, says_nothing, text_digits, without_comment, without_mark, word_digits, words}
-use Rattle.etcs_runs.proofs.Words.{both, not_true, words-word}
+use Rattle.etcs_runs.proofs.LastWords.{both, not_true, words-word}
 
 not_blank : (c : ℕ) → is_hex_digit c ≡ true → not (is_blank c) ≡ true
 not_blank c h = grind (arith, nat_tests)

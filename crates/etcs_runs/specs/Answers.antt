@@ -1,5 +1,5 @@
 -- What `line_bytes` returns for the digits of a line.
-use Rattle.std.specs.Prelude.{◌≡◌, ℕ, ◌-◌, ◌%◌, ◌<◌, ◌≤◌, Bool, false, nat_le, List, [], length, drop, Result, Ok, Err}
+use Rattle.std.specs.Prelude.{◌≡◌, ℕ, ◌-◌, ◌%◌, ◌<◌, ◌≤◌, List, [], length, drop, Result, Ok, Err}
 use Rattle.hex.specs.Hex.{decode_of}
 use Rattle.etcs_runs.specs.declared.digits.NoBytes.{NoBytes}
 use Rattle.etcs_runs.specs.declared.digits.NoBytes.TheVariants.{Empty, NoDigits, OddDigits}
@@ -11,10 +11,3 @@ Says digits (Ok n) buffer = (0 < n) × (n ≤ length buffer) × (decode_of digit
 Says digits (Err Empty) buffer = ⊥
 Says digits (Err NoDigits) buffer = digits ≡ []
 Says digits (Err (OddDigits n)) buffer = (n ≡ length digits) × (n % 2 ≡ 1)
-
--- digits with this result are enough for an item: 20, or 10 bytes
-abbrev pub says_enough : Result ℕ NoBytes → Bool
-says_enough (Ok n) = nat_le 10 n
-says_enough (Err Empty) = false
-says_enough (Err NoDigits) = false
-says_enough (Err (OddDigits n)) = nat_le 20 n

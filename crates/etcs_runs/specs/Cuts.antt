@@ -1,7 +1,7 @@
 -- The characters at which a text is cut.
 use Rattle.std.specs.Prelude.{ℕ, Bool}
-use Rattle.etcs_runs.specs.declared.digits.Cut.{Cut}
-use Rattle.etcs_runs.specs.declared.digits.Cut.TheVariants.{Blanks, Gaps, Joints}
+use Rattle.etcs_runs.specs.declared.words.Cut.{Cut}
+use Rattle.etcs_runs.specs.declared.words.Cut.TheVariants.{Blanks, Gaps, Joints}
 use Rattle.etcs_runs.specs.Digits.{is_blank, is_gap, is_joint}
 
 -- a text is cut at the character

@@ -10,4 +10,5 @@ pub mod Cutting
 pub mod Digits
 pub mod Cuts
 pub mod Answers
+pub mod Finds
 pub mod laws

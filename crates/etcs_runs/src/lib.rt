@@ -9,12 +9,14 @@ mod ends;
 mod engine;
 mod fault;
 mod form;
+mod found;
 mod front;
 mod hexadecimal;
 pub mod inner;
 mod lines;
 mod pump;
 mod send;
+mod words;
 
 pub use digits::{NoBytes, line_bytes};
 pub use ends::{Failed, Input, Output, Sink, Source};

@@ -1,6 +1,6 @@
 use Rattle.std.proofs.Common.{◌∙◌, ap, sym}
 use Rattle.etcs_runs.specs.Digits.{is_blank}
-use Rattle.etcs_runs.proofs.Words.{first_says, is_hash}
+use Rattle.etcs_runs.proofs.LastWords.{first_says, is_hash}
 use Rattle.etcs_runs.proofs.digits.is_empty.Goals as goal
 
 pub returns-in-Some : goal.returns-in-Some

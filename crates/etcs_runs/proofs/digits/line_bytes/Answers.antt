@@ -1,7 +1,7 @@
 use Rattle.std.proofs.Common.{◌<◌, ◌∙◌, eqb, length, sym, ap, arith}
 use Rattle.std.specs.List.{list_all}
 use Rattle.hex.specs.Hex.{decode_of, is_hex_digit}
-use Rattle.etcs_runs.proofs.Words.{both}
+use Rattle.etcs_runs.proofs.LastWords.{both}
 use Rattle.etcs_runs.proofs.Pure.{pure_digits, pure_read}
 use Rattle.etcs_runs.proofs.digits.line_bytes.Goals as goal
 

@@ -2,9 +2,9 @@ use Rattle.std.proofs.Common.{◌≡◌, ◌+◌, ◌-◌, ◌∙◌, ap, sym, a
 use Rattle.std.specs.List.{list_all}
 use Rattle.etcs_runs.specs.Cuts.{parts_at}
 use Rattle.etcs_runs.specs.Digits.{words}
-use Rattle.etcs_runs.proofs.Words.{words-shorter}
+use Rattle.etcs_runs.proofs.LastWords.{words-shorter}
 use Rattle.etcs_runs.proofs.Fronts.{all_longer, without_end-take}
-use Rattle.etcs_runs.proofs.digits.end_of_word.Goals as goal
+use Rattle.etcs_runs.proofs.words.end_of_word.Goals as goal
 
 pub loop-end-preserved : goal.loop-end-preserved
 loop-end-preserved c =

@@ -1,7 +1,7 @@
 use Rattle.std.proofs.Common.{◌≡◌, ◌≤◌, length, drop, not, true}
 use Rattle.std.specs.List.{list_all}
 use Rattle.etcs_runs.specs.Cuts.{parts_at}
-use Rattle.etcs_runs.proofs.digits.start_of_word.Given as goal
+use Rattle.etcs_runs.proofs.words.start_of_word.Given as goal
 
 abbrev pub invariant-loop-start : goal.invariant-loop-start
 invariant-loop-start l = record {

@@ -2,7 +2,7 @@ use Rattle.std.proofs.Common.{◌≡◌, ◌≤◌, length, take, drop, true}
 use Rattle.std.specs.List.{list_all}
 use Rattle.etcs_runs.specs.Cuts.{parts_at}
 use Rattle.etcs_runs.specs.Digits.{words}
-use Rattle.etcs_runs.proofs.digits.end_of_word.Given as goal
+use Rattle.etcs_runs.proofs.words.end_of_word.Given as goal
 
 abbrev pub invariant-loop-end : goal.invariant-loop-end
 invariant-loop-end l = record {

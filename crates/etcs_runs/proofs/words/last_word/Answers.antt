@@ -1,8 +1,8 @@
 use Rattle.std.proofs.Common.{sym, arith}
 use Rattle.etcs_runs.specs.Cuts.{parts_at}
 use Rattle.etcs_runs.proofs.Fronts.{before_last-take}
-use Rattle.etcs_runs.proofs.Words.{last_word_at}
-use Rattle.etcs_runs.proofs.digits.last_word.Goals as goal
+use Rattle.etcs_runs.proofs.LastWords.{last_word_at}
+use Rattle.etcs_runs.proofs.words.last_word.Goals as goal
 
 pub returns-clause-some : goal.returns-clause-some
 returns-clause-some c =

@@ -134,8 +134,7 @@ impl Sheet {
     /// Writes the line of a text, which is the meaning, at this depth.
     pub(crate) fn text(&mut self, depth: usize) {
         self.open_wide(depth);
-        self.put_meaning();
-        self.out.push("\n");
+        self.heading();
     }
 
     /// Writes the line of a variable of these bits, at this depth, with the value and the meaning.
@@ -160,8 +159,7 @@ impl Sheet {
             write!(self.out, "<tr{class}><td>{bits}<td class=d{depth}>{name}");
             write!(self.out, "<td>{value}<td>");
         }
-        self.put_meaning();
-        self.out.push("\n");
+        self.heading();
     }
 
     /// Ends the table of an item, with the reason that the meaning has, if it has one, and what it often comes from.

@@ -1,8 +1,8 @@
 -- The clauses about the bits so far, variable by variable.
-use Rattle.std.proofs.Common.{◌≡◌, ℕ, ◌+◌, ◌≤◌, ◌<◌, min, Bool, List, [], ◌++◌, length, take, refl, sym, ap, subst, ◌∙◌, arith, inl, inr}
-use Rattle.std.specs.Prelude.{◌*◌, None, Some, Option, Result, Ok, Err, IfOk, IfSome, IsNone, MatchResult, string_bytes}
+use Rattle.std.proofs.Common.{◌≡◌, ℕ, ◌+◌, ◌≤◌, ◌<◌, min, Bool, List, [], ◌++◌, length, take, drop, refl, sym, ap, subst, ◌∙◌, arith, inl, inr}
+use Rattle.std.specs.Prelude.{◌*◌, None, Option, Result, Ok, Err, IfOk, MatchResult}
 use Rattle.std.proofs.lemmas.Bool.{cases_lt}
-use Rattle.std.proofs.lemmas.List.{append-nil, length-append, length-take, length-take-le, take-take, take_all}
+use Rattle.std.proofs.lemmas.List.{append-nil, length-append, length-take, length-take-le, take-append-drop, take-take, take_all}
 use Rattle.etcs_bits.specs.Bits.{bits, num}
 use Rattle.etcs_bits.proofs.Numbers.{length-num}
 use Rattle.etcs_bits.proofs.Owned.{bits-take}
@@ -10,9 +10,9 @@ use Rattle.etcs_bits.proofs.Positions.{length-bits}
 use Rattle.etcs_vars.specs.declared.var.Var.{Var}
 use Rattle.etcs_vars.specs.Vars.{width}
 use Rattle.etcs_vars.specs.Walking.{Residual, Refuses}
-use Rattle.etcs_vars.specs.Reading.{Reading, spelled, readings_of, Owner, IsOutcome, done}
+use Rattle.etcs_vars.specs.Reading.{Reading, spelled, readings_of, Owner, IsOutcome, done, refused}
 use Rattle.etcs_vars.proofs.Languages.{Same}
-use Rattle.etcs_vars.proofs.Outcomes.{viable_front, none_refused}
+use Rattle.etcs_vars.proofs.Outcomes.{viable_front, none_refused, refuses_longer}
 use Rattle.etcs_vars.proofs.Walk.{Regular}
 use Rattle.etcs_telegram.proofs.SameReadings.{owner_along, refuses_along}
 use Rattle.etcs_reader.specs.Rests.{Goes}
@@ -28,7 +28,6 @@ use Rattle.etcs_reasons.specs.Accounts.{Shows, Accounts, AccountsFor}
 use Rattle.etcs_reasons.specs.Traces.{Taken}
 use Rattle.etcs_reasons.specs.declared.account.Account.{Account}
 use Rattle.etcs_reasons.specs.declared.account.Part.{Part}
-use Rattle.etcs_reasons.specs.declared.refusal.Reason.{Reason}
 use Rattle.etcs_reasons.specs.declared.account.Wanted.{Wanted}
 use Rattle.etcs_reasons.specs.declared.account.Wanted.TheVariants as wanted_as
 use Rattle.etcs_reasons.specs.declared.account.End.{End}
@@ -52,21 +51,19 @@ whole_unrefused L regular p b a i x r = none_refused L regular b i x r a.1 a.2 (
 pub open_unrefused : (L : Reading → Type 0) (p : Reading) (part : Part) (b : List Bool) → Accounts L p (end.Open part) b → (i : ℕ) (x : Var) → Refuses L b i x → ⊥
 open_unrefused L p part b a i x r = r.blocked (viable_front L (i + 1) b a.1.viable)
 
-pub unrefused : (L : Reading → Type 0) → Regular L → (p : Reading) (e : End) (b : List Bool) → Accounts L p e b → ((bit : ℕ) (part : Part) → e ≡ end.Refused bit part → ⊥) → (i : ℕ) (x : Var) → Refuses L b i x → ⊥
-unrefused L regular p end.Whole b a not i x r = whole_unrefused L regular p b a i x r
-unrefused L regular p (end.Open part) b a not i x r = open_unrefused L p part b a i x r
-unrefused L regular p (end.Refused bit part) b a not i x r = absurd (not bit part refl)
+-- in the first m bits, if all of them begin with an item
+pub item_unrefused : {V : Type 0} (Reads : V → Reading → Type 0) → Regular (readings_of Reads) → (m : ℕ) (b : List Bool) (v : V) (k : ℕ) → IsOutcome Reads b (done v k) → (i : ℕ) (x : Var) → Refuses (readings_of Reads) (take m b) i x → ⊥
+item_unrefused Reads regular m b v k o i x r =
+    let all = subst (λ (u : List Bool). Refuses (readings_of Reads) u i x) (take-append-drop m b) (refuses_longer (readings_of Reads) (take m b) (drop m b) i x r) in
+    none_refused (readings_of Reads) regular b i x all k o.0 (o.1, (v, o.2), o.3)
 
--- ---- Where one is, and its reason is known.
+-- ---- Where one is.
 
-pub reason_refuses : {E : Type 0} (L : Reading → Type 0) (p : Reading) (e : End) (b : List Bool) → Accounts L p e b → (result : Result (Option Reason) E) → IfOk result (λ o. IfSome o (λ r. (part : Part) × (e ≡ end.Refused r.bit part) × (part.var ≡ r.var) × (0 < length (string_bytes r.sentence)))) → IfOk result (λ o. IfSome o (λ r. Refuses L b r.bit r.var × (0 < length (string_bytes r.sentence))))
-reason_refuses L p e b a (Ok (Some r)) (part, is, var, some) = (rw var at (rw is at a).1, some)
-reason_refuses L p e b a (Ok None) h = tt
-reason_refuses L p e b a (Err x) h = tt
+pub refuses_at : (L : Reading → Type 0) (p : Reading) (e : End) (b : List Bool) → Accounts L p e b → (bit : ℕ) (part : Part) → e ≡ end.Refused bit part → Refuses L b bit part.var
+refuses_at L p e b a bit part is = (rw is at a).1
 
-pub none_refuses : {E : Type 0} (L : Reading → Type 0) → Regular L → (p : Reading) (e : End) (b : List Bool) → Accounts L p e b → (result : Result (Option Reason) E) → IfOk result (λ o. IsNone o → (bit : ℕ) (part : Part) → e ≡ end.Refused bit part → ⊥) → IfOk result (λ o. IsNone o → (i : ℕ) (x : Var) → Refuses L b i x → ⊥)
-none_refuses L regular p e b a (Ok o) h = λ none. unrefused L regular p e b a (h none)
-none_refuses L regular p e b a (Err x) h = tt
+pub refuses_of : {V : Type 0} (Reads : V → Reading → Type 0) (xs b : List Bool) → xs ≡ b → (i : ℕ) (x : Var) → IsOutcome Reads xs (refused i x) → Refuses (readings_of Reads) b i x
+refuses_of Reads xs b e i x o = subst (λ (u : List Bool). Refuses (readings_of Reads) u i x) e (record { within = o.0.1; owned = o.1; blocked = o.0.2 })
 
 -- ---- Where a reader is: s is left, after whole variables from start on.
 
@@ -156,14 +153,11 @@ first_bits bytes k e =
 
 -- ---- Of the items of a kind.
 
-pub of_kind : {E : Type 0} (wanted : Wanted) (P Q : Reading → Type 0) → Same P Q → (xs b : List Bool) → xs ≡ b → (result : Result Account E) → IfOk result (λ a. AccountsFor wanted P a.fields.items a.end xs) → IfOk result (λ a. AccountsFor wanted Q a.fields.items a.end b)
-of_kind wanted P Q same xs b e (Ok a) h = (h.0, subst (λ (u : List Bool). Accounts Q h.0 a.end u) e (accounts_along P Q same h.0 a.end xs h.1), h.2)
-of_kind wanted P Q same xs b e (Err x) h = tt
-
--- of which all variables are wanted
-pub fields_wanted : {E : Type 0} (L : Reading → Type 0) (b : List Bool) (result : Result Account E) → IfOk result (λ a. AccountsFor wanted_as.Fields L a.fields.items a.end b) → IfOk result (λ a. Accounts L a.fields.items a.end b)
-fields_wanted L b (Ok a) h = subst (λ (r : Reading). Accounts L r a.end b) (sym (h.2 refl)) h.1
-fields_wanted L b (Err x) h = tt
+pub of_kind : {E : Type 0} (P Q : Reading → Type 0) → Same P Q → (xs b : List Bool) → xs ≡ b → (result : Result Account E) → IfOk result (λ a. AccountsFor wanted_as.Fields P a.fields.items a.end xs) → IfOk result (λ a. Accounts Q a.fields.items a.end b)
+of_kind P Q same xs b e (Ok a) h =
+    let all = subst (λ (u : List Bool). Accounts Q h.0 a.end u) e (accounts_along P Q same h.0 a.end xs h.1) in
+    subst (λ (r : Reading). Accounts Q r a.end b) (sym (h.2 refl)) all
+of_kind P Q same xs b e (Err x) h = tt
 
 -- an item of the first bytes, or an account
 pub first_or_account : {V W E : Type 0} (wanted : Wanted) (Reads : W → Reading → Type 0) (value : V → W) (entry : V → Entry) (kind : Kind) → ((v : V) (r : Reading) → Reads (value v) r → EntryReads kind (entry_value (entry v)) r) → Same (readings_of Reads) (readings_of (EntryReads kind)) → (xs b : List Bool) → xs ≡ take 8184 b → (result : Result (Result ℕ Account) E) → IfOk result (λ o. MatchResult o (λ n. (v : V) × IsOutcome Reads xs (done (value v) (8 * n))) (λ a. AccountsFor wanted (readings_of Reads) a.fields.items a.end xs)) → IfOk result (λ o. MatchResult o (λ n. (e : Entry) × IsOutcome (EntryReads kind) b (done (entry_value e) (8 * n))) (λ a. AccountsFor wanted (readings_of (EntryReads kind)) a.fields.items a.end (take 8184 b)))

@@ -14,7 +14,6 @@ ghost use Rattle.etcs_reasons.specs.Traces.{IsRead, Taken};
 
 use etcs_messages::inner::MessageRest;
 use etcs_messages::{Head, Own};
-use etcs_packets::inner::room_after;
 use etcs_radio::{Body, RadioHead};
 use etcs_reader::{Feeder, Rest, Stop};
 use etcs_sequence::ItemRest;
@@ -23,9 +22,8 @@ use etcs_telegram::inner::{TelegramRest, TelegramStore};
 use etcs_text::Kind;
 use etcs_train::{TrainBody, TrainHead};
 use etcs_vars::Var;
-use etcs_vars::inner::VarSink;
+use etcs_vars::inner::PairList;
 use std::alloc::{AllocError, Global};
-use std::marker::Model;
 
 /// What is left of telegrams, and of messages to the train and to the track.
 type Telegrams = TelegramRest<TelegramStore>;
@@ -76,51 +74,6 @@ pub struct Account {
     pub fields: Vec<(Var, u64)>,
     /// Where the account ends.
     pub end: End,
-    /// How many bits the variables outside whole packets have.
-    pub(crate) outside: usize,
-}
-
-/// Keeps the variables that are sent to it.
-#[derive(Drop)]
-struct Trace {
-    fields: Vec<(Var, u64)>,
-}
-
-impl Model for Trace {
-    ghost use Rattle.etcs_vars.specs.Reading.{Reading};
-
-    ghost Value = { Reading };
-
-    ghost view = { λ s. s.fields.items };
-}
-
-impl Trace {
-    /// The variables.
-    fn into_fields(self) -> Vec<(Var, u64)>
-        ensures { result.items ≡ self }
-    {
-        let Trace { fields } = self;
-        fields
-    }
-}
-
-impl VarSink for Trace {
-    ghost use Rattle.std.specs.Prelude.{⊤};
-    ghost use Rattle.etcs_vars.specs.laws.Sinks.{pairs_none, pairs_both};
-
-    ghost with = { λ s p. s ++ p };
-
-    ghost failed = { λ s t. ⊤ };
-
-    ghost with_none = { pairs_none };
-
-    ghost with_both = { pairs_both };
-
-    ghost failed_after = { λ s a t h. h };
-
-    fn send(&mut self, sent: &[(Var, u64)]) -> Result<(), AllocError> {
-        self.fields.extend_from_slice(sent)
-    }
 }
 
 /// What is left of an item, with the variables that were read.
@@ -183,11 +136,9 @@ fn fields_of<R: ItemRest>(
     requires taken { length (spelled (R.far rest.now)) ≡ bits }
     ensures { IfOk result (λ fields. fields.items ≡ R.far rest.now) }
 {
-    // Most items have about as many variables as bytes.
-    let fields = Vec::with_capacity(alloc, bits / 8)?;
-    let mut trace = Trace { fields };
-    rest.send(bits, &mut trace)?;
-    Ok(trace.into_fields())
+    let mut list = PairList::new(alloc);
+    rest.send(bits, &mut list)?;
+    Ok(list.into_vec())
 }
 
 /// Feeds the bytes to a reader of an item of this size, from its first bit on, or after what one pass found of it. Returns the
@@ -260,12 +211,7 @@ fn account_of<R: Traced>(
         Wanted::Fields => fields_of(alloc, rest, bits)?,
         Wanted::Reason => Vec::new(alloc),
     };
-    let outside = room_after(bits, rest.store().packets.as_slice()).unwrap_or(0);
-    Ok(Account {
-        fields,
-        end,
-        outside,
-    })
+    Ok(Account { fields, end })
 }
 
 /// How many bytes the item of this size has that the bytes begin with; or the account, if one pass finds no item.
@@ -313,28 +259,12 @@ impl Account {
     pub fn read(alloc: Global, kind: Kind, bytes: &[u8]) -> Result<Account, AllocError>
         ensures { IfOk result (λ a. Accounts (readings_of (EntryReads kind)) a.fields.items a.end (take 8184 (bits bytes.now))) }
     {
-        Account::read_for(alloc, kind, bytes, Wanted::Fields)
-    }
-
-    /// The same, with the fields only if they are asked for.
-    ///
-    /// # Errors
-    ///
-    /// If memory runs out.
-    pub(crate) fn read_for(
-        alloc: Global,
-        kind: Kind,
-        bytes: &[u8],
-        wanted: Wanted,
-    ) -> Result<Account, AllocError>
-        ensures { IfOk result (λ a. AccountsFor wanted (readings_of (EntryReads kind)) a.fields.items a.end (take 8184 (bits bytes.now))) }
-    {
         let bytes = &bytes[..bytes.len().min(MOST_BYTES)];
         match kind {
-            Kind::Long => account_of::<Telegrams>(alloc, Size::Long, bytes, None, wanted),
-            Kind::Short => account_of::<Telegrams>(alloc, Size::Short, bytes, None, wanted),
-            Kind::Radio => account_of::<ToTrain>(alloc, (), bytes, None, wanted),
-            Kind::Train => account_of::<ToTrack>(alloc, (), bytes, None, wanted),
+            Kind::Long => account_of::<Telegrams>(alloc, Size::Long, bytes, None, Wanted::Fields),
+            Kind::Short => account_of::<Telegrams>(alloc, Size::Short, bytes, None, Wanted::Fields),
+            Kind::Radio => account_of::<ToTrain>(alloc, (), bytes, None, Wanted::Fields),
+            Kind::Train => account_of::<ToTrack>(alloc, (), bytes, None, Wanted::Fields),
         }
     }
 

@@ -1,4 +1,4 @@
-//! What is known of an item from the variables before a refused one.
+//! What is known of an item where a bit of it is refused, from the variables before that bit.
 
 use crate::kinds::{user_bits, wanted_bytes, way_of};
 use crate::numbers::low_byte;
@@ -6,16 +6,16 @@ use etcs_bits::peek;
 use etcs_rows::Place;
 use etcs_rows::inner::{EntryNumbers, pass_entry};
 use etcs_tables::{
-    Row, RowItem, frame_bits, head_bits, head_row, header_row, message_bits, row_of,
+    MARKER_BITS, RowItem, Way, frame_bits, head_bits, head_row, header_row, message_row, row_of,
 };
 use etcs_text::Kind;
 use etcs_vars::Var;
 
-/// What is known after some variables of an item.
+/// What is known where a variable comes next.
 #[derive(Drop)]
 pub(crate) struct Front {
     pub(crate) kind: Kind,
-    /// How many bits the variables have.
+    /// The variable's first bit.
     pub(crate) bit: usize,
     /// How many bits the item has without PAD; its packets end within them.
     pub(crate) end: usize,
@@ -29,41 +29,24 @@ pub(crate) struct Front {
     pub(crate) place: Option<Place>,
 }
 
-/// How many bits NID_MESSAGE and L_MESSAGE have.
-const FIRST_BITS: usize = 18;
+/// What a message begins with.
+static FIRST: &[RowItem] = &[RowItem::One(Var::NID_MESSAGE), RowItem::One(Var::L_MESSAGE)];
 
-/// How many bits the variables of a row without groups have.
-fn row_bits(row: Row) -> usize {
-    let mut bits = 0usize;
-    for item in row.items {
-        if let RowItem::One(var) = item {
-            bits = bits.saturating_add(var.width());
-        }
-    }
-    bits
-}
+/// The frame of a packet to the train, and to the track.
+static TO_TRAIN: &[RowItem] = &[
+    RowItem::One(Var::NID_PACKET),
+    RowItem::One(Var::Q_DIR),
+    RowItem::One(Var::L_PACKET),
+];
 
-/// How many bits come before the packets of an item of a kind that begins with these bytes. `None` for a message without
-/// typed packets.
-fn bits_before_packets(kind: Kind, bytes: &[u8]) -> Option<usize> {
-    match kind {
-        Kind::Long | Kind::Short => Some(row_bits(header_row())),
-        Kind::Radio | Kind::Train => {
-            let way = way_of(kind);
-            let own = message_bits(way, bytes.first().copied()?)?;
-            let head = row_bits(head_row(way)).saturating_add(FIRST_BITS);
-            Some(head.saturating_add(own))
-        }
-    }
-}
+static TO_TRACK: &[RowItem] = &[RowItem::One(Var::NID_PACKET), RowItem::One(Var::L_PACKET)];
 
 impl Front {
-    /// What is known where this variable comes next in the bytes, after variables that have this many bits, `outside` of
-    /// which aren't of whole packets. Of the last packet nothing is known if the next one begins, or PAD.
-    pub(crate) fn new(kind: Kind, bytes: &[u8], bit: usize, outside: usize, var: Var) -> Front {
+    /// What is known where the variable comes next that holds this bit, the first refused one of an item of the kind.
+    pub(crate) fn new(kind: Kind, bytes: &[u8], bit: usize, var: Var) -> Front {
         let mut front = Front {
             kind,
-            bit,
+            bit: 0,
             end: user_bits(kind),
             message: 0,
             packet: 0,
@@ -71,61 +54,99 @@ impl Front {
             length: 0,
             place: None,
         };
-        if let Kind::Radio | Kind::Train = kind {
-            front.pass_first(bytes);
-        }
-        if let Var::NID_PACKET | Var::PAD = var {
-            return front;
-        }
-        if let Some(before) = bits_before_packets(kind, bytes) {
-            if outside > before {
-                front.start = bit.saturating_sub(outside - before);
-                front.pass_packet(bytes);
-            }
+        if var == Var::PAD {
+            front.bit = front.end;
+        } else if front.pass_header(bytes, bit) {
+            front.pass_packets(bytes, bit);
         }
         front
     }
 
-    /// What is known after the first two variables of a message, if they come before the next one.
-    fn pass_first(&mut self, bytes: &[u8]) {
-        if let (Some(number), true) = (bytes.first(), self.bit > 0) {
-            self.message = *number;
+    /// Passes the variables before the packets, and returns whether the bit comes after them.
+    fn pass_header(&mut self, bytes: &[u8], bit: usize) -> bool {
+        if let Kind::Long | Kind::Short = self.kind {
+            return self.pass_items(header_row().items, bit);
         }
-        if let (Some(count), true) = (wanted_bytes(self.kind, bytes), self.bit >= FIRST_BITS) {
-            self.end = count.saturating_mul(8);
+        let way = way_of(self.kind);
+        self.message = bytes.first().copied().unwrap_or(0);
+        let count = wanted_bytes(self.kind, bytes);
+        self.end = count.unwrap_or(0).saturating_mul(8);
+        let Some(row) = message_row(way, self.message) else {
+            self.pass_items(FIRST, bit);
+            return false;
+        };
+        self.pass_items(FIRST, bit)
+            && self.pass_items(head_row(way).items, bit)
+            && self.pass_items(row.items, bit)
+    }
+
+    /// Passes the variables of a row without groups before the one that holds the bit, and returns whether it comes after
+    /// all of them.
+    fn pass_items(&mut self, items: &[RowItem], bit: usize) -> bool {
+        for item in items {
+            if let RowItem::One(var) = item {
+                let next = self.bit.saturating_add(var.width());
+                if next > bit {
+                    return false;
+                }
+                self.bit = next;
+            }
+        }
+        true
+    }
+
+    /// Passes the packets before the bit, and what is before it of the one that holds it.
+    fn pass_packets(&mut self, bytes: &[u8], bit: usize) {
+        for _ in 0..bit {
+            self.start = self.bit;
+            let end = self.pass_frame(bytes);
+            if end > bit {
+                break;
+            }
+            self.bit = end;
+        }
+        let frame = match way_of(self.kind) {
+            Way::ToTrain => TO_TRAIN,
+            Way::ToTrack => TO_TRACK,
+        };
+        if self.pass_items(frame, bit) {
+            self.place = self.place_at(bytes, bit);
         }
     }
 
-    /// What is known of the packet that has begun.
-    fn pass_packet(&mut self, bytes: &[u8]) {
+    /// Takes NID_PACKET and L_PACKET of the packet that begins, and returns where it ends.
+    fn pass_frame(&mut self, bytes: &[u8]) -> usize {
         let way = way_of(self.kind);
         let number = peek(bytes, self.start, Var::NID_PACKET.width());
         self.packet = low_byte(number.unwrap_or(0));
-        let row = self.start.saturating_add(frame_bits(way));
-        if row > self.bit {
-            return;
+        if let (0, Kind::Long | Kind::Short) = (self.packet, self.kind) {
+            return self.start.saturating_add(MARKER_BITS);
         }
         let at = self.start.saturating_add(head_bits(way));
         let length = peek(bytes, at, Var::L_PACKET.width());
         self.length = length.unwrap_or(0) as usize;
-        self.place = self.place_after(bytes, row);
+        self.start.saturating_add(self.length.max(frame_bits(way)))
     }
 
-    /// What is left of the packet's row, which begins at this bit, if the packet is typed.
-    fn place_after(&self, bytes: &[u8], row: usize) -> Option<Place> {
+    /// Passes the variables of the packet's row before the one that holds the bit, and returns what is left of the row, if the
+    /// packet is typed.
+    fn place_at(&mut self, bytes: &[u8], bit: usize) -> Option<Place> {
         let mut place = Place::start(row_of(way_of(self.kind), self.packet)?);
         let mut numbers = EntryNumbers::new();
         let end = self.start.saturating_add(self.length);
-        let mut at = row;
-        while at < self.bit {
-            let left = end.saturating_sub(at);
-            if let Some(bits) = pass_entry(&mut place, bytes, at, left, &mut numbers) {
-                at = at.checked_add(bits)?;
+        for _ in 0..bit {
+            let left = end.saturating_sub(self.bit);
+            if let Some(bits) = pass_entry(&mut place, bytes, self.bit, left, &mut numbers) {
+                self.bit = self.bit.saturating_add(bits);
                 continue;
             }
             let width = place.var()?.width();
-            place.pass(peek(bytes, at, width)?);
-            at = at.checked_add(width)?;
+            let next = self.bit.saturating_add(width);
+            if next > bit {
+                break;
+            }
+            place.pass(peek(bytes, self.bit, width)?);
+            self.bit = next;
         }
         Some(place)
     }

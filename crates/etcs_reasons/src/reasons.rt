@@ -2,7 +2,6 @@
 
 ghost use Rattle.etcs_reasons.specs.Sentences.{IsWritten};
 
-use crate::account::Part;
 use crate::front::Front;
 use crate::kinds::way_of;
 use crate::lengths::{Lengths, next_fit};
@@ -318,14 +317,13 @@ fn is_begun(bytes: &[u8], start: usize, var: Var, count: usize) -> bool {
     }
 }
 
-/// Appends why a bit of the variable is refused after the variables before it; these bits of the variable come before it. The
-/// sentence has no capital and no full stop.
-pub(crate) fn write_reason(front: &Front, bytes: &[u8], part: Part, out: &mut Text)
+/// Appends why this bit is refused, which the variable holds that comes next. The sentence has no capital and no full stop.
+pub(crate) fn write_reason(front: &Front, bytes: &[u8], bit: usize, var: Var, out: &mut Text)
     ensures { IsWritten out.new }
 {
-    let number = peek(bytes, front.bit, part.var.width());
-    let seen = part.count.saturating_add(1);
-    match (part.var, number) {
+    let number = peek(bytes, front.bit, var.width());
+    let seen = bit.saturating_sub(front.bit).saturating_add(1);
+    match (var, number) {
         (Var::PAD, _) if front.kind == Kind::Long => out.push("PAD is two zeros"),
         (Var::PAD, _) => out.push("PAD is six zeros"),
         (Var::NID_PACKET, _) => write_no_packet(front, number, out),

@@ -10,7 +10,7 @@ ghost use Rattle.etcs_reasons.specs.declared.account.End.{End};
 ghost use Rattle.etcs_reasons.specs.declared.account.Part.{Part};
 ghost use Rattle.etcs_reasons.specs.Sentences.{IsWritten};
 
-use crate::account::{Account, End, Wanted};
+use crate::account::{Account, End, MOST_BYTES, Wanted};
 use crate::first::is_item;
 use crate::front::Front;
 use crate::kinds::{wanted_bytes, way_of, way_of_message};
@@ -19,6 +19,7 @@ use crate::reasons::{often, write_reason};
 use crate::text::Text;
 use etcs_tables::{Way, message_row};
 use etcs_text::Kind;
+use etcs_text::inner::refused_at;
 use etcs_vars::Var;
 use std::alloc::{AllocError, Global};
 
@@ -88,23 +89,19 @@ fn write_open(kind: Kind, bytes: &[u8], out: &mut Text) {
     write!(out, " {} here", is_or_are(count));
 }
 
-/// Appends why the bytes of an account are no item of the kind, and returns what this most often comes from in such a kind.
-fn write_end(kind: Kind, bytes: &[u8], account: &Account, out: &mut Text) -> Option<&'static str>
-    ensures { (bit : ℕ) (part : Part) → account.now.end ≡ End.Refused bit part → IsWritten out.new }
+/// Appends why this bit is refused, which the variable holds, and returns what this most often comes from in such a kind.
+fn write_refused(
+    kind: Kind,
+    bytes: &[u8],
+    bit: usize,
+    var: Var,
+    out: &mut Text,
+) -> Option<&'static str>
+    ensures { IsWritten out.new }
 {
-    match account.end {
-        End::Whole => other_way(kind, bytes),
-        End::Open(_) => {
-            write_open(kind, bytes, out);
-            None
-        }
-        End::Refused(bit, part) => {
-            let before = bit.saturating_sub(part.count);
-            let front = Front::new(kind, bytes, before, account.outside, part.var);
-            write_reason(&front, bytes, part, out);
-            often(kind, bytes, part.var)
-        }
-    }
+    let front = Front::new(kind, bytes, bit, var);
+    write_reason(&front, bytes, bit, var, out);
+    often(kind, bytes, var)
 }
 
 /// Appends why the bytes of an account are not an item, and returns what this most often comes from. For an item nothing is
@@ -122,11 +119,39 @@ pub fn write_cause(
 ) -> Result<Option<&'static str>, AllocError>
     ensures { (bit : ℕ) (part : Part) → account.now.end ≡ End.Refused bit part → IsWritten out.new }
 {
-    let usual = write_end(kind, bytes, account, out);
-    if account.end == End::Whole {
-        return Ok(usual);
-    }
+    let usual = match account.end {
+        End::Whole => return Ok(other_way(kind, bytes)),
+        End::Open(_) => {
+            write_open(kind, bytes, out);
+            None
+        }
+        End::Refused(bit, part) => write_refused(kind, bytes, bit, part.var, out),
+    };
     Ok(advice(out.alloc(), kind, bytes)?.or(usual))
+}
+
+/// The reason of this refused bit, which the variable holds.
+///
+/// # Errors
+///
+/// If memory runs out.
+fn reason_at(
+    alloc: Global,
+    kind: Kind,
+    bytes: &[u8],
+    bit: usize,
+    var: Var,
+) -> Result<Reason, AllocError>
+    ensures { IfOk result (λ r. (r.bit ≡ bit) × (r.var ≡ var) × (0 < length (string_bytes r.sentence))) }
+{
+    let mut sentence = Text::new(alloc);
+    let usual = write_refused(kind, bytes, bit, var, &mut sentence);
+    Ok(Reason {
+        bit,
+        var,
+        sentence: sentence.into_string()?,
+        often: advice(alloc, kind, bytes)?.or(usual),
+    })
 }
 
 /// Returns why a bit of the bytes is refused, from their account: the account's refused bit, the variable of its part, and a
@@ -147,14 +172,30 @@ pub fn reason_of(
     let End::Refused(bit, part) = account.end else {
         return Ok(None);
     };
-    let mut sentence = Text::new(alloc);
-    let often = write_cause(kind, bytes, account, &mut sentence)?;
-    Ok(Some(Reason {
-        bit,
-        var: part.var,
-        sentence: sentence.into_string()?,
-        often,
-    }))
+    Ok(Some(reason_at(alloc, kind, bytes, bit, part.var)?))
+}
+
+/// The first bit of the first 1,023 bytes at most with which no item of the kind continues, and the variable that holds it. In
+/// most cases no value is made.
+///
+/// # Errors
+///
+/// If memory runs out.
+fn refused_bit(alloc: Global, kind: Kind, bytes: &[u8]) -> Result<Option<(usize, Var)>, AllocError>
+    ensures some { IfOk result (λ o. IfSome o (λ t. Refuses (readings_of (EntryReads kind)) (take 8184 (bits bytes.now)) t.0 t.1)) }
+    ensures none { IfOk result (λ o. IsNone o → (i : ℕ) (x : Var) → Refuses (readings_of (EntryReads kind)) (take 8184 (bits bytes.now)) i x → ⊥) }
+{
+    if let Some(found) = refused_at(kind, &bytes[..bytes.len().min(MOST_BYTES)]) {
+        return Ok(Some(found));
+    }
+    let Err(account) = Account::unless_whole(alloc, kind, bytes, Wanted::Reason)? else {
+        return Ok(None);
+    };
+    match account.end {
+        End::Refused(bit, part) => Ok(Some((bit, part.var))),
+        End::Open(_) => Ok(None),
+        End::Whole => Ok(None),
+    }
 }
 
 /// Returns why the bytes don't begin an item of the kind: of the first 1,023 bytes at most the first bit with which no item
@@ -168,6 +209,8 @@ pub fn why(alloc: Global, kind: Kind, bytes: &[u8]) -> Result<Option<Reason>, Al
     ensures some { IfOk result (λ o. IfSome o (λ r. Refuses (readings_of (EntryReads kind)) (take 8184 (bits bytes.now)) r.bit r.var × (0 < length (string_bytes r.sentence)))) }
     ensures none { IfOk result (λ o. IsNone o → (i : ℕ) (x : Var) → Refuses (readings_of (EntryReads kind)) (take 8184 (bits bytes.now)) i x → ⊥) }
 {
-    let account = Account::read_for(alloc, kind, bytes, Wanted::Reason)?;
-    reason_of(alloc, kind, bytes, &account)
+    match refused_bit(alloc, kind, bytes)? {
+        Some((bit, var)) => Ok(Some(reason_at(alloc, kind, bytes, bit, var)?)),
+        None => Ok(None),
+    }
 }

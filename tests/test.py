@@ -9,6 +9,7 @@ changed (tools/unproved.py): in about a minute and a half on 4 cores. Then all p
     vectors        every vector, by `etcs_vectors`, and how many there are of each kind
     commands       the vectors that a command line can answer, by `etcs` (tests/vectors.py)
     stack          the same with 64 KB of stack, or 160 if the program is unproved, since its functions are inlined otherwise
+    decoder        whether a decoder over share/etcs.tables.json reads what the vectors accept as `show` does (tests/tables_test.py)
     sentences      whether each sentence of `explain` and `log` is in a vector (tests/sentences.py)
     schema         docs/etcs.schema.json against the tables, the vectors and what the program writes (tools/schema.py)
     documents      the commands and the quoted files of all documents (tools/doc_examples.py)
@@ -22,7 +23,8 @@ changed (tools/unproved.py): in about a minute and a half on 4 cores. Then all p
     audit-selftest whether that finds a definition that the page hides (tests/definitions_test.py)
     guarantees     docs/GUARANTEES.md and docs/GLOSSARY.md against the docstrings, clauses and comments of the sources, and
                    whether each of these calls and definitions has any (tools/guarantees.py)
-    tables         the tables of documents against the sources (tools/format_tables.py)
+    tables         the tables of documents and those for other tools against the sources (tools/format_tables.py)
+    page           the style and the script of pages against share/page.css and share/page.js (tools/page.py)
     help           the texts of help against the vectors (tools/help_texts.py)
     manual         the manual and the completions against them (tools/manual.py)
     completions    what bash, zsh and fish propose (tests/completion_test.py)
@@ -76,6 +78,7 @@ PROGRAM_SCRIPTS = {
     "streams": ["tests/stream_test.py"],
     "documents": ["tools/doc_examples.py", "--check"],
     "schema": ["tools/schema.py", "--check"],
+    "decoder": ["tests/tables_test.py"],
     "sentences": ["tests/sentences.py"],
 }
 SCRIPTS = {
@@ -83,6 +86,7 @@ SCRIPTS = {
     "audit": ["tools/definitions.py", "--page", "--check"],
     "guarantees": ["tools/guarantees.py", "--check"],
     "tables": ["tools/format_tables.py", "--check"],
+    "page": ["tools/page.py", "--check"],
     "help": ["tools/help_texts.py", "--check"],
     "manual": ["tools/manual.py", "--check"],
     "completions": ["tests/completion_test.py"],

@@ -1,10 +1,11 @@
 #!/usr/bin/env python3
-"""Writes the tables of docs/FORMAT.md, docs/SUPPORTED.md, docs/USING.md and docs/ARCHITECTURE.md that come from the sources.
+"""Writes the tables of docs/FORMAT.md, docs/SUPPORTED.md, docs/USING.md and docs/ARCHITECTURE.md that come from the sources,
+and the files of tables for other tools (tools/machine_tables.py).
 
     tools/format_tables.py [--check]
 
 A part between `<!-- made by tools/format_tables.py: NAME -->` and `<!-- end -->` is rewritten. With --check nothing is
-written: the status is 1 if a document no longer matches the sources. The sources are the tables of crates/etcs_vars and
+written: the status is 1 if a document or a file no longer matches the sources. The sources are the tables of crates/etcs_vars and
 crates/etcs_tables, the enums of packets and bodies with their comments, and crates.txt. Variables are compared with their
 definitions, and lengths with the vectors `lengths`, before anything is written.
 """
@@ -15,6 +16,7 @@ import sys
 import textwrap
 
 sys.dont_write_bytecode = True
+import machine_tables
 import sources
 from guarantees import intro
 from sources import FRAMES, MOST_LENGTH, TESTS, TOP, Many, One, When, crates, crates_below, message_names, messages, packet_names, packets, variable, variables
@@ -278,22 +280,37 @@ PARTS = {
 }
 
 
+def text_of(path):
+    """Returns the text of a file; nothing if there is no such file."""
+    try:
+        with open(f"{TOP}/{path}", encoding="utf-8") as file:
+            return file.read()
+    except FileNotFoundError:
+        return ""
+
+
+def remade(text):
+    """Returns a document with its tables made anew."""
+    return PART.sub(lambda it: it[1] + "\n".join(PARTS[it[2]]()) + "\n" + it[4], text)
+
+
 def main(words):
     if words not in ([], ["--check"]):
         sys.exit(__doc__)
     sources.check_with_vectors()
-    parted, count = False, 0
-    for path in DOCUMENTS:
-        old = open(f"{TOP}/{path}", encoding="utf-8").read()
-        count += len(PART.findall(old))
-        new = PART.sub(lambda it: it[1] + "\n".join(PARTS[it[2]]()) + "\n" + it[4], old)
-        if new != old and words:
+    count = sum(len(PART.findall(text_of(it))) for it in DOCUMENTS)
+    files = machine_tables.files()
+    made = {path: remade(text_of(path)) for path in DOCUMENTS} | files
+    parted = [path for path, text in made.items() if text_of(path) != text]
+    for path in parted:
+        if words:
             print(f"{path} has parted from the sources: run tools/format_tables.py", file=sys.stderr)
-            parted = True
-        elif new != old:
-            open(f"{TOP}/{path}", "w", encoding="utf-8").write(new)
-    print(f"{count} tables in {len(DOCUMENTS)} documents" + ("" if parted else ", no difference"))
-    return 1 if parted else 0
+        else:
+            with open(f"{TOP}/{path}", "w", encoding="utf-8") as file:
+                file.write(made[path])
+    is_wrong = bool(words and parted)
+    print(f"{count} tables in {len(DOCUMENTS)} documents, and {len(files)} files" + ("" if is_wrong else ", no difference"))
+    return 1 if is_wrong else 0
 
 
 if __name__ == "__main__":

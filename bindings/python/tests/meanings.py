@@ -1,4 +1,4 @@
-"""meanings.py PROGRAM: compares what `etcs.variables` says numbers mean with what PROGRAM's `explain` prints.
+"""meanings.py PROGRAM: compares what `etcs.variables` says numbers mean, and the entry of each, with what PROGRAM's `explain` prints.
 
 It takes items of bench/mix.py, items with each packet to begin with, and the same with one number changed: for each variable
 each number that has a text, the least and the largest, and some between. The status is 0 if all agree, and no text is left out."""
@@ -23,7 +23,8 @@ UNITS = {variable(var).name for var in units()}
 MIX = 150
 #: what a number means for what follows it, which a list of variables shows by itself
 EFFECT = re.compile(r"(?:, |^)(?:\w+ is next|so the \w+ ends with bit \d+|characters that follow|no entry follows|1 entry follows|\d+ entries follow)$")
-LINE = re.compile(r" +(\d+)(?:\.\.(\d+))? +(\w+) +(\S+(?: bits?)?)(?:  (.*))?$")
+LINE = re.compile(r"( +)(\d+)(?:\.\.(\d+))? +(\w+) +(\S+(?: bits?)?)(?:  (.*))?$")
+ENTRY = re.compile(r"( +)entry (\d+) of \d+$")
 
 
 def mix(kind):
@@ -59,19 +60,21 @@ def changed(items):
 
 
 def printed(program, items, kind):
-    """Returns of each item what `explain` prints: variables with numbers, and what they mean."""
+    """Returns of each item what `explain` prints: variables with numbers, what they mean, and their entries."""
     text = subprocess.run([program, "explain", "--kind", kind], input="".join(f"{it.hex()}\n" for it in items), stdout=subprocess.PIPE, text=True).stdout
-    found = []
+    found, entry = [], ()
     for line in text.split("\n"):
+        if row := ENTRY.match(line):
+            entry = (*entry[:len(row[1]) // 2 - 2], int(row[2]) - 1)
         head = re.match(r"  packet (\d+)(?:, (.*?))?, bits \d+ to \d+$", line)
         if line.startswith("line "):
             found.append([])
         elif head:
-            found[-1].append(("NID_PACKET", int(head[1]), head[2] or ""))
-        elif (row := LINE.match(line)) and row[3] != "NID_PACKET" and row[4][-3:] not in ("bit", "its"):
-            number = int(row[4], 16) if row[3] == "NID_RADIO" else int(row[4])
-            number += 65536 if row[3] == "D_REF" and number < 0 else 0
-            found[-1].append((row[3], number, EFFECT.sub("", EFFECT.sub("", row[5] or ""))))
+            found[-1].append(("NID_PACKET", int(head[1]), head[2] or "", ()))
+        elif (row := LINE.match(line)) and row[4] != "NID_PACKET" and row[5][-3:] not in ("bit", "its"):
+            number = int(row[5], 16) if row[4] == "NID_RADIO" else int(row[5])
+            number += 65536 if row[4] == "D_REF" and number < 0 else 0
+            found[-1].append((row[4], number, EFFECT.sub("", EFFECT.sub("", row[6] or "")), entry[:len(row[1]) // 2 - 1]))
     return found
 
 
@@ -85,7 +88,7 @@ def main():
         said = printed(program, all_of, kind)
         assert len(said) == len(all_of), (kind, len(said), len(all_of))
         for data, lines in zip(all_of, said):
-            mine = [(it.name, it.number, it.meaning) for it in etcs.variables(data, kind) if it.name not in ("FILL", "OTHER_DATA", "PADDING", "PAD")]
+            mine = [(it.name, it.number, it.meaning, it.entry) for it in etcs.variables(data, kind) if it.name not in ("FILL", "OTHER_DATA", "PADDING", "PAD")]
             seen.update(it[:2] for it in mine)
             count += len(mine)
             if mine != lines:

@@ -14,7 +14,7 @@ import unittest
 from unittest import mock
 
 import etcs
-from etcs import _explained, _library, _log, _values
+from etcs import _fields, _frame, _groups, _library, _log, _meanings, _parts, _values
 from etcs._blanks import PACKETS
 from etcs._fields import fields_of
 from etcs._variables import VARIABLES, WIDTHS
@@ -57,11 +57,7 @@ def all_items():
             if kind == "long":
                 yield etcs.encode(etcs.Telegram.build({}, [packet], kind)), kind
                 continue
-            for padding in range(8):
-                try:
-                    yield etcs.encode(etcs.Message(136, [("T_TRAIN", 0), ("NID_ENGINE", 0)], (), [packet], "0" * padding, kind=kind)), kind
-                except etcs.NotAnItem:
-                    pass
+            yield etcs.encode(etcs.Message.build(136, (), [packet])), kind
 
 
 def lists_of(item):
@@ -116,11 +112,11 @@ def answer_of(call):
 class Tests(unittest.TestCase):
     def test_doc(self):
         attempted = 0
-        for module in (etcs, _library, _values, _explained, _log):
+        for module in (etcs, _fields, _frame, _groups, _library, _log, _meanings, _parts, _values):
             found = doctest.testmod(module, extraglobs={"encode": etcs.encode})
             self.assertEqual(found.failed, 0)
             attempted += found.attempted
-        self.assertGreater(attempted, 23)
+        self.assertGreater(attempted, 28)
 
     def test_round_trip(self):
         for data, kind in ((SHORT, "short"), (RADIO, "radio"), (example("long_line_ahead.hex"), "long"), (example("radio_kept.hex"), "radio"),
@@ -244,10 +240,13 @@ class Tests(unittest.TestCase):
         for wrong in ([65, 49], (65, 49), [], 3, 0, True, None, 1.5, range(3), [b"A1"], memoryview(b"A1A1").cast("I"), object()):
             with self.assertRaisesRegex(TypeError, "^expected bytes, a bytearray or a memoryview of bytes, not "):
                 list(etcs.read_log([wrong], "short"))
-        with self.assertRaisesRegex(TypeError, "^expected bytes, a bytearray or a memoryview of bytes, not int$"):
-            list(etcs.read_log(b"A1", "short"))
-        with self.assertRaisesRegex(TypeError, "not a single text$"):
-            list(etcs.read_log("A1\nA2\n", "short"))
+        # the text of a log is none, though its parts are: the error comes before the first line is asked for
+        for text, name in (("A1\nA2\n", "str"), ("\rA1", "str"), (b"A1", "bytes"), (bytearray(b"A1\nA2"), "bytearray"), (memoryview(b"A1"), "memoryview")):
+            with self.assertRaisesRegex(TypeError, f"^expected a path, an open file or lines, not the text of a log: {name}.splitlines makes lines$"):
+                etcs.read_log(text, "short")
+        for wrong in (None, 3, 1.5, object()):
+            with self.assertRaisesRegex(TypeError, "^expected a path, an open file or lines, not "):
+                etcs.read_log(wrong, "short")
         whole, too_long = "524288 bytes, but a short telegram has 27", "line longer than 1,048,576 characters"
         for line, note in (("A1" * 2**19, whole), ("A1" * 2**19 + "\n", whole), ("A1" * 2**19 + "\r\n", whole), ("A1" * 2**19 + "1", too_long),
                            ("A1" * 2**19 + "1\r\n", too_long), ("\u00e9" * (2**19 - 1) + "A1", "1 byte, but a short telegram has 27"), ("\u00e9" * 2**19 + "1", too_long)):
@@ -268,7 +267,7 @@ class Tests(unittest.TestCase):
             with self.assertRaisesRegex(TypeError, "^expected a Telegram, not "):
                 found[0].add(wrong)
         for call in (etcs.Group(1, 1).add, lambda it: etcs.groups([it])):
-            with self.assertRaises(etcs.NoVariable):
+            with self.assertRaisesRegex(etcs.NotAnItem, r"^no item of the kind has this tree: \.header: "):
                 call(etcs.Telegram("short", [], [], ""))
 
     def test_build(self):
@@ -310,7 +309,6 @@ class Tests(unittest.TestCase):
         # those to the track are the second list, which begins with its packet 0
         begun, track = begun[begun.index({"fields": [["NID_VBCMK", 0]], "nid": 0}):], 33
         self.assertEqual((begun[track]["nid"], len(begun)), (0, track + 5))
-        headers = {"radio": [("T_TRAIN", 0), ("M_ACK", 0), ("NID_LRBG", 0)], "train": [("T_TRAIN", 0), ("NID_ENGINE", 0)]}
         for place, tree in enumerate(begun):
             kind = "radio" if place < track else "train"
             packet = etcs.blank(tree["nid"], kind)
@@ -318,14 +316,7 @@ class Tests(unittest.TestCase):
             if (kind, packet.nid) == ("radio", 0):
                 etcs.encode(etcs.Telegram.build({}, [packet]))
                 continue
-            nid = 24 if kind == "radio" else 136
-            paddings = []
-            for padding in range(8):
-                try:
-                    paddings.append(etcs.encode(etcs.Message(nid, headers[kind], packets=[packet], padding="0" * padding, kind=kind)))
-                except etcs.NotAnItem:
-                    pass
-            self.assertEqual(len(paddings), 1)
+            etcs.encode(etcs.Message.build(24 if kind == "radio" else 136, (), [packet], kind=kind))
         packet = etcs.blank(42)
         packet["NID_RADIO"] = 0xFFFFFFFFFFFFFFFF
         self.assertEqual(etcs.decode(etcs.encode(etcs.Telegram.build({}, [packet])), "short").packets, [packet])
@@ -334,6 +325,11 @@ class Tests(unittest.TestCase):
         for wrong in (-1, 256, "12", [12]):
             with self.assertRaises(etcs.BadArgument):
                 etcs.blank(wrong)
+        # packet 255 is the end of a telegram's packets, and to the track a number as others
+        for kind in ("long", "short", "radio"):
+            with self.assertRaisesRegex(etcs.BadArgument, "^packet 255 ends the packets of a telegram, and is none of them$"):
+                etcs.blank(255, kind)
+        self.assertEqual(etcs.blank(255, "train"), etcs.Packet(255, data=""))
 
     def test_fields(self):
         found = etcs.fields(SHORT, "short")
@@ -452,7 +448,9 @@ class Tests(unittest.TestCase):
                 etcs.meaning("D_LINK", wrong, 1)
             with self.assertRaises(etcs.BadArgument):
                 etcs.Packet(5, 1, [("D_LINK", wrong)]).meaning("D_LINK")
-        self.assertEqual([etcs.meaning("D_LINK", number, 1) for number in (5, -1, 2**64)], ["5 m", "", ""])
+        for wrong in (-1, 32768, 2**64):
+            with self.assertRaisesRegex(etcs.BadArgument, f"^the number of D_LINK is a whole number from 0 to 32767, not {wrong}$"):
+                etcs.meaning("D_LINK", wrong, 1)
         self.assertEqual([etcs.meaning("D_LINK", 5, scale) for scale in (1.0, 1.5, [1], -1, 3)], ["5 m", "", "", "", ""])
 
     def test_own_errors(self):

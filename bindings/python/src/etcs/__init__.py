@@ -28,45 +28,54 @@ An item prints as a tree, and a refusal has a reason, computed when it is read:
     message 6 has 10 or 13 to 1023 bytes, not 11
 
 `decode` and `encode` convert between bytes and values, `check` finds where an item ends, `items` and `Reader` read many,
-`show` returns the program's text, `fields` each variable with its bit. The library, which is proved, determines what is
-accepted, refused and written; this module passes it on.
+`show` returns the program's text, `fields` each variable with its bit; `read_log`, `groups`, `passages` and `frame` are for
+logs; `Telegram.build`, `Message.build` and `blank` make items. The library, which is proved, determines what is accepted,
+refused and written; this module passes it on.
+
+Telegrams, messages and packets are looked up by the names of variables: `item["NID_BG"]`, `in`, `get`, `all`, and iteration
+by names. For a telegram these are the variables of its header, for a message its own and then those of its header.
+`packet.entries()` has the entries of its lists.
 
 The module keeps nothing between two calls, so threads may call it freely (and run in parallel, since ctypes releases
 the interpreter's lock), and so may a signal handler or a finalizer that runs during a call; only one of them at a time
 may use a Reader. Pass bytes, a bytearray or a memoryview of bytes; anything else raises TypeError. An unknown kind, or
 a number that isn't whole or is out of range, raises BadArgument, which is an EtcsError like all errors of the module.
+Whatever is assigned to the members of an item, its use ends in a value or an EtcsError; after an error the item is as before.
+Items can be copied, and pickled with every protocol.
 """
 
 from __future__ import annotations
 
-import json
 import re
 from types import TracebackType
-from typing import Any, Dict, Generic, Iterable, Iterator, List, Optional, Tuple, Type, TypeVar, Union, overload
+from typing import Any, Generic, Iterable, Iterator, List, Optional, Tuple, Type, TypeVar, Union, overload
 
 from . import _library
-from ._explained import Variable, explained, meaning
-from ._fields import fields_of, item_of
-from ._library import BadArgument, Data, EtcsError, Field, NotAnItem, NoVariable, Refused, Truncated, bytes_of
-from ._log import BadLine, Group, LogLine, OtherKind, groups, read_log
+from ._entries import Entry
+from ._explained import Variable, explained
+from ._fields import encode, item_of
+from ._frame import frame
+from ._groups import Clash, Group, groups, passages
+from ._library import BadArgument, Data, EtcsError, Field, NoMember, NotAnItem, NoVariable, Refused, Truncated, bytes_of
+from ._log import BadLine, LogLine, OtherKind, read_log
+from ._meanings import meaning
 from ._page import program, written_page
-from ._values import (
-    KINDS, Item, Kind, Message, MessageKind, Packet, Telegram, TelegramKind, Variables, blank, from_dict,
-)
+from ._parts import Variables
+from ._values import KINDS, Item, Kind, Message, MessageKind, Packet, Telegram, TelegramKind, blank, from_dict
 from ._variables import VARIABLES
 
 __all__ = [
-    "BadArgument", "BadLine", "EtcsError", "Field", "Group", "Item", "KINDS", "Kind", "LogLine", "Message", "NoVariable",
-    "NotAnItem", "OtherKind", "Packet", "Reader", "Refused", "Telegram", "Truncated", "VARIABLES", "Variable", "Variables",
-    "blank", "check", "decode", "encode", "fields", "from_dict", "from_fields", "from_json", "groups", "items", "meaning",
-    "page", "read_log", "show", "variables",
+    "BadArgument", "BadLine", "Clash", "Entry", "EtcsError", "Field", "Group", "Item", "KINDS", "Kind", "LogLine", "Message",
+    "NoMember", "NoVariable", "NotAnItem", "OtherKind", "Packet", "Reader", "Refused", "Telegram", "Truncated", "VARIABLES",
+    "Variable", "Variables", "blank", "check", "decode", "encode", "fields", "frame", "from_dict", "from_fields", "from_json",
+    "groups", "items", "meaning", "page", "passages", "read_log", "show", "variables",
 ]
 __version__ = "0.2.0"
 
 # the module that reports of errors and pickles name
 for _public in (
-    BadArgument, BadLine, EtcsError, Field, Group, LogLine, Message, NoVariable, NotAnItem, OtherKind, Packet, Refused,
-    Telegram, Truncated, Variable, Variables, blank, from_dict, groups, meaning, read_log,
+    BadArgument, BadLine, Clash, Entry, EtcsError, Field, Group, LogLine, Message, NoMember, NoVariable, NotAnItem, OtherKind,
+    Packet, Refused, Telegram, Truncated, Variable, Variables, blank, encode, frame, from_dict, groups, meaning, passages, read_log,
 ):
     _public.__module__ = "etcs"
 
@@ -127,30 +136,6 @@ def decode(data: Data, kind: Kind) -> Item:
     return item
 
 
-#: members in the order of their names, as the library writes them and reads them fastest
-_to_json = json.JSONEncoder(separators=(",", ":"), sort_keys=True).encode
-
-
-def encode(item: Union[Item, Dict[str, Any]]) -> bytes:
-    """The bytes of an item or of its JSON tree. Raises NotAnItem if there is no such item, and Refused if a packet was stored
-    as bits, its number is typed now, and no item has these bits."""
-    if not isinstance(item, (Telegram, Message, dict)):
-        raise TypeError(f"expected a Telegram, a Message or a tree, not {type(item).__name__}")
-    if not isinstance(item, dict):
-        packed = fields_of(item)
-        data = None if packed is None else _library.if_item(packed, item.kind)
-        if data is not None:
-            return data
-    try:
-        tree = item if isinstance(item, dict) else item.to_dict()
-        line, kind = _to_json(tree).encode(), tree.get("kind")
-    except NotAnItem:
-        raise
-    except (AttributeError, RecursionError, TypeError, ValueError) as fault:
-        raise NotAnItem(f"not the tree of an item: {fault!r}") from None
-    return _library.from_json(line, kind if isinstance(kind, str) else "")
-
-
 @overload
 def items(data: Data, kind: TelegramKind) -> Iterator[Tuple[int, Telegram]]: ...
 @overload
@@ -184,9 +169,10 @@ def page(data: Union[Data, Item, Iterable[Item]], kind: Optional[Kind] = None) -
     if isinstance(data, (Telegram, Message)):
         data = [data]
     if not isinstance(data, (bytes, bytearray, memoryview)):
-        every = list(data)
-        for item in every:
+        every: List[Item] = []
+        for item in data:
             _library.expect(item, "a Telegram or a Message", Telegram, Message)
+            every.append(item)
         data, kind = b"".join(map(encode, every)), every[0].kind if every else kind
     _library.kind_number(kind or "")
     written = written_page(bytes_of(data), kind or "")
@@ -278,6 +264,7 @@ class Reader(Generic[_Read]):
         if self._fault:
             raise self._fault
         data = bytes_of(piece)
+        _library.kind_number(self.kind)
         if len(self._held) + len(data) < self._due():
             self._held += data
             return []

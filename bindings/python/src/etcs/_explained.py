@@ -1,12 +1,13 @@
-"""The meanings of numbers, in the words of the program's `explain`."""
+"""The variables of items, each with its packet, its entry and what its number means."""
 
 from __future__ import annotations
 
-from typing import List, NamedTuple, Optional
+from typing import Dict, List, NamedTuple, Optional, Tuple
 
 from . import _library
+from ._entries import places_of
 from ._library import Field
-from ._variables import VARIABLES
+from ._rows import ROWS
 
 
 class Variable(NamedTuple):
@@ -22,26 +23,8 @@ class Variable(NamedTuple):
     #: its packet: the place among the item's packets, from 0, and NID_PACKET; None before and after the packets
     packet: Optional[int]
     nid: Optional[int]
-
-
-#: the first variable of each name: M_VERSION is the name of two, whose numbers mean the same
-_NUMBERS = {name: place for place, name in reversed(list(enumerate(VARIABLES)))}
-
-
-def meaning(name: str, number: int, scale: Optional[int] = None) -> str:
-    """What a number of the variable means, in the words of the program's `explain`; "" if it has no meaning. `scale` is the
-    Q_SCALE of its packet or message, without which a distance has none.
-
-        >>> import etcs
-        >>> etcs.meaning("D_LINK", 1180, 2), etcs.meaning("V_STATIC", 28), etcs.meaning("V_STATIC", 127)
-        ('11800 m', '140 km/h', 'end of profile')
-    """
-    var = _NUMBERS.get(name)
-    number = _library.whole(number, "the number of a variable")
-    # which packet or message has a number depends on the kind
-    if var is None or name in ("NID_PACKET", "NID_MESSAGE") or not 0 <= number < 2 ** 64:
-        return ""
-    return _library.meaning("long", var, number, int(scale) if scale in (0, 1, 2) else None)
+    #: its entry in the packet: the index, from 0, in each repeated group around it, the outermost first; () outside of entries
+    entry: Tuple[int, ...] = ()
 
 
 def explained(sent: List[Field], kind: str) -> List[Variable]:
@@ -51,7 +34,8 @@ def explained(sent: List[Field], kind: str) -> List[Variable]:
     nid: Optional[int] = None
     scale: Optional[int] = None
     place = -1
-    for name, number, bit, width, var in sent:
+    entries = _entries(sent, kind)
+    for at, (name, number, bit, width, var) in enumerate(sent):
         if name == "NID_PACKET":
             place, scale = place + 1, None
             packet, nid = (None, None) if number == 255 and kind in ("short", "long") else (place, number)
@@ -59,5 +43,20 @@ def explained(sent: List[Field], kind: str) -> List[Variable]:
             packet = nid = None
         elif name == "Q_SCALE":
             scale = number
-        found.append(Variable(name, number, _library.meaning(kind, var, number, scale), bit, width, packet, nid))
+        meaning = _library.meaning(kind, var, number, scale)
+        found.append(Variable(name, number, meaning, bit, width, packet, nid, entries.get(at, ())))
+    return found
+
+
+def _entries(sent: List[Field], kind: str) -> Dict[int, Tuple[int, ...]]:
+    """The entries of the fields of packets with groups that are repeated, by their places."""
+    found: Dict[int, Tuple[int, ...]] = {}
+    if kind == "train":
+        return found
+    heads = [at for at, field in enumerate(sent) if field.name == "NID_PACKET"]
+    for head, end in zip(heads, [*heads[1:], len(sent)]):
+        begin = head + 3  # after Q_DIR and L_PACKET
+        if sent[head].number in ROWS and begin < end and sent[begin].name != "OTHER_DATA":
+            row = [field[:2] for field in sent[begin:end] if field.name != "PADDING"]
+            found.update(zip(range(begin, end), places_of(sent[head].number, row)))
     return found

@@ -8,10 +8,14 @@ from __future__ import annotations
 
 import json
 from array import array
-from typing import Any, Dict, FrozenSet, List, Optional, Tuple
+from typing import Any, Dict, FrozenSet, List, Optional, Tuple, Union
 
+from . import _library
 from ._blanks import HEADER, PACKETS
-from ._values import Item, Later, Message, Packet, Telegram
+from ._parts import Later, kept, unread_bytes
+from ._rows import HEADS
+from ._trees import line_of
+from ._values import Item, Message, Packet, Telegram
 from ._variables import VARIABLES, WIDTHS
 
 _NID_PACKET, _OTHER_DATA, _FILL, _PADDING, _PAD = map(VARIABLES.index, ("NID_PACKET", "OTHER_DATA", "FILL", "PADDING", "PAD"))
@@ -24,7 +28,7 @@ _TYPED: Dict[str, FrozenSet[int]] = {
 
 #: for each kind its way, and the variables before a message's own
 _WAYS = {"long": "train", "short": "train", "radio": "train", "train": "track"}
-_HEADS = {"radio": ("T_TRAIN", "M_ACK", "NID_LRBG"), "train": ("T_TRAIN", "NID_ENGINE")}
+_HEADS = {kind: tuple(name for name, _ in head) for kind, head in HEADS.items()}
 
 
 # ---- Items from fields.
@@ -32,32 +36,34 @@ _HEADS = {"radio": ("T_TRAIN", "M_ACK", "NID_LRBG"), "train": ("T_TRAIN", "NID_E
 
 def item_of(sent: bytes, kind: Any) -> Item:
     """The item of the kind with the fields that the library wrote."""
-    # a variable's number is below 256, so it is its first byte
-    names = sent[8::_SIZE]
-    if kind in _HEADS:
-        return _message_of(kind, names, sent)
-    packets, end = _packets_of("train", len(HEADER), len(names), names, sent)
-    item = Telegram.__new__(Telegram)
-    item.kind, item.packets = kind, packets
-    item.__dict__["_later"] = {"header": Later(sent, 0, len(HEADER)), "fill": Later(sent, end + 1, len(names) - 1)}
+    item: Item = Message.__new__(Message) if kind in _HEADS else Telegram.__new__(Telegram)
+    item.__dict__ = members_of(sent, kind)
     return item
 
 
-def _message_of(kind: Any, names: bytes, sent: bytes) -> Message:
+def members_of(sent: bytes, kind: Any) -> Dict[str, Any]:
+    """The members of the item of the kind with these fields; those in `_later` are made when they are read."""
+    # a variable's number is below 256, so it is its first byte
+    names = sent[8::_SIZE]
+    if kind in _HEADS:
+        return _of_message(kind, names, sent)
+    packets, end = _packets_of("train", len(HEADER), len(names), names, sent)
+    later = {"header": Later(sent, 0, len(HEADER)), "fill": Later(sent, end + 1, len(names) - 1)}
+    return {"kind": kind, "packets": packets, "_later": later}
+
+
+def _of_message(kind: Any, names: bytes, sent: bytes) -> Dict[str, Any]:
     nid = sent[0]
     if names[2] == _OTHER_DATA:
-        return Message(nid, data=Later(sent, 2, len(names)).digits(), kind=kind)
+        return dict(Message(nid, data=Later(sent, 2, len(names)).digits(), kind=kind).__dict__)
     own, end = 2 + len(_HEADS[kind]), len(names)
     if names[-1] == _PADDING:
         end -= 1
     first = names.find(_NID_PACKET, own)
     first = end if first < 0 else first
     packets, _ = _packets_of(_WAYS[kind], first, end, names, sent)
-    item = Message.__new__(Message)
-    item.nid, item.packets, item.data, item.kind = nid, packets, None, kind
-    item.padding = Later(sent, end, len(names)).digits()
-    item.__dict__["_later"] = {"header": Later(sent, 2, own), "fields": Later(sent, own, first)}
-    return item
+    later = {"header": Later(sent, 2, own), "fields": Later(sent, own, first)}
+    return {"kind": kind, "nid": nid, "packets": packets, "padding": Later(sent, end, len(names)).digits(), "data": None, "_later": later}
 
 
 def _packets_of(way: str, at: int, last: int, names: bytes, sent: bytes) -> Tuple[List[Packet], int]:
@@ -116,20 +122,11 @@ def _packed(numbers: List[Any], metas: List[int]) -> bytes:
     return packed.tobytes()
 
 
-def _kept(owner: Any, member: str) -> Optional[bytes]:
-    """The fields of a member as the library wrote them, if it wasn't changed."""
-    members = owner.__dict__
-    later: Optional[Later] = members.get("_later", {}).get(member)
-    if later is None or member in members and not later.is_unchanged(members[member]):
-        return None
-    return later.packed()
-
-
 def _row(owner: Any, member: str, wanted: Optional[Tuple[str, ...]] = None) -> bytes:
     """The fields of a member with variables: exactly these, or any that a row may have."""
-    kept = _kept(owner, member)
-    if kept is not None:
-        return kept
+    unchanged = kept(owner, member)
+    if unchanged is not None:
+        return unchanged
     pairs = owner.__dict__[member]
     if not pairs and wanted is None:
         return b""
@@ -143,9 +140,9 @@ def _row(owner: Any, member: str, wanted: Optional[Tuple[str, ...]] = None) -> b
 
 def _bits(var: int, owner: Any, member: str) -> bytes:
     """The fields of a member with bits."""
-    kept = _kept(owner, member)
-    if kept is not None:
-        return kept
+    unchanged = kept(owner, member)
+    if unchanged is not None:
+        return unchanged
     digits = owner.__dict__[member]
     if type(digits) is not str or digits.strip("01"):
         raise _Unusual
@@ -193,6 +190,7 @@ def _columns(pairs: Any) -> Any:
 def fields_of(item: Item) -> Optional[bytes]:
     """The fields of an item, packed; None if it isn't as `decode` makes items, so that it must go through its JSON. The library
     checks whether there is such an item; if so, it is the one with this JSON."""
+    item._read()
     try:
         return _telegram(item) if isinstance(item, Telegram) else _message(item)
     except (_Unusual, AttributeError, KeyError, OverflowError, TypeError, ValueError):
@@ -218,3 +216,25 @@ def _message(item: Message) -> bytes:
     if left:
         raise _Unusual
     return _packed([item.nid, length], _MESSAGE) + rest
+
+
+# ---- Bytes of items.
+
+
+def encode(item: Union[Item, Dict[str, Any]]) -> bytes:
+    """The bytes of an item or of its JSON tree. Raises NotAnItem if there is no such item, and Refused if a packet was stored
+    as bits, its number is typed now, and no item has these bits."""
+    if not isinstance(item, (Telegram, Message, dict)):
+        raise TypeError(f"expected a Telegram, a Message or a tree, not {type(item).__name__}")
+    if isinstance(item, dict):
+        return _of_tree(item)
+    data = unread_bytes(item)
+    if data is not None:
+        return data
+    packed = fields_of(item)
+    data = None if packed is None else _library.if_item(packed, item.kind)
+    return _of_tree(item.to_dict()) if data is None else data
+
+
+def _of_tree(tree: Dict[str, Any]) -> bytes:
+    return _library.from_json(line_of(tree), tree.get("kind", ""))

@@ -11,7 +11,7 @@ from itertools import accumulate, repeat
 from operator import attrgetter, index
 from typing import Any, List, Mapping, NamedTuple, NoReturn, Optional, Tuple, Union
 
-from ._variables import VARIABLES
+from ._variables import VARIABLES, WIDTHS
 
 #: the kinds by their numbers in the library
 KINDS = {"long": 1, "short": 2, "radio": 3, "train": 4}
@@ -19,10 +19,23 @@ KINDS = {"long": 1, "short": 2, "radio": 3, "train": 4}
 _OK, _MORE, _REFUSED, _NO_ROOM, _NO_MEMORY, _UNKNOWN_KIND, _BAD_JSON, _BAD_FIELDS = range(8)
 #: why a line of hexadecimal gives no bytes
 EMPTY_LINE, NO_DIGITS, ODD_DIGITS = 8, 9, 10
+#: why a telegram doesn't belong to the group of those before it, in the words of the program's `group`
+CLASHES = {
+    11: "the position is after the group's last",
+    12: "the position has no such neighbour to be a duplicate of",
+    13: "the telegram is of another group",
+    14: "the telegram counts other balises in the group",
+    15: "the message counters don't agree",
+    16: "another telegram is held at this position",
+}
 _SENT = attrgetter("number", "var", "width")
+
+#: how many bits a variable takes, by its name
+WIDTHS_BY_NAME = dict(zip(VARIABLES, WIDTHS))
 
 #: no item has more bytes
 _LONGEST = 1023
+_TELEGRAM_BYTES = {"long": 104, "short": 27}
 
 #: what is accepted as bytes
 Data = Union[bytes, bytearray, memoryview]
@@ -70,6 +83,8 @@ class Refused(EtcsError):
     #: from a Reader: the items before it, and which item this one is
     items: Optional[List[Any]] = None
     item: Optional[int] = None
+    _kind, _data = "", b""
+    _line: Optional[bytes] = None
 
     def __init__(self, bit: int, variable: str, kind: str = "", data: bytes = b"", line: Optional[bytes] = None) -> None:
         super().__init__(bit, variable)
@@ -120,6 +135,9 @@ class NotAnItem(EtcsError):
         .packets[0].fields[0]: Q_SRSTOP admits 0 and 1, not 2
     """
 
+    _text, _kind = "", ""
+    _line: Optional[bytes] = None
+
     def __init__(self, text: str, kind: str = "", line: Optional[bytes] = None) -> None:
         super().__init__(text)
         self._text, self._kind, self._line = text, kind, line
@@ -133,8 +151,20 @@ class NotAnItem(EtcsError):
         return self._text if self._line is None else f"{self._text}: {self.reason}"
 
 
+class NoMember(NotAnItem, AttributeError):
+    """A member of an item, such as its header, was deleted."""
+
+
 class _Answer(ctypes.Structure):
     _fields_ = [("taken", ctypes.c_size_t), ("written", ctypes.c_size_t), ("bit", ctypes.c_size_t), ("var", ctypes.c_char * 32)]
+
+
+class _Telegram(ctypes.Structure):
+    _fields_ = [("kind", ctypes.c_uint32), ("bytes", ctypes.c_uint8 * 104)]
+
+
+class _Group(ctypes.Structure):
+    _fields_ = [("missing", ctypes.c_uint8 * 8), ("is_complete", ctypes.c_uint32)]
 
 
 def _load() -> ctypes.CDLL:
@@ -178,15 +208,20 @@ _buffers = _Buffers()
 
 
 def bytes_of(data: Data) -> bytes:
-    """The bytes of an argument that is accepted as bytes. Nothing else is: bytes(3) would be three zeros."""
+    """The bytes of an argument that is accepted as bytes. Nothing else is: bytes(3) would be three zeros.
+
+    Their type is bytes itself, whose length nobody can redefine: the calls take it as the length of the buffer.
+    """
     if type(data) is bytes:
         return data
     try:
         if isinstance(data, (bytes, bytearray)) or isinstance(data, memoryview) and data.format in ("B", "b", "c"):
-            return bytes(memoryview(data))  # of a subclass, which may have a length of its own, the bytes themselves
+            return memoryview(data).tobytes()  # of a subclass, which may have a length of its own, the bytes themselves
         what = f"memoryview of format {data.format!r}" if isinstance(data, memoryview) else type(data).__name__
     except ValueError as fault:
         raise BadArgument(f"no bytes: {fault}") from None
+    except TypeError:  # its class only seems to be one of these
+        what = type(data).__name__
     hint = ": bytes.fromhex makes them of digits" if isinstance(data, str) else ""
     raise TypeError(f"expected bytes, a bytearray or a memoryview of bytes, not {what}{hint}")
 
@@ -262,15 +297,30 @@ def _call(call: Any, *before: Any, wide: int = 1, done: Tuple[int, ...] = (_OK,)
     return status, answer, written
 
 
-def check(data: bytes, kind: str) -> int:
+def _checked(data: bytes, kind: str) -> Tuple[int, _Answer]:
     answer = _Answer()
-    status = _lib.etcs_check(kind_number(kind), data, len(data), answer)
+    return _lib.etcs_check(kind_number(kind), data, len(data), answer), answer
+
+
+def check(data: Data, kind: str) -> int:
+    data = bytes_of(data)
+    status, answer = _checked(data, kind)
     if status:
         _raise(status, answer, kind, data)
     return answer.taken  # type: ignore[no-any-return]
 
 
-def show(data: bytes, kind: str, number: int) -> str:
+def is_item(data: Data, kind: str) -> bool:
+    """Whether the bytes are an item, and nothing follows it."""
+    data = bytes_of(data)
+    status, answer = _checked(data, kind)
+    if status == _NO_MEMORY:
+        _raise(status, answer, kind, data)
+    return status == _OK and answer.taken == len(data)
+
+
+def show(data: Data, kind: str, number: int) -> str:
+    data = bytes_of(data)
     number = whole(number, "the number of an item", 2 ** 64 - 1)
     status, answer, text = _call(_lib.etcs_show, kind_number(kind), number, data, len(data))
     if status:
@@ -278,15 +328,17 @@ def show(data: bytes, kind: str, number: int) -> str:
     return text.decode("ascii")
 
 
-def to_json(data: bytes, kind: str) -> Tuple[bytes, int]:
+def to_json(data: Data, kind: str) -> Tuple[bytes, int]:
+    data = bytes_of(data)
     status, answer, line = _call(_lib.etcs_to_json, kind_number(kind), data, len(data))
     if status:
         _raise(status, answer, kind, data)
     return line, answer.taken
 
 
-def from_json(line: bytes, kind: str) -> bytes:
-    if kind not in KINDS:
+def from_json(line: Data, kind: str) -> bytes:
+    line = bytes_of(line)
+    if not isinstance(kind, str) or kind not in KINDS:
         raise NotAnItem(f"the member kind is none of {', '.join(KINDS)}")
     status, answer, data = _call(_lib.etcs_from_json, KINDS[kind], line, len(line))
     if status:
@@ -294,12 +346,22 @@ def from_json(line: bytes, kind: str) -> bytes:
     return data
 
 
-def fields(data: bytes, kind: str) -> Tuple[bytes, int]:
+def fields(data: Data, kind: str) -> Tuple[bytes, int]:
     """The fields of the item at the front, 16 bytes each, and how many bytes the item takes."""
+    data = bytes_of(data)
     status, answer, sent = _call(_lib.etcs_fields, kind_number(kind), data, len(data), wide=16)
     if status:
         _raise(status, answer, kind, data)
     return sent, answer.taken
+
+
+def if_fields(data: Data, kind: str) -> bytes:
+    """The fields of the item that the bytes are; none if they are no item, or something follows it."""
+    data = bytes_of(data)
+    status, answer, sent = _call(_lib.etcs_fields, kind_number(kind), data, len(data), wide=16)
+    if status == _NO_MEMORY:
+        _raise(status, answer, kind, data)
+    return sent if status == _OK and answer.taken == len(data) else b""
 
 
 def columns(sent: bytes) -> Tuple[List[int], List[int], List[int]]:
@@ -317,11 +379,13 @@ def placed(sent: bytes) -> List[Field]:
     return list(map(tuple.__new__, repeat(Field), rows))  # type: ignore[arg-type]
 
 
-def _whole_bytes(packed: bytes) -> bytes:
-    """The bits of fields that have their widths, up to the last whole byte."""
+def _first_bytes(packed: bytes) -> bytes:
+    """The bits of fields that have their widths, up to the last whole byte of those that an item may have."""
     bits = number = 0
     for each, _, width in zip(*columns(packed)):
         number, bits = number << width | each, bits + width
+        if bits >= 8 * _LONGEST:  # the refused bit is among these
+            break
     return (number >> bits % 8).to_bytes(bits // 8, "big")
 
 
@@ -339,43 +403,66 @@ def pack(sent: List[Field]) -> bytes:
     return packed.tobytes()
 
 
-def from_fields(packed: bytes, kind: str) -> bytes:
+def from_fields(packed: Data, kind: str) -> bytes:
+    packed = bytes_of(packed)
     status, answer, data = _call(_lib.etcs_from_fields, kind_number(kind), packed, len(packed) // 16)
     if status == _MORE:
         raise Truncated(sum(columns(packed)[2]))
     if status:
-        _raise(status, answer, kind, _whole_bytes(packed) if status == _REFUSED else b"")
+        _raise(status, answer, kind, _first_bytes(packed) if status == _REFUSED else b"")
     return data
 
 
-def if_item(packed: bytes, kind: str) -> Optional[bytes]:
+def if_item(packed: Data, kind: str) -> Optional[bytes]:
     """The bytes of the item with these fields, or None for whatever reason."""
+    packed = bytes_of(packed)
     status, _, data = _call(_lib.etcs_from_fields, kind_number(kind), packed, len(packed) // 16)
     return None if status else data
 
 
-def explain(data: bytes, kind: str) -> str:
+def explain(data: Data, kind: str) -> str:
     """Why a bit of the bytes is refused; "" if none is."""
+    data = bytes_of(data)
     status, answer, text = _call(_lib.etcs_explain, kind_number(kind), data, len(data), done=(_REFUSED,))
     if status not in (_OK, _MORE, _REFUSED):
         _raise(status, answer, kind, data)
     return text.decode()
 
 
-def fields_before(data: bytes, kind: str) -> List[Field]:
+def fields_before(data: Data, kind: str) -> List[Field]:
     """The fields before a refused bit; none if no bit is refused."""
+    data = bytes_of(data)
     status, answer, sent = _call(_lib.etcs_fields_before, kind_number(kind), data, len(data), wide=16, done=(_REFUSED,))
     if status not in (_OK, _MORE, _REFUSED):
         _raise(status, answer, kind, data)
     return placed(sent)
 
 
-def explain_json(line: bytes, kind: str) -> str:
+def explain_json(line: Data, kind: str) -> str:
     """Why a line isn't the JSON of an item; "" if it is."""
+    line = bytes_of(line)
     status, answer, text = _call(_lib.etcs_explain_json, kind_number(kind), line, len(line), done=(_REFUSED, _BAD_JSON))
     if status not in (_OK, _REFUSED, _BAD_JSON):
         _raise(status, answer, kind, b"", line)
     return text.decode()
+
+
+def assemble(telegrams: List[Tuple[bytes, str]]) -> Tuple[int, List[int], bool]:
+    """What telegrams, each with its kind, make together: 0, the missing positions, and whether no telegram is missing; or the
+    number of the clash of one of them with those before it."""
+    held = (_Telegram * len(telegrams))()
+    for place, (data, kind) in enumerate(telegrams):
+        data = bytes_of(data)
+        if len(data) != _TELEGRAM_BYTES.get(kind):
+            raise BadArgument(f"{len(data)} bytes are no telegram of the kind {shown(kind)}")
+        held[place].kind = KINDS[kind]
+        ctypes.memmove(held[place].bytes, data, len(data))
+    group, answer = _Group(), _Answer()
+    status = _lib.etcs_assemble(held, len(held), ctypes.byref(group), answer)
+    if status not in (_OK, *CLASHES):
+        data, kind = telegrams[min(answer.taken, len(telegrams) - 1)]
+        _raise(status, answer, kind, data)
+    return status, [place for place, flag in enumerate(group.missing) if flag], bool(group.is_complete)
 
 
 @lru_cache(maxsize=8192)
@@ -387,16 +474,18 @@ def meaning(kind: str, var: int, number: int, scale: Optional[int]) -> str:
     return text.decode("ascii")
 
 
-def line_bytes(line: bytes) -> Tuple[int, bytes, int]:
+def line_bytes(line: Data) -> Tuple[int, bytes, int]:
     """0 and the bytes of the digits of a line; or why there are none, and the number of digits if it is odd."""
+    line = bytes_of(line)
     status, answer, data = _call(_lib.etcs_line_bytes, line, len(line))
     if status not in (_OK, EMPTY_LINE, NO_DIGITS, ODD_DIGITS):
         _raise(status, answer, "", b"")
     return status, data, answer.taken
 
 
-def line_front(line: bytes) -> bytes:
+def line_front(line: Data) -> bytes:
     """The text before the digits of a line."""
+    line = bytes_of(line)
     start = 3 if line.startswith(b"\xef\xbb\xbf") else 0
     count: int = _lib.etcs_line_front(line, len(line))
     return line[start:start + count]

@@ -34,15 +34,16 @@ def written_page(data: bytes, kind: str) -> Optional[str]:
 
 
 def frame_of(item: Any) -> Optional[str]:
-    """The page of an item in a frame of its own, so that its style and its script affect no other; None if there is no such
-    item or no program."""
+    """The page of an item in a frame of its own, so that its style and its script affect no other: it is sandboxed, so the
+    script can't read the notebook. None if there is no such item or no program."""
     import html
 
-    from . import EtcsError, encode
+    from ._fields import encode
+    from ._library import EtcsError
     try:
         written = written_page(encode(item), item.kind)
     except EtcsError:
         return None
     if written is None:
         return None
-    return f'<iframe srcdoc="{html.escape(written)}" style="width:100%;height:40em;border:0" title="etcs explain"></iframe>'
+    return f'<iframe sandbox="allow-scripts" srcdoc="{html.escape(written)}" style="width:100%;height:40em;border:0" title="etcs explain"></iframe>'

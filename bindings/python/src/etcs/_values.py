@@ -1,204 +1,74 @@
-"""Items and their parts: variables, packets, telegrams and messages; and their JSON trees."""
+"""Items and packets: telegrams and messages, and how they are built."""
 
 from __future__ import annotations
 
 import json
-import re
 from dataclasses import dataclass
-from operator import is_
-from typing import (
-    TYPE_CHECKING, Any, Dict, Iterable, List, Literal, Mapping, Optional, SupportsIndex, Tuple, Union, overload,
-)
+from typing import Any, Dict, Iterable, List, Literal, Optional, Sequence, Tuple, Union
 
 from . import _library
 from ._blanks import HEADER, PACKETS, ROOM
-from ._explained import meaning
-from ._library import NotAnItem, NoVariable, columns, shown
+from ._entries import Entry, entry_of
+from ._library import BadArgument, NotAnItem, shown
 from ._page import frame_of
-from ._variables import VARIABLES, WIDTHS
+from ._parts import Made, Named, Pairs, Variables, as_variables, widths_of
+from ._rows import FRAMES, HEADS, OWN
+from ._trees import check_members, fault_of, pairs_of, variables_of
 
 TelegramKind = Literal["long", "short"]
 MessageKind = Literal["radio", "train"]
 Kind = Literal["long", "short", "radio", "train"]
 
-#: variables as they are accepted: pairs of name and number in the order of sending, or a mapping
-Pairs = Union[Mapping[str, int], Iterable[Tuple[str, int]]]
-
 #: the kinds of items: balise telegrams of 830 and of 210 user bits, radio messages to the train and to the track
 KINDS: Tuple[str, ...] = tuple(_library.KINDS)
 
-
-class Variables(List[Tuple[str, int]]):
-    """Variables with their numbers in the order of sending: a list of pairs with look-up by name."""
-
-    __slots__ = ()
-
-    @overload
-    def __getitem__(self, key: str) -> int: ...
-    @overload
-    def __getitem__(self, key: SupportsIndex) -> Tuple[str, int]: ...
-    @overload
-    def __getitem__(self, key: slice) -> List[Tuple[str, int]]: ...
-
-    def __getitem__(self, key: Union[str, SupportsIndex, slice]) -> Any:
-        """By a name, the number of the first variable of that name; by a place, the pair."""
-        if isinstance(key, str):
-            for name, number in self:
-                if name == key:
-                    return number
-            raise NoVariable(key)
-        return super().__getitem__(key)
-
-    @overload
-    def __setitem__(self, key: str, number: int) -> None: ...
-    @overload
-    def __setitem__(self, key: SupportsIndex, number: Tuple[str, int]) -> None: ...
-    @overload
-    def __setitem__(self, key: slice, number: Iterable[Tuple[str, int]]) -> None: ...
-
-    def __setitem__(self, key: Any, number: Any) -> None:
-        """By a name that occurs once, or by a place."""
-        if isinstance(key, str):
-            places = [place for place, (name, _) in enumerate(self) if name == key]
-            if not places:
-                raise NoVariable(key)
-            if len(places) > 1:
-                raise NoVariable(f"{key} occurs {len(places)} times, at the places {places}")
-            key, number = places[0], (key, number)
-        super().__setitem__(key, number)
-
-    def __contains__(self, key: object) -> bool:
-        if isinstance(key, str):
-            return any(name == key for name, _ in self)
-        return super().__contains__(key)
-
-    def all(self, name: str) -> List[int]:
-        """The numbers of all variables of the name."""
-        return [number for each, number in self if each == name]
-
-    def get(self, name: str, default: Optional[int] = None) -> Optional[int]:
-        """The number of the first variable of the name, or the default."""
-        for each, number in self:
-            if each == name:
-                return number
-        return default
+#: the bits before a message's header, and the most bytes that it has
+_LENGTH_BITS, _MOST_BYTES = 18, 1023
 
 
-def _as_variables(pairs: Pairs) -> Variables:
-    if isinstance(pairs, Variables):
-        return pairs
-    every = list(pairs.items() if isinstance(pairs, Mapping) else pairs)
-    try:
-        return Variables([(name, number) for name, number in every])
-    except ValueError as fault:
-        raise NotAnItem(f"a variable is a pair of its name and its number: {fault}") from None
-
-
-class Later:
-    """Fields of an item as the library wrote them, those from a place up to another; and what was made of them."""
-
-    __slots__ = "sent", "begin", "end", "made"
-
-    def __init__(self, sent: bytes, begin: int, end: int) -> None:
-        self.sent, self.begin, self.end = sent, begin, end
-        self.made: Any = None
-
-    def packed(self) -> bytes:
-        return self.sent[16 * self.begin:16 * self.end]
-
-    def variables(self) -> Variables:
-        numbers, sent_vars, _ = columns(self.packed())
-        self.made = tuple(zip(map(VARIABLES.__getitem__, sent_vars), numbers))
-        return Variables(self.made)
-
-    def digits(self) -> str:
-        """The bits of fields that are kept as they are."""
-        if self.begin == self.end:
-            return ""
-        numbers, _, widths = columns(self.packed())
-        self.made = "".join([f"{number:0{width}b}" for number, width in zip(numbers, widths)])
-        return self.made
-
-    def is_unchanged(self, value: Any) -> bool:
-        """Whether a member has the very objects that were made: objects that are equal to them may not be admitted."""
-        if type(value) is Variables and type(self.made) is tuple:
-            return len(value) == len(self.made) and all(map(is_, value, self.made))
-        return value is not None and value is self.made
-
-
-class _Made:
-    """A class whose members may be made when they are read."""
-
-    if not TYPE_CHECKING:
-
-        def __getattr__(self, name):
-            later = self.__dict__.get("_later", {}).get(name)
-            if later is None:
-                raise AttributeError(f"{type(self).__name__} has no attribute {name!r}")
-            # of two threads that read it at once both get what the first one made
-            return self.__dict__.setdefault(name, later.digits() if name == "fill" else later.variables())
-
-
-class _Named(_Made):
-    """A class that finds names in its variables."""
-
-    fields: Variables
-
-    def __getitem__(self, name: str) -> int:
-        return self.fields[name]
-
-    def __setitem__(self, name: str, number: int) -> None:
-        self.fields[name] = number
-
-    def __contains__(self, name: str) -> bool:
-        return any(name == each for each, _ in self.fields)
-
-    def all(self, name: str) -> List[int]:
-        return self.fields.all(name)
-
-    def meaning(self, name: str) -> str:
-        """What the number of the first variable of the name means, as `etcs.meaning` returns it with the Q_SCALE before it."""
-        return _meaning_in(self.fields, name)
-
-
-def _meaning_in(fields: Variables, name: str) -> str:
-    scale: Optional[int] = None
-    for each, number in fields:
-        if each == "Q_SCALE":
-            scale = number
-        if each == name:
-            return meaning(name, number, scale)
-    raise NoVariable(name)
+# ---- How items print.
 
 
 def _indented(tree: str) -> str:
     return "".join(f"\n  {line}" for line in tree.split("\n"))
 
 
-def _digits(bits: str) -> str:
+def _digits(bits: Any) -> str:
     """Bits; if there are many, only the first ones, or how many there are if all are alike."""
-    if not isinstance(bits, str) or len(bits) <= 32:
+    if not isinstance(bits, str):
+        return shown(bits)
+    if len(bits) <= 32:
         return bits
     if bits == len(bits) * bits[0]:
         return f"{len(bits)} times {bits[0]}"
     return f"{bits[:32]}.., {len(bits)} bits"
 
 
-def _tree(head: str, *parts: Union[str, Variables, List[Packet]]) -> str:
-    """The head, and below it variables, packets and bits, each further in."""
-    lines = [head]
-    for part in parts:
-        if isinstance(part, str):
-            lines.append(_indented(part))
-        elif isinstance(part, Variables):
-            lines += [f"\n  {name} = {number}" for name, number in part]
+def _part(value: Any) -> str:
+    """A list of variables or of packets, each further in; of what is none of these, its text."""
+    if not isinstance(value, list):
+        return f"\n  {shown(value)}"
+    lines = []
+    for each in value:
+        if isinstance(each, tuple) and len(each) == 2:
+            name = each[0] if isinstance(each[0], str) else shown(each[0])
+            lines.append(f"\n  {name} = {shown(each[1])}")
         else:
-            lines += [_indented(repr(packet)) for packet in part]
+            lines.append(_indented(repr(each)) if isinstance(each, Packet) else f"\n  {shown(each)}")
     return "".join(lines)
 
 
+def _tree(head: str, owner: Made, *members: str, bits: str = "") -> str:
+    """The head, and below it members and bits, each further in; a member that was deleted is left out."""
+    parts = [_part(getattr(owner, member)) for member in members if hasattr(owner, member)]
+    return "".join([head, *parts, f"\n  {bits}" if bits else ""])
+
+
+# ---- Packets.
+
+
 @dataclass(repr=False, init=False)
-class Packet(_Named):
+class Packet(Named):
     """A packet: if it is typed, with its variables after L_PACKET; otherwise with its bits as digits in `data`."""
 
     nid: int
@@ -207,16 +77,39 @@ class Packet(_Named):
     data: Optional[str]
 
     def __init__(self, nid: int, dir: Optional[int] = None, fields: Pairs = (), data: Optional[str] = None) -> None:
-        self.nid, self.dir, self.fields, self.data = nid, dir, _as_variables(fields), data
+        self.nid, self.dir, self.fields, self.data = nid, dir, as_variables(fields), data
 
-    def _bits(self) -> int:
-        """How many bits it takes in a telegram."""
-        frame = 23 if self.dir is not None else 8
-        return frame + (sum(_widths_of(self.fields)) if self.data is None else len(self.data))
+    def _bits(self, frame: int) -> int:
+        """How many bits it takes behind a frame."""
+        if self.data is None:
+            return frame + sum(widths_of(self._list("fields")))
+        if not isinstance(self.data, str):
+            raise NotAnItem(f"the bits of packet {shown(self.nid)} are digits, not {shown(self.data)}")
+        return frame + len(self.data)
 
     def __repr__(self) -> str:
-        head = f"packet {self.nid}" if self.dir is None else f"packet {self.nid}, direction {self.dir}"
-        return _tree(head, self.fields if self.data is None else f"bits {_digits(self.data)}")
+        head = f"packet {_attribute(self, 'nid')}"
+        if _attribute(self, "dir") not in ("None", ""):
+            head += f", direction {_attribute(self, 'dir')}"
+        data = getattr(self, "data", None)
+        return _tree(head, self, "fields") if data is None else _tree(head, self, bits=f"bits {_digits(data)}")
+
+    def entries(self) -> Entry:
+        """Its variables as a tree: those outside of any entry, and in `groups` a list of entries for each N_ITER, or L_TEXT, in
+        the order of sending; an entry may have groups of its own. Raises NotAnItem if the packet is kept as bits, or its
+        variables aren't those of its row. The tree is a copy: to change a number, change `fields`.
+
+            >>> linking = Packet(5, 1, [
+            ...     ("Q_SCALE", 1), ("D_LINK", 100), ("Q_NEWCOUNTRY", 0), ("NID_BG", 1), ("Q_LINKORIENTATION", 1), ("Q_LINKREACTION", 0),
+            ...     ("Q_LOCACC", 5), ("N_ITER", 1), ("D_LINK", 200), ("Q_NEWCOUNTRY", 1), ("NID_C", 99), ("NID_BG", 2), ("Q_LINKORIENTATION", 1),
+            ...     ("Q_LINKREACTION", 0), ("Q_LOCACC", 5)])
+            >>> first = linking.entries()
+            >>> [(link["NID_BG"], link.get("NID_C"), link.meaning("D_LINK")) for link in [first, *first.groups[0]]]
+            [(1, None, '100 m'), (2, 99, '200 m')]
+        """
+        if self.data is not None:
+            raise NotAnItem(f"packet {shown(self.nid)} is kept as bits")
+        return entry_of(self.nid, self.dir is not None, self._list("fields"))
 
     def to_dict(self) -> Dict[str, Any]:
         tree: Dict[str, Any] = {"nid": self.nid}
@@ -225,20 +118,52 @@ class Packet(_Named):
         if self.data is not None:
             tree["data"] = self.data
         else:
-            tree["fields"] = _pairs(self.fields)
+            tree["fields"] = pairs_of(self.fields)
         return tree
 
 
-def _widths_of(fields: Variables) -> List[int]:
-    unknown = [name for name, _ in fields if name not in VARIABLES]
-    if unknown:
-        raise NotAnItem(f"there is no variable {shown(unknown[0])}")
-    return [WIDTHS[VARIABLES.index(name)] for name, _ in fields]
+def _attribute(owner: Made, member: str) -> str:
+    """The text of a number; "" if it was deleted."""
+    return shown(getattr(owner, member)) if hasattr(owner, member) else ""
+
+
+def _checked_packets(packets: Any) -> List[Packet]:
+    """A list of packets. Raises NotAnItem if it is none."""
+    if not isinstance(packets, (list, tuple)):
+        raise NotAnItem(f".packets: expected a list of packets, not {shown(packets)}")
+    for place, packet in enumerate(packets):
+        if not isinstance(packet, Packet):
+            raise NotAnItem(f".packets[{place}]: expected a Packet, not {shown(packet)}")
+    return list(packets)
+
+
+def _given_packets(packets: Iterable[Packet]) -> List[Packet]:
+    found = list(packets)
+    for packet in found:
+        _library.expect(packet, "a Packet", Packet)
+    return found
+
+
+def _named(given: Pairs, known: Sequence[Tuple[str, int]], what: str) -> List[Tuple[str, int]]:
+    """The known variables with the numbers that are given, or else with those that they have here."""
+    pairs = as_variables(given)
+    widths_of(pairs)  # which raises NotAnItem if there is no such variable at all
+    numbers = dict(pairs)
+    for name in numbers:
+        if all(name != each for each, _ in known):
+            raise NotAnItem(f"{what} has no variable {shown(name)}")
+    return [(name, numbers.get(name, least)) for name, least in known]
+
+
+# ---- Telegrams.
 
 
 @dataclass(repr=False, init=False)
-class Telegram(_Made):
+class Telegram(Named):
     """A balise telegram. A name in brackets is a variable of its header."""
+
+    _lists = ("header",)
+    _kinds = ("long", "short")
 
     kind: TelegramKind
     header: Variables
@@ -246,7 +171,7 @@ class Telegram(_Made):
     fill: str
 
     def __init__(self, kind: TelegramKind, header: Pairs, packets: Iterable[Packet], fill: str) -> None:
-        self.kind, self.header, self.packets, self.fill = kind, _as_variables(header), list(packets), fill
+        self.kind, self.header, self.packets, self.fill = kind, as_variables(header), list(packets), fill
 
     @classmethod
     def build(cls, header: Pairs, packets: Iterable[Packet], kind: Optional[TelegramKind] = None) -> Telegram:
@@ -259,32 +184,18 @@ class Telegram(_Made):
             >>> telegram.kind, telegram["Q_UPDOWN"], len(telegram.fill), encode(telegram).hex()
             ('short', 1, 128, 'a1007f8c412c62500c7fffffffffffffffffffffffffffffffffc0')
         """
-        packets, named = list(packets), dict(_as_variables(header))
-        unknown = [name for name in named if name not in dict(HEADER)]
-        if unknown:
-            raise NotAnItem(f"the header of a telegram has no variable {shown(unknown[0])}")
-        for packet in packets:
-            _library.expect(packet, "a Packet", Packet)
-        bits = sum(packet._bits() for packet in packets)
+        pairs, packets = _named(header, HEADER, "the header of a telegram"), _given_packets(packets)
+        bits = sum(packet._bits(8 if packet.dir is None else 23) for packet in packets)
         if kind is None:
             kind = "short" if bits <= ROOM["short"] else "long"
         room = _library.kind_number(kind, ROOM)
         if bits > room:
             raise NotAnItem(f"the packets have {bits} bits, and a {kind} telegram has room for {room}")
-        return cls(kind, [(name, named.get(name, least)) for name, least in HEADER], packets, "1" * (room - bits))
+        return cls(kind, pairs, packets, "1" * (room - bits))
 
     def __repr__(self) -> str:
-        return _tree(f"{self.kind} telegram", self.header, self.packets, f"FILL {_digits(self.fill)}")
-
-    def __getitem__(self, name: str) -> int:
-        return self.header[name]
-
-    def __setitem__(self, name: str, number: int) -> None:
-        self.header[name] = number
-
-    def meaning(self, name: str) -> str:
-        """What the number of a variable of the header means."""
-        return _meaning_in(self.header, name)
+        head = f"{getattr(self, 'kind', '')} telegram".strip()
+        return _tree(head, self, "header", "packets", bits=f"FILL {_digits(self.fill)}" if hasattr(self, "fill") else "")
 
     def _repr_html_(self) -> Optional[str]:
         """For notebooks: the page of `etcs.page`, if the program is found."""
@@ -292,14 +203,20 @@ class Telegram(_Made):
 
     def to_dict(self) -> Dict[str, Any]:
         """The tree of its JSON."""
-        packets = [packet.to_dict() for packet in self.packets]
-        return {"kind": self.kind, "header": _pairs(self.header), "packets": packets, "fill": self.fill}
+        packets = [packet.to_dict() for packet in _checked_packets(self.packets)]
+        return {"kind": self.kind, "header": pairs_of(self.header), "packets": packets, "fill": self.fill}
+
+
+# ---- Messages.
 
 
 @dataclass(repr=False, init=False)
-class Message(_Named):
+class Message(Named):
     """A radio message, to the train (kind `radio`) or to the track (`train`): a typed one, or one that is kept as bits in
-    `data`. A name in brackets is a variable of its own."""
+    `data`. A name in brackets is a variable of its own, or else of its header."""
+
+    _lists = ("fields", "header")
+    _kinds = ("radio", "train")
 
     nid: int
     header: Variables
@@ -311,14 +228,40 @@ class Message(_Named):
 
     def __init__(self, nid: int, header: Pairs = (), fields: Pairs = (), packets: Iterable[Packet] = (), padding: str = "",
                  data: Optional[str] = None, kind: MessageKind = "radio") -> None:
-        self.nid, self.header, self.fields, self.packets = nid, _as_variables(header), _as_variables(fields), list(packets)
+        self.nid, self.header, self.fields, self.packets = nid, as_variables(header), as_variables(fields), list(packets)
         self.padding, self.data, self.kind = padding, data, kind
 
+    @classmethod
+    def build(cls, nid: int, header: Pairs = (), packets: Iterable[Packet] = (), fields: Pairs = (),
+              kind: Optional[MessageKind] = None) -> Message:
+        """The typed message of this number with these packets, and with the bits of PADDING that fill its last byte, all 0.
+        Variables of the header, and in `fields` those of its own, may be in any order; those that aren't given have their
+        least number, and Q_SCALE 1. Without a kind a message from 128 on is one to the track. Raises NotAnItem if the message
+        isn't typed, if it would be too long, or if there is no such variable.
+
+            >>> message = Message.build(24, {"NID_LRBG": 16385}, [Packet(137, 1, [("Q_SRSTOP", 1)])])
+            >>> message.kind, message.padding, encode(message).hex()
+            ('radio', '00000', '18034000000000080031280620')
+        """
+        nid = _library.whole(nid, "NID_MESSAGE", 255)
+        if kind is None:
+            kind = "radio" if nid < 128 else "train"
+        frame = _library.kind_number(kind, FRAMES)
+        if nid not in OWN[kind]:
+            raise NotAnItem(f"message {nid} of the kind {kind} isn't typed: its bits are `data`")
+        packets = _given_packets(packets)
+        pairs, own = _named(header, HEADS[kind], f"the header of a {kind} message"), _named(fields, OWN[kind][nid], f"message {nid}")
+        bits = _LENGTH_BITS + sum(widths_of([*pairs, *own])) + sum(packet._bits(frame) for packet in packets)
+        if bits > 8 * _MOST_BYTES:
+            raise NotAnItem(f"the message has {bits} bits, and room for {8 * _MOST_BYTES}")
+        return cls(nid, pairs, own, packets, "0" * (-bits % 8), kind=kind)
+
     def __repr__(self) -> str:
-        head = f"{self.kind} message {self.nid}"
-        if self.data is not None:
-            return _tree(head, f"bits {_digits(self.data)}")
-        return _tree(head, self.header, self.fields, self.packets, *([f"PADDING {_digits(self.padding)}"] if self.padding else []))
+        head = f"{getattr(self, 'kind', '')} message {_attribute(self, 'nid')}".strip()
+        if getattr(self, "data", None) is not None:
+            return _tree(head, self, bits=f"bits {_digits(self.data)}")
+        padding = getattr(self, "padding", "")
+        return _tree(head, self, "header", "fields", "packets", bits=f"PADDING {_digits(padding)}" if padding else "")
 
     def _repr_html_(self) -> Optional[str]:
         """For notebooks: the page of `etcs.page`, if the program is found."""
@@ -329,17 +272,25 @@ class Message(_Named):
         if self.data is not None:
             return {"kind": self.kind, "nid": self.nid, "data": self.data}
         return {
-            "kind": self.kind, "nid": self.nid, "header": _pairs(self.header), "fields": _pairs(self.fields),
-            "packets": [packet.to_dict() for packet in self.packets], "padding": self.padding,
+            "kind": self.kind, "nid": self.nid, "header": pairs_of(self.header), "fields": pairs_of(self.fields),
+            "packets": [packet.to_dict() for packet in _checked_packets(self.packets)], "padding": self.padding,
         }
 
 
 Item = Union[Telegram, Message]
 
 
+def unread(data: bytes, kind: Any, sent: bytes) -> Item:
+    """The item that the bytes are, with these fields; its members are made when one of them is read."""
+    item: Item = Telegram.__new__(Telegram) if kind in ROOM else Message.__new__(Message)
+    item.__dict__ = {"kind": kind, "_unread": (data, kind, sent)}
+    return item
+
+
 def blank(nid: int, kind: Kind = "radio") -> Packet:
     """A packet of this number to fill in, for items of the kind: with the least numbers, Q_SCALE 1 and no entries. If you change
-    a count or a flag, its group must follow. A packet that isn't typed has no bits after its length.
+    a count or a flag, its group must follow. A packet that isn't typed has no bits after its length. Raises BadArgument for
+    255, which ends the packets of a telegram.
 
         >>> packet = blank(16)
         >>> packet["L_SECTION"] = 500
@@ -350,68 +301,54 @@ def blank(nid: int, kind: Kind = "radio") -> Packet:
     """
     _library.kind_number(kind)
     nid = _library.whole(nid, "NID_PACKET", 255)
+    if nid == 255 and kind != "train":
+        raise BadArgument("packet 255 ends the packets of a telegram, and is none of them")
     known = PACKETS["track" if kind == "train" else "train"]
-    if nid in known:
-        return _packet(json.loads(known[nid]))
-    return Packet(nid, None if kind == "train" else 1, data="")
+    if nid not in known:
+        return Packet(nid, None if kind == "train" else 1, data="")
+    return _packet(json.loads(known[nid]))
 
 
-def _pairs(variables: Iterable[Tuple[str, int]]) -> List[List[Any]]:
-    # JSON has the 64 bits of NID_RADIO as digits, since not every reader of JSON has such large whole numbers
-    return [[name, _radio_digits(number) if name == "NID_RADIO" else number] for name, number in variables]
-
-
-def _radio_digits(number: int) -> str:
-    if type(number) is not int:
-        raise NotAnItem(f"NID_RADIO is a whole number, not {shown(number)}")
-    return f"{number:016x}"
-
-
-def _radio_number(digits: str) -> int:
-    if not re.fullmatch("[0-9A-Fa-f]{16}", digits):
-        raise NotAnItem(f"NID_RADIO is 16 hexadecimal digits, not {digits!r}")
-    return int(digits, 16)
-
-
-def _variables(pairs: Iterable[Any]) -> Variables:
-    return Variables([(name, _radio_number(number) if name == "NID_RADIO" else number) for name, number in pairs])
+# ---- Items of trees.
 
 
 def _packet(tree: Dict[str, Any]) -> Packet:
-    return Packet(tree["nid"], tree.get("dir"), _variables(tree.get("fields", ())), tree.get("data"))
+    if "data" in tree:
+        return Packet(tree["nid"], tree.get("dir"), data=tree["data"])
+    return Packet(tree["nid"], tree.get("dir"), variables_of(tree["fields"]))
 
 
 def _item(tree: Dict[str, Any]) -> Item:
     """The item of a tree that has all members."""
     kind = tree["kind"]
     if kind in ("long", "short"):
-        return Telegram(kind, _variables(tree["header"]), [_packet(each) for each in tree["packets"]], tree["fill"])
+        return Telegram(kind, variables_of(tree["header"]), [_packet(each) for each in tree["packets"]], tree["fill"])
     if "data" in tree:
         return Message(tree["nid"], data=tree["data"], kind=kind)
     packets = [_packet(each) for each in tree["packets"]]
-    return Message(tree["nid"], _variables(tree["header"]), _variables(tree["fields"]), packets, tree["padding"], kind=kind)
-
-
-def _check_members(tree: Dict[str, Any], *members: str) -> None:
-    further = [shown(each) for each in tree if each not in members]
-    if further:
-        raise NotAnItem(f"unknown member: {', '.join(further)}")
+    return Message(tree["nid"], variables_of(tree["header"]), variables_of(tree["fields"]), packets, tree["padding"], kind=kind)
 
 
 def from_dict(tree: Dict[str, Any]) -> Item:
-    """The item of a JSON tree, as to_dict returns it. `encode` checks whether there is such an item."""
+    """The item of a JSON tree, as to_dict returns it. Raises NotAnItem if it doesn't have the members of one; whether there is
+    an item with these values is checked by `encode`.
+
+        >>> try:
+        ...     from_dict({"kind": "short"})
+        ... except NotAnItem as fault:
+        ...     print(fault.reason)
+        .header: this member is missing
+    """
     try:
         item = _item(tree)
         if isinstance(item, Telegram):
-            _check_members(tree, "kind", "header", "packets", "fill")
+            check_members(tree, "kind", "header", "packets", "fill")
         elif item.data is not None:
-            _check_members(tree, "kind", "nid", "data")
+            check_members(tree, "kind", "nid", "data")
         else:
-            _check_members(tree, "kind", "nid", "header", "fields", "packets", "padding")
+            check_members(tree, "kind", "nid", "header", "fields", "packets", "padding")
         for packet in tree.get("packets", ()):
-            _check_members(packet, "nid", "dir", "data" if "data" in packet else "fields")
+            check_members(packet, "nid", "dir", "data" if "data" in packet else "fields")
         return item
     except (KeyError, TypeError, ValueError, AttributeError) as fault:
-        if isinstance(fault, NotAnItem):
-            raise
-        raise NotAnItem(f"not the tree of an item: {fault!r}") from None
+        raise fault_of(tree, fault) from None

@@ -276,14 +276,17 @@ def check_endless_line(program):
 
 
 def seconds(program, words, given):
-    """Returns the status of a command line, and its seconds of processor time."""
+    """Returns the status of a command line, and the least of its seconds of processor time in five runs."""
+    found = []
     with tempfile.TemporaryFile() as source:
         source.write(given)
-        source.seek(0)
-        run = subprocess.Popen([program.path, *words.split()], stdin=source, stdout=subprocess.DEVNULL)
-        _, status, usage = os.wait4(run.pid, 0)
-        run.returncode = os.waitstatus_to_exitcode(status)
-    return run.returncode, usage.ru_utime + usage.ru_stime
+        for _ in range(5):
+            source.seek(0)
+            run = subprocess.Popen([program.path, *words.split()], stdin=source, stdout=subprocess.DEVNULL)
+            _, status, usage = os.wait4(run.pid, 0)
+            run.returncode = os.waitstatus_to_exitcode(status)
+            found.append((run.returncode, usage.ru_utime + usage.ru_stime))
+    return max(status for status, _ in found), min(time for _, time in found)
 
 
 def check_written(program):

@@ -92,12 +92,13 @@ module _ {R : Type 0} (left : R → Reading → Type 0) (regular : (s : R) → R
         (all, passed_owners (left s) (regular s) (left m) (λ p. follows s p m) (residual s m) b front f (take n xs) (r, l) x o);
   }
 
-  pub refuses_after : (x : Var) (t : R) (beyond : List Bool) → RefusesAt R left follows m front xs n x t beyond → RefusesAt R left follows s b xs n x t beyond
-  refuses_after x t beyond h =
+  pub refuses_after : (next : R → Option Var) (x : Var) (t : R) (beyond : List Bool) → RefusesAt R left next follows m front xs n x t beyond → RefusesAt R left next follows s b xs n x t beyond
+  refuses_after next x t beyond h =
       let (r, c, l, i) = h.refuses.owned.viable in
       record {
         refuses = passed_refuses (left s) (regular s) (left m) (λ p. follows s p m) (residual s m) b front f (r, l) xs n x h.refuses;
         passed = along t beyond h.passed;
+        here = h.here;
         short = h.short;
         goes = h.goes;
       }
@@ -122,13 +123,14 @@ pub front_of : (b xs : List Bool) (at n : ℕ) → (b ++ take at xs) ++ take n (
 front_of b xs at n = append_assoc b (take at xs) (take n (drop at xs)) ∙ ap (λ (t : List Bool). b ++ t) (sym (take-add at n xs))
 
 module _ {R : Type 0} (left : R → Reading → Type 0) (follows : R → Reading → R → Type 0) (s : R) (b xs : List Bool) (at n : ℕ) where
-  pub refuses_further : (x : Var) (t : R) (beyond : List Bool) → at ≤ length xs → RefusesAt R left follows s (b ++ take at xs) (drop at xs) n x t beyond → RefusesAt R left follows s b xs (at + n) x t beyond
-  refuses_further x t beyond le h =
+  pub refuses_further : (next : R → Option Var) (x : Var) (t : R) (beyond : List Bool) → at ≤ length xs → RefusesAt R left next follows s (b ++ take at xs) (drop at xs) n x t beyond → RefusesAt R left next follows s b xs (at + n) x t beyond
+  refuses_further next x t beyond le h =
       let same : (b ++ take at xs) ++ drop at xs ≡ b ++ xs = append_assoc b (take at xs) (drop at xs) ∙ ap (λ (u : List Bool). b ++ u) (take-append-drop at xs) in
       let place : length (b ++ take at xs) + n ≡ length b + (at + n) = omega (arith, length-append b (take at xs), length-take at xs) in
       record {
         refuses = rw (same, place) at h.refuses;
         passed = subst (λ (u : List Bool). Passed (λ p. follows s p t) u beyond) (front_of b xs at n) h.passed;
+        here = h.here;
         short = h.short;
         goes = h.goes;
       }
@@ -149,18 +151,18 @@ module _ {R : Type 0} (left : R → Reading → Type 0) (follows : R → Reading
       }
 
 -- why no more is taken, of all bits
-pub halts_after : {R : Type 0} (left : R → Reading → Type 0) → ((s : R) → Regular (left s)) → (follows : R → Reading → R → Type 0) → ((s t : R) (p : Reading) → follows s p t → Residual (left s) p (left t)) → ((s t u : R) (p q : Reading) → follows s p t → follows t q u → follows s (p ++ q) u) → (fails : R → Type 0) (s : R) (b : List Bool) (m t : Reader R) (xs : List Bool) (at : ℕ)
-    → Passed (λ p. follows s p m.rest) (b ++ take at xs) (part_of m) → at ≤ length xs → (h : Halt) → Halts R left follows fails m xs at h t → HaltsIn R left follows fails s b xs h t
-halts_after {R} left regular follows residual both fails s b m t xs at f le (Refused i x) (n, i_is, h) =
-    let l = refuses_after left regular follows residual both s m.rest (b ++ take at xs) (part_of m) f (drop at xs) n x t.rest (part_of t) h in
-    subst (λ k. RefusesAt R left follows s b xs k x t.rest (part_of t)) (sym i_is) (refuses_further left follows s b xs at n x t.rest (part_of t) le l)
-halts_after {R} left regular follows residual both fails s b m t xs at f le (Memory i) (n, i_is, h) =
+pub halts_after : {R : Type 0} (left : R → Reading → Type 0) → ((s : R) → Regular (left s)) → (next : R → Option Var) (follows : R → Reading → R → Type 0) → ((s t : R) (p : Reading) → follows s p t → Residual (left s) p (left t)) → ((s t u : R) (p q : Reading) → follows s p t → follows t q u → follows s (p ++ q) u) → (fails : R → Type 0) (s : R) (b : List Bool) (m t : Reader R) (xs : List Bool) (at : ℕ)
+    → Passed (λ p. follows s p m.rest) (b ++ take at xs) (part_of m) → at ≤ length xs → (h : Halt) → Halts R left next follows fails m xs at h t → HaltsIn R left next follows fails s b xs h t
+halts_after {R} left regular next follows residual both fails s b m t xs at f le (Refused i x) (n, i_is, h) =
+    let l = refuses_after left regular follows residual both s m.rest (b ++ take at xs) (part_of m) f (drop at xs) n next x t.rest (part_of t) h in
+    subst (λ k. RefusesAt R left next follows s b xs k x t.rest (part_of t)) (sym i_is) (refuses_further left follows s b xs at n next x t.rest (part_of t) le l)
+halts_after {R} left regular next follows residual both fails s b m t xs at f le (Memory i) (n, i_is, h) =
     let l = starves_after left regular follows residual both s m.rest (b ++ take at xs) (part_of m) f (drop at xs) n fails h in
     subst (λ k. StarvesAt R left follows fails s b xs k) (sym i_is) (starves_further left follows s b xs at n fails le l)
 
-pub halts_within : {R : Type 0} (left : R → Reading → Type 0) (follows : R → Reading → R → Type 0) (fails : R → Type 0) (m t : Reader R) (xs : List Bool) (at : ℕ) → at ≤ length xs → (h : Halt) → Halts R left follows fails m xs at h t → place_of h ≤ length xs
-halts_within left follows fails m t xs at le (Refused i x) (n, i_is, h) = omega (arith, i_is, h.refuses.within, le, length-append (part_of m) (drop at xs), length-drop at xs)
-halts_within left follows fails m t xs at le (Memory i) (n, i_is, h) = omega (arith, i_is, h.within, le, length-drop at xs)
+pub halts_within : {R : Type 0} (left : R → Reading → Type 0) (next : R → Option Var) (follows : R → Reading → R → Type 0) (fails : R → Type 0) (m t : Reader R) (xs : List Bool) (at : ℕ) → at ≤ length xs → (h : Halt) → Halts R left next follows fails m xs at h t → place_of h ≤ length xs
+halts_within left next follows fails m t xs at le (Refused i x) (n, i_is, h) = omega (arith, i_is, h.refuses.within, le, length-append (part_of m) (drop at xs), length-drop at xs)
+halts_within left next follows fails m t xs at le (Memory i) (n, i_is, h) = omega (arith, i_is, h.within, le, length-drop at xs)
 
 -- what is taken, of all bits
 pub takes_all : {R : Type 0} (left : R → Reading → Type 0) → ((s : R) → Regular (left s)) → (next : R → Option Var) → ((s : R) (x : Var) → next s ≡ Some x → BeginsWith (left s) x) → ((s : R) → next s ≡ None → Ended (left s)) → (follows : R → Reading → R → Type 0) → ((s t : R) (p : Reading) → follows s p t → Residual (left s) p (left t)) → (s : R) (b : List Bool) (t : Reader R) (xs : List Bool) (n : ℕ)
@@ -181,6 +183,6 @@ pub feeds_after : {R : Type 0} (left : R → Reading → Type 0) → ((s : R) �
 feeds_after {R} left regular next follows residual both fails start b old xs (Ok n) new f (stop, count, h) =
     (stop, count, takes_after left regular follows residual both start old.rest b old.part f xs n next new.rest new.part h)
 feeds_after {R} left regular next follows residual both fails start b old xs (Err (stop.Refused i x)) new f (stop, count, n, i_is, h) =
-    (stop, count, n, i_is, refuses_after left regular follows residual both start old.rest b old.part f xs n x new.rest new.part h)
+    (stop, count, n, i_is, refuses_after left regular follows residual both start old.rest b old.part f xs n next x new.rest new.part h)
 feeds_after {R} left regular next follows residual both fails start b old xs (Err stop.Memory) new f (stop, n, count, h) =
     (stop, n, count, starves_after left regular follows residual both start old.rest b old.part f xs n fails h)

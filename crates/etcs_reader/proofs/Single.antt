@@ -22,10 +22,10 @@ abbrev pub value : {R : Type 0} → Reader R → ℕ → Option Stop → FeederV
 value r count stop = record { rest = r.rest; part = part_of r; count = count; stop = stop }
 
 -- it is refused or memory is, and none is taken
-pub bit_halts : {R : Type 0} (left : R → Reading → Type 0) (next : R → Option Var) (follows : R → Reading → R → Type 0) (fails : R → Type 0) (s t : Reader R) (count : ℕ) (b : Bool) (stop : Option Stop) (h : Halt) (why : Stop) (xs : List Bool) → why ≡ stop_at count h → drop 7 xs ≡ b ∷ [] → Halts R left follows fails s xs 7 h t
+pub bit_halts : {R : Type 0} (left : R → Reading → Type 0) (next : R → Option Var) (follows : R → Reading → R → Type 0) (fails : R → Type 0) (s t : Reader R) (count : ℕ) (b : Bool) (stop : Option Stop) (h : Halt) (why : Stop) (xs : List Bool) → why ≡ stop_at count h → drop 7 xs ≡ b ∷ [] → Halts R left next follows fails s xs 7 h t
     → Feeds R left next follows fails (value s count stop) (b ∷ []) (Err why) (value t count (Some why))
 bit_halts {R} left next follows fails s t count b stop (Refused i x) why xs is last (n, at, r) =
-    let r' : RefusesAt R left follows s.rest (part_of s) (b ∷ []) n x t.rest (part_of t) = subst (λ (ys : List Bool). RefusesAt R left follows s.rest (part_of s) ys n x t.rest (part_of t)) last r in
+    let r' : RefusesAt R left next follows s.rest (part_of s) (b ∷ []) n x t.rest (part_of t) = subst (λ (ys : List Bool). RefusesAt R left next follows s.rest (part_of s) ys n x t.rest (part_of t)) last r in
     rw is (refl, refl, n, omega (arith, r'.refuses.within, length-append (part_of s) (b ∷ [])), r')
 bit_halts {R} left next follows fails s t count b stop (Memory i) why xs is last (n, at, h) =
     let h' : StarvesAt R left follows fails s.rest (part_of s) (b ∷ []) n = subst (λ (ys : List Bool). StarvesAt R left follows fails s.rest (part_of s) ys n) last h in

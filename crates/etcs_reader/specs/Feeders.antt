@@ -25,7 +25,7 @@ all_of s = record { rest = s; part = []; count = 0; stop = None }
 -- taken. Memory: memory ran out at a bit with which something continues, and no clause says what is left
 abbrev pub Feeds : (R : Type 0) → (R → Reading → Type 0) → (R → Option Var) → (R → Reading → R → Type 0) → (R → Type 0) → FeederValue R → List Bool → Result ℕ Stop → FeederValue R → Type 0
 Feeds R left next follows fails old xs (Ok n) new = (new.stop ≡ None) × (new.count ≡ old.count + n) × Takes R left next follows old.rest old.part xs n new.rest new.part
-Feeds R left next follows fails old xs (Err (Refused i x)) new = (new.stop ≡ Some (Refused i x)) × (new.count ≡ i) × (n : ℕ) × (i ≡ old.count + n) × RefusesAt R left follows old.rest old.part xs n x new.rest new.part
+Feeds R left next follows fails old xs (Err (Refused i x)) new = (new.stop ≡ Some (Refused i x)) × (new.count ≡ i) × (n : ℕ) × (i ≡ old.count + n) × RefusesAt R left next follows old.rest old.part xs n x new.rest new.part
 Feeds R left next follows fails old xs (Err Memory) new = (new.stop ≡ Some Memory) × (n : ℕ) × (new.count ≡ old.count + n) × StarvesAt R left follows fails old.rest old.part xs n
 
 -- the stop for a halt after count bits

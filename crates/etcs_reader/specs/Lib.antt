@@ -2,4 +2,5 @@ pub mod Rests
 pub mod Readers
 pub mod Feeders
 pub mod Fields
+pub mod Blocks
 pub mod laws

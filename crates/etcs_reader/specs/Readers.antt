@@ -36,11 +36,12 @@ pub record Takes (R : Type 0) (left : R → Reading → Type 0) (next : R → Op
   pub done : next t ≡ None → InLanguage (left s) (b ++ take n xs)
   pub more : (x : Var) → next t ≡ Some x → (n ≡ length xs) × Owner (left s) (b ++ take n xs) x
 
--- n of them are taken, after which t is left and b' are the bits of its next variable, and the bit after them is
--- refused, which x holds; b' is shorter than x is wide, and something is left of t
-pub record RefusesAt (R : Type 0) (left : R → Reading → Type 0) (follows : R → Reading → R → Type 0) (s : R) (b xs : List Bool) (n : ℕ) (x : Var) (t : R) (b' : List Bool) : Type 0 where
+-- n of them are taken, after which t is left and b' are the bits of its next variable, x, which holds the bit after
+-- them, and this is refused; b' is shorter than x is wide, and something is left of t
+pub record RefusesAt (R : Type 0) (left : R → Reading → Type 0) (next : R → Option Var) (follows : R → Reading → R → Type 0) (s : R) (b xs : List Bool) (n : ℕ) (x : Var) (t : R) (b' : List Bool) : Type 0 where
   pub refuses : Refuses (left s) (b ++ xs) (length b + n) x
   pub passed : Passed (λ p. follows s p t) (b ++ take n xs) b'
+  pub here : next t ≡ Some x
   pub short : length b' < width x
   pub goes : Goes (left t)
 
@@ -75,9 +76,9 @@ pub record Advances (R : Type 0) (left : R → Reading → Type 0) (next : R →
   pub passed : Passed (λ p. follows old.rest p new.rest) (part_of old ++ part at n xs) (part_of new)
 
 -- why no more of the bits xs are taken from at on: a bit is refused, or memory ran out
-abbrev pub Halts : (R : Type 0) → (R → Reading → Type 0) → (R → Reading → R → Type 0) → (R → Type 0) → Reader R → List Bool → ℕ → Halt → Reader R → Type 0
-Halts R left follows fails old xs at (Refused i x) new = (n : ℕ) × (i ≡ at + n) × RefusesAt R left follows old.rest (part_of old) (drop at xs) n x new.rest (part_of new)
-Halts R left follows fails old xs at (Memory i) new = (n : ℕ) × (i ≡ at + n) × StarvesAt R left follows fails old.rest (part_of old) (drop at xs) n
+abbrev pub Halts : (R : Type 0) → (R → Reading → Type 0) → (R → Option Var) → (R → Reading → R → Type 0) → (R → Type 0) → Reader R → List Bool → ℕ → Halt → Reader R → Type 0
+Halts R left next follows fails old xs at (Refused i x) new = (n : ℕ) × (i ≡ at + n) × RefusesAt R left next follows old.rest (part_of old) (drop at xs) n x new.rest (part_of new)
+Halts R left next follows fails old xs at (Memory i) new = (n : ℕ) × (i ≡ at + n) × StarvesAt R left follows fails old.rest (part_of old) (drop at xs) n
 
 -- how many bits of the piece are before the halt
 abbrev pub place_of : Halt → ℕ
@@ -85,6 +86,6 @@ place_of (Refused i x) = i
 place_of (Memory i) = i
 
 -- why no more of all the bits xs are taken, after the bits b of the variable that comes next in s
-abbrev pub HaltsIn : (R : Type 0) → (R → Reading → Type 0) → (R → Reading → R → Type 0) → (R → Type 0) → R → List Bool → List Bool → Halt → Reader R → Type 0
-HaltsIn R left follows fails s b xs (Refused i x) new = RefusesAt R left follows s b xs i x new.rest (part_of new)
-HaltsIn R left follows fails s b xs (Memory i) new = StarvesAt R left follows fails s b xs i
+abbrev pub HaltsIn : (R : Type 0) → (R → Reading → Type 0) → (R → Option Var) → (R → Reading → R → Type 0) → (R → Type 0) → R → List Bool → List Bool → Halt → Reader R → Type 0
+HaltsIn R left next follows fails s b xs (Refused i x) new = RefusesAt R left next follows s b xs i x new.rest (part_of new)
+HaltsIn R left next follows fails s b xs (Memory i) new = StarvesAt R left follows fails s b xs i

@@ -5,13 +5,16 @@
 //! and names the variable that holds it.
 #![tactic(auto)]
 
+mod block;
 mod feeder;
 mod fields;
 pub mod inner;
 pub mod laws;
+mod nearest;
 mod reader;
 mod rest;
 
+pub use block::Block;
 pub use feeder::{Feeder, Stop};
 pub use fields::Fields;
 pub use rest::Rest;

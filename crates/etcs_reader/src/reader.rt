@@ -131,7 +131,7 @@ impl<R: Rest> Reader<R> {
         requires inside { at < length (bits piece.now) }
         requires small { length (bits piece.now) < 2 ^ 64 }
         ensures ok { IfOk result (λ n. Advances R R.left R.next R.follows self.old (bits piece.now) at n self.new) }
-        ensures err { IfErr result (λ h. Halts R R.left R.follows R.fails self.old (bits piece.now) at h self.new) }
+        ensures err { IfErr result (λ h. Halts R R.left R.next R.follows R.fails self.old (bits piece.now) at h self.new) }
         ensures fits { self.new.number < 2 ^ self.new.taken }
     {
         let wanted = var.width() - self.taken;
@@ -169,7 +169,7 @@ impl<R: Rest> Reader<R> {
         requires inside { at < length (bits piece.now) }
         requires small { length (bits piece.now) < 2 ^ 64 }
         ensures ok { IfOk result (λ n. Advances R R.left R.next R.follows self.old (bits piece.now) at n self.new) }
-        ensures err { IfErr result (λ h. Halts R R.left R.follows R.fails self.old (bits piece.now) at h self.new) }
+        ensures err { IfErr result (λ h. Halts R R.left R.next R.follows R.fails self.old (bits piece.now) at h self.new) }
         ensures fits { self.new.number < 2 ^ self.new.taken }
     {
         let width = var.width();
@@ -195,7 +195,7 @@ impl<R: Rest> Reader<R> {
         requires inside { at < length (bits piece.now) }
         requires small { length (bits piece.now) < 2 ^ 64 }
         ensures ok { IfOk result (λ n. Advances R R.left R.next R.follows self.old (bits piece.now) at n self.new) }
-        ensures err { IfErr result (λ h. Halts R R.left R.follows R.fails self.old (bits piece.now) at h self.new) }
+        ensures err { IfErr result (λ h. Halts R R.left R.next R.follows R.fails self.old (bits piece.now) at h self.new) }
         ensures fits { self.new.number < 2 ^ self.new.taken }
     {
         if self.taken > 0 {
@@ -221,7 +221,7 @@ impl<R: Rest> Reader<R> {
         requires small { length (bits piece.now) < 2 ^ 64 }
         ensures reader { IfOk result (λ _. IsReader R R.left R.next self.new) }
         ensures ok { IfOk result (λ n. (s : R) (b : List Bool) → Passed (λ p. R.follows s p self.old.rest) (b ++ take at (bits piece.now)) (part_of self.old) → Takes R R.left R.next R.follows s b (bits piece.now) n self.new.rest (part_of self.new)) }
-        ensures err { IfErr result (λ h. (s : R) (b : List Bool) → Passed (λ p. R.follows s p self.old.rest) (b ++ take at (bits piece.now)) (part_of self.old) → HaltsIn R R.left R.follows R.fails s b (bits piece.now) h self.new) }
+        ensures err { IfErr result (λ h. (s : R) (b : List Bool) → Passed (λ p. R.follows s p self.old.rest) (b ++ take at (bits piece.now)) (part_of self.old) → HaltsIn R R.left R.next R.follows R.fails s b (bits piece.now) h self.new) }
         ensures within { MatchResult result (λ n. n ≤ length (bits piece.now)) (λ h. place_of h ≤ length (bits piece.now)) }
         ensures fits { self.new.number < 2 ^ self.new.taken }
     {

@@ -53,7 +53,7 @@ no_row None h = refl
 no_row (Some row) h = absurd cc
 
 -- what is after the frame of a packet that is typed, and of one that isn't
-body_row : (way : Way) (nid : ℕ) (row : Layout) (m : ℕ) → row_to way nid ≡ Some row → BodyLength way nid m ↔ Lengths row [] m
+pub body_row : (way : Way) (nid : ℕ) (row : Layout) (m : ℕ) → row_to way nid ≡ Some row → BodyLength way nid m ↔ Lengths row [] m
 body_row way nid row m e = (
   elim [
     | inl (other, f, l) ↦ (let same : other ≡ row = cc in subst (λ (x : Layout). Lengths x [] m) same l)
@@ -64,7 +64,7 @@ body_row way nid row m e = (
   λ l. inl (row, e, l),
 )
 
-body_kept : (way : Way) (nid m : ℕ) → row_to way nid ≡ None → BodyLength way nid m ↔ IsTrue (is_kept way nid)
+pub body_kept : (way : Way) (nid m : ℕ) → row_to way nid ≡ None → BodyLength way nid m ↔ IsTrue (is_kept way nid)
 body_kept way nid m e = (elim [ inl (row, f, l) ↦ absurd cc | inr kept ↦ kept ], λ kept. inr kept)
 
 -- ---- Lengths, by the windows that leave what may be left.

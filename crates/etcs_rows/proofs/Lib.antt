@@ -1,10 +1,12 @@
 pub mod Additions
 pub mod Following
 pub mod Blocks
+pub mod CauseLemmas
 pub mod CursorLemmas
 pub mod Cuts
 pub mod Doubling
 pub mod EntryLemmas
+pub mod ExactLemmas
 pub mod FitLemmas
 pub mod Flags
 pub mod FrameLemmas
@@ -16,11 +18,13 @@ pub mod NearLemmas
 pub mod PlaceLemmas
 pub mod Raised
 pub mod Ranges
+pub mod RefusalLemmas
 pub mod RestLemmas
 pub mod RowLaws
 pub mod RowSums
 pub mod RowWalkLemmas
 pub mod RunLemmas
+pub mod SameReadings
 pub mod SetLemmas
 pub mod Shifts
 pub mod StepLemmas
@@ -30,4 +34,5 @@ pub mod TakerLemmas
 pub mod TotalLemmas
 pub mod WalkSteps
 pub mod WholeWalks
+pub mod WordLaws
 pub mod WriteLemmas

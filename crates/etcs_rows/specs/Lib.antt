@@ -1,3 +1,4 @@
+pub mod Causes
 pub mod Cursors
 pub mod Entries
 pub mod Frames
@@ -8,6 +9,7 @@ pub mod Nearest
 pub mod Places
 pub mod Sets
 pub mod Progressions
+pub mod Refusals
 pub mod Runs
 pub mod Sums
 pub mod Takers
@@ -15,5 +17,6 @@ pub mod Texts
 pub mod Totals
 pub mod Waiting
 pub mod Walks
+pub mod Words
 pub mod Writing
 pub mod laws

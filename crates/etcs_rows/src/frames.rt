@@ -36,7 +36,7 @@ impl Carrier {
 pub const MOST_PADDING: usize = 7;
 
 /// The least and the greatest number of `width` bits that begins with `bits` and has `rest` bits more.
-fn ends(width: usize, rest: usize, bits: u64) -> (usize, usize)
+pub(crate) fn ends(width: usize, rest: usize, bits: u64) -> (usize, usize)
     requires width { width ≤ 13 }
     requires rest { rest ≤ width }
     requires fits { bits < 2 ^ (width - rest) }

@@ -1,7 +1,7 @@
 //! For the crates above: what is left of a walk's variable, what readers of telegrams and messages need of their
 //! packets, and rows written without allocating.
 
-ghost use Rattle.std.specs.Prelude.{◌≡◌, ◌<◌, ◌≤◌, ◌+◌, ◌^◌, length, Some, IfSome, IsNone};
+ghost use Rattle.std.specs.Prelude.{◌≡◌, ◌<◌, ◌+◌, ◌^◌, length, Some};
 ghost use Rattle.etcs_bits.specs.Bits.{num};
 ghost use Rattle.etcs_vars.specs.declared.var.Var.{Var};
 ghost use Rattle.etcs_vars.specs.Vars.{width};
@@ -10,10 +10,8 @@ ghost use Rattle.etcs_rows.specs.Places.{first_variable};
 
 pub use crate::frames::{Carrier, MOST_PADDING, length_fits, number_fits};
 pub use crate::message::message_lengths;
-use crate::place::Place;
 pub use crate::rest::RowRest;
 pub use crate::row_run::{EntryRun, RowRun};
-pub use crate::speeds::EntryNumbers;
 use crate::walk::RowWalk;
 pub use crate::write::put_row;
 
@@ -31,24 +29,4 @@ pub fn unfinished(walk: &RowWalk) -> (u64, usize)
     ensures small { result.0 < 2 ^ result.1 }
 {
     walk.unfinished()
-}
-
-/// Moves past the entry of a speed profile that comes next at a place, if `at` is inside the piece, which has the entry
-/// from there on, its numbers are admitted, and the row can end in its `len` bits with it if it can do so at all; and
-/// returns how many bits it has. It may always return `None`, and then the place stays as it was.
-pub fn pass_entry(
-    place: &mut Place,
-    piece: &[u8],
-    at: usize,
-    len: usize,
-    numbers: &mut EntryNumbers,
-) -> Option<usize>
-    ensures none { IsNone result → place.new ≡ place.old }
-    ensures some { IfSome result (λ n. 0 < n) }
-{
-    let end = piece.len().checked_mul(8)?;
-    if at > end {
-        return None;
-    }
-    place.pass_entry(piece, at, len, numbers)
 }

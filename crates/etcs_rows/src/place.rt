@@ -24,6 +24,7 @@ use crate::takers::Kept;
 use arrayvec::ArrayVec;
 use etcs_tables::{Guard, Row, RowItem};
 use etcs_vars::Var;
+use std::fmt;
 use std::marker::Model;
 
 /// A group that is being read, or is about to be.
@@ -293,6 +294,12 @@ impl Model for Place {
     ghost view = { λ p. left_of p.cursor };
 
     ghost invariant = { λ p. Nests p.cursor × IsSettled p.cursor × IsTrue (looks None (left_of p.cursor)) };
+}
+
+impl fmt::Debug for Place {
+    fn fmt<W: fmt::Write>(&self, f: &mut fmt::Formatter<W>) -> fmt::Result {
+        f.write_str("Place")
+    }
 }
 
 impl Place {

@@ -295,7 +295,7 @@ module _ {R V W P : Type 0} {left : R → Reading → Type 0} {next : R → Opti
         }
 
     -- a bit is refused
-    refuses : (i n : ℕ) (x : Var) → new.stop ≡ Some (Refused i x) → new.count ≡ i → i ≡ old.count + n → RefusesAt R left follows old.rest old.part xs n x new.rest new.part → Answer old new piece (Err (fault_by (Refused i x)))
+    refuses : (i n : ℕ) (x : Var) → new.stop ≡ Some (Refused i x) → new.count ≡ i → i ≡ old.count + n → RefusesAt R left next follows old.rest old.part xs n x new.rest new.part → Answer old new piece (Err (fault_by (Refused i x)))
     refuses i n x stop count i_is h =
         let place : length (seen old) + n ≡ i = omega (arith, i_is, at.counted) in
         let all : (seen old ++ xs) ++ bits (drop taken piece) ≡ seen old ++ bits piece = append_assoc (seen old) xs (bits (drop taken piece)) ∙ ap (λ (u : List Bool). seen old ++ u) (bits_cut piece taken) in

@@ -5,6 +5,7 @@ pub mod BitLaws
 pub mod BodyBegins
 pub mod Carried
 pub mod ChainLaws
+pub mod Exact
 pub mod Feeding
 pub mod FilledLaws
 pub mod Fits

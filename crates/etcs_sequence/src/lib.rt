@@ -10,6 +10,7 @@
 mod fault;
 mod first;
 mod held;
+mod here;
 pub mod inner;
 mod item;
 mod kinds;

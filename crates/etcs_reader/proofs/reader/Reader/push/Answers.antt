@@ -29,13 +29,13 @@ returns-in_err-at-clause-err g c =
     let p = err_from_is_err_and c.from_residual.result c.from_residual.ensures.1 in
     let within : c.loop-at.at ≤ length (bits c.args.piece.now) = omega (arith, length-bits c.args.piece.now, c.loop-at-test.true) in
     rw (p.1, p.2)
-    (λ s b f. halts_after g.R.Rest.left g.met.R.Rest.regular g.R.Rest.follows g.met.R.Rest.residual g.met.R.Rest.both g.R.Rest.fails s b c.loop-at.self c.advance.new.self (bits c.args.piece.now) c.loop-at.at (c.loop-at.invariant.passed s b f) within c.in_err-at.field-0.0 c.in_err-at.ensures.err)
+    (λ s b f. halts_after g.R.Rest.left g.met.R.Rest.regular g.R.Rest.next g.R.Rest.follows g.met.R.Rest.residual g.met.R.Rest.both g.R.Rest.fails s b c.loop-at.self c.advance.new.self (bits c.args.piece.now) c.loop-at.at (c.loop-at.invariant.passed s b f) within c.in_err-at.field-0.0 c.in_err-at.ensures.err)
 
 pub returns-in_err-at-clause-within : goal.returns-in_err-at-clause-within
 returns-in_err-at-clause-within g c =
     let p = err_from_is_err_and c.from_residual.result c.from_residual.ensures.1 in
     let within : c.loop-at.at ≤ length (bits c.args.piece.now) = omega (arith, length-bits c.args.piece.now, c.loop-at-test.true) in
-    rw (p.1, p.2) (halts_within g.R.Rest.left g.R.Rest.follows g.R.Rest.fails c.loop-at.self c.advance.new.self (bits c.args.piece.now) c.loop-at.at within c.in_err-at.field-0.0 c.in_err-at.ensures.err)
+    rw (p.1, p.2) (halts_within g.R.Rest.left g.R.Rest.next g.R.Rest.follows g.R.Rest.fails c.loop-at.self c.advance.new.self (bits c.args.piece.now) c.loop-at.at within c.in_err-at.field-0.0 c.in_err-at.ensures.err)
 
 pub loop-at-preserved : goal.loop-at-preserved
 loop-at-preserved g c =

@@ -44,6 +44,7 @@ returns-then-not-begins-clause-err g c =
       record {
         refuses = refuses_front (g.R.Rest.left s.rest) s.number s.taken c.min-count.result c.number_at-bits.result xs more c.args.var c.number_at-bits.ensures.bits c.refused-more.ensures.refuses;
         passed = rw c.refused-more.ensures.number front;
+        here = c.requires.next;
         short = omega (arith, length-num (s.taken + more) c.refused-more.result.1, c.refused-more.ensures.within, c.min-count.ensures, c.width.ensures, lt);
         goes = c.requires.reader.goes;
       },

@@ -18,6 +18,7 @@ pub mod Listing
 pub mod Begins
 pub mod LengthFits
 pub mod SoFar
+pub mod Exact
 pub mod Holding
 pub mod OneHolding
 pub mod Wholes

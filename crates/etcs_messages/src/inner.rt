@@ -6,7 +6,7 @@ ghost use Rattle.etcs_messages.specs.Readings.{message_reading};
 
 use crate::kind::{Head, Own};
 use crate::message::MessageOf;
-pub use crate::refused::refused_at;
+pub use crate::refused::{counted, refused_at};
 pub use crate::rest::MessageRest;
 pub use crate::whole::{Outline, message_seen, outline_of};
 

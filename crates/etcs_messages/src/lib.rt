@@ -4,6 +4,7 @@
 #![tactic(auto)]
 
 mod encode;
+mod here;
 pub mod inner;
 mod kind;
 pub mod laws;

@@ -14,10 +14,10 @@ pub mod Equality
 pub mod Rooms
 pub mod RoundTrips
 pub mod Finished
-pub mod SameReadings
 pub mod Viewing
 pub mod Examples
 pub mod SoFar
+pub mod Exact
 pub mod Reading
 pub mod Holding
 pub mod OneHolding

@@ -39,7 +39,7 @@ use Rattle.etcs_telegram.specs.Views.{ViewIn, OneRefusal}
 use Rattle.etcs_telegram.proofs.Encoding.{room_more, closed_length, user_small}
 use Rattle.etcs_telegram.proofs.Finished.{whole_reads}
 use Rattle.etcs_telegram.proofs.HeaderLemmas.{header_length}
-use Rattle.etcs_telegram.proofs.SameReadings.{owner_along, refuses_along, owner_same}
+use Rattle.etcs_rows.proofs.SameReadings.{owner_along, refuses_along, owner_same}
 use Rattle.etcs_telegram.proofs.Spellings.{regular, one_value, whole_length}
 
 -- the fault has the bit

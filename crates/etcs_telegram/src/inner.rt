@@ -7,6 +7,7 @@ ghost use Rattle.etcs_telegram.specs.Writing.{telegram_reading};
 
 use crate::header::Header;
 pub use crate::header_bits::HEADER_BITS;
+pub use crate::refused::refusal_at;
 pub use crate::rest::TelegramRest;
 pub use crate::store::TelegramStore;
 use crate::telegram::Telegram;

@@ -6,10 +6,12 @@
 mod encode;
 mod header;
 mod header_bits;
+mod here;
 pub mod inner;
 pub mod laws;
 mod phase;
 mod reader;
+mod refused;
 mod rest;
 mod size;
 mod store;

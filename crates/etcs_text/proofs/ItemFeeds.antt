@@ -10,7 +10,7 @@ use Rattle.etcs_vars.proofs.Languages.{Same, same_back}
 use Rattle.etcs_telegram.specs.declared.size.Size.{Size}
 use Rattle.etcs_telegram.specs.declared.size.Size.TheVariants.{Short, Long}
 use Rattle.etcs_telegram.specs.Telegrams.{TelegramContent, ReadsAs, IsTelegram, telegram_value}
-use Rattle.etcs_telegram.proofs.SameReadings.{viable_along, owner_along}
+use Rattle.etcs_rows.proofs.SameReadings.{viable_along, owner_along}
 use Rattle.etcs_sequence.specs.Progress as inner
 use Rattle.etcs_tables.specs.declared.row.Way.{Way}
 use Rattle.etcs_tables.specs.declared.row.Way.TheVariants.{ToTrain, ToTrack}

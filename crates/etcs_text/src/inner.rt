@@ -3,6 +3,6 @@
 pub use crate::encodings::check_on;
 pub use crate::item_lines::write_item_number;
 pub use crate::json_lines::{json_on, json_seen};
-pub use crate::refused::refused_at;
+pub use crate::refused::{refusal_at, refused_at};
 pub use crate::seen::{item_bits, seen};
 pub use crate::show::{show_on, show_seen};

@@ -1,9 +1,8 @@
 -- Lines one after another, of a text that comes in pieces.
 use Rattle.std.proofs.Common.{◌≡◌, ℕ, ◌+◌, ◌-◌, ◌<◌, ◌≤◌, List, [], ◌∷◌, ◌++◌, length, take, drop, refl, sym, ap, subst, ◌∙◌, arith, append_assoc, length-append, drop_at, take_at, take_all}
-use Rattle.std.specs.Prelude.{All}
 use Rattle.std.proofs.lemmas.Grind.{flat_map-append}
-use Rattle.std.proofs.lemmas.List.{append-nil}
-use Rattle.std.proofs.lemmas.List.Elements.{All-head, All-tail}
+use Rattle.std.proofs.lemmas.List.{append-nil, drop-drop}
+use Rattle.std.proofs.lemmas.List.Elements.{All-drop, All-tail}
 use Rattle.etcs_runs.specs.Lines.{IsAfterLf, IsLine, lines_text}
 
 pub lines_text-append : (xs ys : List (List ℕ)) → lines_text (xs ++ ys) ≡ lines_text xs ++ lines_text ys
@@ -76,6 +75,15 @@ after_piece piece front rest after is h below =
     let place : length piece - after ≡ length front + (length rest - after) = omega (arith, long, below) in
     after_front front rest (length rest - after) (omega (arith, below))
     (subst (λ (k : ℕ). IsAfterLf (front ++ rest) k) place (subst (λ (z : List ℕ). IsAfterLf z (length piece - after)) is (h (omega (arith, long, below)))))
+
+-- a piece has no LF in its last bytes, so nor has what is left of them
+pub last_line : (piece front rest : List ℕ) (after : ℕ) → piece ≡ front ++ rest → IsLine (drop (length piece - after) piece) → length rest ≤ after → IsLine rest
+last_line piece front rest after is last few =
+    let start = length piece - after in
+    let more = length front - start in
+    let place : start + more ≡ length front = omega (arith, few, ap length is, length-append front rest) in
+    let left : drop more (drop start piece) ≡ rest = drop-drop more start piece ∙ ap (λ (k : ℕ). drop k piece) place ∙ ap (drop (length front)) is ∙ drop_at front rest (length front) refl in
+    subst IsLine left (All-drop (λ c. c ≡ 10 → ⊥) more (drop start piece) last)
 
 -- a line with its LF, and what is after them
 pub kept_front : (raw after kept : List ℕ) (count : ℕ) → kept ≡ raw ++ 10 ∷ after → count ≡ length raw → take (count + 1) kept ≡ raw ++ 10 ∷ []

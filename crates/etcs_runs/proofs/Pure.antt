@@ -5,7 +5,7 @@ use Rattle.std.proofs.lemmas.Bool.{cases_eq}
 use Rattle.std.proofs.lemmas.Bool.Decides.{nat_tests}
 use Rattle.std.proofs.lemmas.List.Sums.{AllPass-from_list_all, list_all-from_AllPass}
 use Rattle.hex.specs.Hex.{is_hex_digit}
-use Rattle.etcs_runs.specs.Digits.{are_enough, bare, end_digits, found, groups, is_blank, is_gap, is_group, is_joint, is_passed_over, is_x, last_first, line_digits, read_text, says_nothing, text_digits, without_comment, without_mark, word_digits, words}
+use Rattle.etcs_runs.specs.Digits.{are_enough, bare, end_digits, found, found_words, group_words, groups, is_blank, is_gap, is_group, is_joint, is_passed_over, is_x, last_first, line_digits, read_text, says_nothing, searched, text_digits, without_comment, without_mark, word_digits, word_parts, words}
 use Rattle.etcs_runs.proofs.LastWords.{both, not_true, words-word}
 
 not_blank : (c : ℕ) → is_hex_digit c ≡ true → not (is_blank c) ≡ true
@@ -50,6 +50,15 @@ found_one : (digits_of : List (List ℕ) → List ℕ) (w v : List ℕ) → digi
 found_one digits_of w v h =
     ap (λ (z : List ℕ). cond (are_enough (cond (are_enough z) z [])) (cond (are_enough z) z []) z) h ∙ one_with (are_enough v) v refl
 
+either_words : (a b : Bool) (n : ℕ) → b ≡ true → cond a n (cond b n 0) ≡ n
+either_words true b n h = refl
+either_words false b n h = ap (λ (z : Bool). cond z n 0) h
+
+found_words-one : (a b : Bool) (n : ℕ) → n ≡ 1 → cond a (cond b n 1) n ≡ 1
+found_words-one true true n is = is
+found_words-one true false n is = refl
+found_words-one false b n is = is
+
 -- digits have no comment
 comment_with : (b more : Bool) (c : ℕ) (cs xs : List ℕ) → not b ≡ true → xs ≡ cs → cond (b && more) [] (c ∷ xs) ≡ c ∷ cs
 comment_with true more c cs xs h is = cc h
@@ -85,7 +94,12 @@ module _ (line : List ℕ) (digits : list_all is_hex_digit line ≡ true) (two :
   all_groups : groups (line ∷ []) ≡ line
   all_groups = either (is_group line) (list_all is_hex_digit line) line digits
 
-  all_parts : word_digits line ≡ line
+  pub one_part : word_parts line ≡ 1
+  one_part =
+      ap (found_words groups group_words) (one_word is_joint not_joint)
+      ∙ found_words-one (are_enough (searched groups (line ∷ []))) (are_enough (groups (line ∷ []))) (group_words (line ∷ [])) (either_words (is_group line) (list_all is_hex_digit line) 1 digits)
+
+  pub all_parts : word_digits line ≡ line
   all_parts = ap (found groups) (one_word is_joint not_joint) ∙ found_one groups line line all_groups
 
   all_digits : end_digits (line ∷ []) ≡ line

@@ -6,7 +6,7 @@ ghost use Rattle.etcs_runs.specs.Handling.{EndsLong, EndsWith, SaysAfter, StopsA
 
 use crate::engine::{Engine, MOST_READ};
 use crate::fault::RunFault;
-use crate::lines::{after_lines, split_line, without_cr};
+use crate::lines::{after_lines, next_line, without_cr};
 use etcs_packet_text::inner::Page;
 use std::alloc::{AllocError, Global};
 
@@ -324,7 +324,7 @@ impl<T: LineHandler> Engine for Lines<T> {
     fn feed(&mut self, piece: &[u8], page: &mut Page) -> Result<(), RunFault> {
         let after = after_lines(piece);
         let mut rest = self.take_lines(piece, after, page)?;
-        while let Some((line, beyond)) = split_line(rest) {
+        while let Some((line, beyond)) = next_line(rest, after) {
             self.end_line(line, beyond.len(), page)?;
             rest = self.take_lines(beyond, after, page)?;
         }

@@ -7,7 +7,7 @@ ghost use Rattle.etcs_runs.specs.Answers.{Says};
 ghost use Rattle.etcs_runs.specs.Finds.{digits_of};
 
 use crate::found::{Found, find};
-use crate::hexadecimal::decode;
+use crate::hexadecimal::{decode, is_digit};
 use crate::words::{bare, is_blank, last_word, without_mark};
 
 /// Why a line has no bytes, as [`line_bytes`] finds its digits.
@@ -104,7 +104,7 @@ pub fn line_bytes(line: &[u8], buffer: &mut [u8]) -> Result<usize, NoBytes>
     ensures room { length buffer.new ≡ length buffer.old }
 {
     let count = line.len();
-    if count > 0 && count % 2 == 0 && is_taken(line, count, buffer) {
+    if count > 2 && count % 2 == 0 && is_digit(line[2]) && is_taken(line, count, buffer) {
         return Ok(count / 2);
     }
     let line = without_mark(line);

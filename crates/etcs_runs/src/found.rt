@@ -26,7 +26,10 @@ pub(crate) struct Found<'a> {
     pub size: usize,
     /// The word without `0x`; empty if there are no digits.
     pub word: &'a [u8],
+    /// Whether the digits are enough for an item.
+    enough: bool,
     ghost groups: { IsTrue (is_found size before.now word.now) },
+    ghost counted: { enough ≡ are_enough (digits_of cut size before.now word.now) },
     ghost within: { after + length before.now ≤ length line.now },
     ghost short: { length before.now + length word.now ≤ length line.now },
 }
@@ -38,34 +41,27 @@ fn are_digits(count: usize, word: &[u8]) -> bool
     word.len() == count && is_of_digits(word)
 }
 
-/// How many words before the last one belong to the digits, and how many digits they have. It stops at `most` digits.
-pub(crate) fn count_run(found: Found, most: usize) -> (usize, usize)
-    ensures all { result.1 < most → (result.0 ≡ run_words found.entry.size (last_first (parts_at found.entry.cut) found.entry.before.now)) × (result.1 ≡ length (run found.entry.size (last_first (parts_at found.entry.cut) found.entry.before.now))) }
-    ensures some { result.1 ≤ length (run found.entry.size (last_first (parts_at found.entry.cut) found.entry.before.now)) }
-    ensures within { (result.0 ≤ length found.entry.before.now) × (result.1 ≤ length found.entry.before.now) }
+/// How many words at the end of a text have `size` digits each, and how many digits these are. It stops at `most` digits.
+pub(crate) fn count_run(cut: Cut, size: usize, text: &[u8], most: usize) -> (usize, usize)
+    ensures all { result.1 < most → (result.0 ≡ run_words size (last_first (parts_at cut) text.now)) × (result.1 ≡ length (run size (last_first (parts_at cut) text.now))) }
+    ensures some { result.1 ≤ length (run size (last_first (parts_at cut) text.now)) }
+    ensures within { (result.0 ≤ length text.now) × (result.1 ≤ length text.now) }
 {
     let mut words = 0;
     let mut digits = 0;
-    let mut rest = found.before;
+    let mut rest = text;
     while digits < most {
-        let Some((before, word)) = last_word(found.cut, rest) else {
+        let Some((before, word)) = last_word(cut, rest) else {
             return (words, digits);
         };
-        if !are_digits(found.size, bare(word)) {
+        if !are_digits(size, bare(word)) {
             return (words, digits);
         }
         words += 1;
-        digits += found.size;
+        digits += size;
         rest = before;
     }
     (words, digits)
-}
-
-/// Whether the digits are enough for an item.
-fn are_enough(found: Found) -> bool
-    ensures { result ≡ are_enough (digits_of found.entry.cut found.entry.size found.entry.before.now found.entry.word.now) }
-{
-    found.word.len() + count_run(found, ENOUGH).1 >= ENOUGH
 }
 
 /// The last groups of a text, or its last word if it is of digits. `passed` words of the line are after the text.
@@ -83,18 +79,22 @@ fn find_groups<'a>(line: &'a [u8], cut: Cut, passed: usize, text: &'a [u8]) -> F
         before: none,
         size: 2,
         word: none,
+        enough: false,
     };
     let Some((before, word)) = last_word(cut, text) else {
         return found;
     };
     let word = bare(word);
     if is_of_digits(word) {
+        let mut count = word.len();
         found.after += 1;
         found.word = word;
-        if is_size(word.len()) {
+        if is_size(count) {
             found.before = before;
-            found.size = group_size(cut, word.len(), before);
+            found.size = group_size(cut, count, before);
+            count += count_run(cut, found.size, before, ENOUGH - count).1;
         }
+        found.enough = count >= ENOUGH;
     }
     found
 }
@@ -106,11 +106,23 @@ fn find_parts<'a>(line: &'a [u8], word: &'a [u8]) -> Found<'a>
     ensures digits { digits_of result.cut result.size result.before.now result.word.now ≡ word_digits word.now }
     ensures front { front_of result.cut result.size result.before.now result.after result.line.now ≡ before_words is_joint (word_parts word.now) line.now }
 {
+    // It is one part.
+    if word.len() >= ENOUGH && is_of_digits(word) {
+        return Found {
+            line,
+            cut: Cut::Joints,
+            after: 1,
+            before: &word[..0],
+            size: 2,
+            word,
+            enough: true,
+        };
+    }
     let last = find_groups(line, Cut::Joints, 0, word);
     let mut found = last;
     let mut passed = 0;
     let mut rest = word;
-    while !are_enough(found) {
+    while !found.enough {
         let Some((before, _)) = last_word(Cut::Joints, rest) else {
             return last;
         };
@@ -144,7 +156,7 @@ fn find_text(line: &[u8]) -> Found<'_>
 {
     let last = find_end(line);
     let mut found = last;
-    while !are_enough(found) {
+    while !found.enough {
         let Some((before, _)) = last_word(Cut::Gaps, found.line) else {
             return last;
         };
@@ -161,7 +173,7 @@ pub(crate) fn find(line: &[u8]) -> Found<'_>
 {
     if let Some(front) = before_comment(line) {
         let found = find_text(front);
-        if are_enough(found) {
+        if found.enough {
             return found;
         }
     }

@@ -24,7 +24,7 @@ fn before_digits(line: &[u8]) -> &[u8]
     ensures { result.now ≡ before_digits (read_text line.now) }
 {
     let found = find(line);
-    let words = found.after + count_run(found, usize::MAX).0;
+    let words = found.after + count_run(found.cut, found.size, found.before, usize::MAX).0;
     before_words(found.cut, words, found.line)
 }
 

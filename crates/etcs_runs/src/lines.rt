@@ -17,6 +17,19 @@ pub fn split_line(text: &[u8]) -> Option<(&[u8], &[u8])>
     Some((&text[..at], &text[at + 1..]))
 }
 
+/// Returns the characters before the first LF, and those after it; `None` exactly if there is no LF. The last `after`
+/// characters have none.
+pub(crate) fn next_line(text: &[u8], after: usize) -> Option<(&[u8], &[u8])>
+    requires { length text.now ≤ after → IsLine text.now }
+    ensures some { IfSome result (λ p. (text.now ≡ p.0.now ++ 10 ∷ p.1.now) × IsLine p.0.now) }
+    ensures none { IsNone result → IsLine text.now }
+{
+    if text.len() <= after {
+        return None;
+    }
+    split_line(text)
+}
+
 /// Returns how many characters are after the last LF; all of them if there is no LF.
 pub(crate) fn after_lines(text: &[u8]) -> usize
     ensures fits { result ≤ length text.now }

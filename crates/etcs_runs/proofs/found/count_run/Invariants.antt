@@ -5,10 +5,10 @@ use Rattle.etcs_runs.proofs.found.count_run.Given as goal
 
 abbrev pub invariant-loop-digits : goal.invariant-loop-digits
 invariant-loop-digits l = record {
-  words : run_words l.found.size (last_first (parts_at l.found.cut) l.found.before.now) ≡ l.words + run_words l.found.size (last_first (parts_at l.found.cut) l.rest);
-  digits : length (run l.found.size (last_first (parts_at l.found.cut) l.found.before.now)) ≡ l.digits + length (run l.found.size (last_first (parts_at l.found.cut) l.rest));
-  few : l.words + length l.rest ≤ length l.found.before.now;
-  short : l.digits + length l.rest ≤ length l.found.before.now;
+  words : run_words l.size (last_first (parts_at l.cut) l.text) ≡ l.words + run_words l.size (last_first (parts_at l.cut) l.rest);
+  digits : length (run l.size (last_first (parts_at l.cut) l.text)) ≡ l.digits + length (run l.size (last_first (parts_at l.cut) l.rest));
+  few : l.words + length l.rest ≤ length l.text;
+  short : l.digits + length l.rest ≤ length l.text;
 }
 
 abbrev pub decreases-loop-digits : goal.decreases-loop-digits

@@ -3,8 +3,8 @@ use Rattle.etcs_runs.specs.Digits.{before_end, before_words, end_digits, is_gap,
 use Rattle.etcs_runs.specs.Finds.{digits_of, front_of}
 use Rattle.etcs_runs.proofs.found.find_text.Given as goal
 
-abbrev pub invariant-loop-last : goal.invariant-loop-last
-invariant-loop-last l = record {
+abbrev pub invariant-loop-found : goal.invariant-loop-found
+invariant-loop-found l = record {
   passed : searched end_digits (last_first is_gap l.line) ≡ searched end_digits (last_first is_gap l.found.line.now);
   words : before_words is_gap (searched_words end_digits (λ ws. 0) (last_first is_gap l.line)) l.line ≡ before_words is_gap (searched_words end_digits (λ ws. 0) (last_first is_gap l.found.line.now)) l.found.line.now;
   short : length l.found.line.now ≤ length l.line;
@@ -12,5 +12,5 @@ invariant-loop-last l = record {
   front : front_of l.found.cut l.found.size l.found.before.now l.found.after l.found.line.now ≡ before_end l.found.line.now;
 }
 
-abbrev pub decreases-loop-last : goal.decreases-loop-last
-decreases-loop-last l = length l.found.line.now
+abbrev pub decreases-loop-found : goal.decreases-loop-found
+decreases-loop-found l = length l.found.line.now

@@ -1,4 +1,4 @@
-use Rattle.std.proofs.Common.{ap, sym, ◌∙◌, ltb}
+use Rattle.std.proofs.Common.{ap, ◌∙◌, ltb}
 use Rattle.etcs_runs.proofs.Pairs.{digit_below}
 use Rattle.etcs_runs.proofs.hexadecimal.is_digit.Goals as goal
 

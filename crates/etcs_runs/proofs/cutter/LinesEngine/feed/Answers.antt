@@ -4,7 +4,7 @@ use Rattle.std.proofs.lemmas.List.{append-nil}
 use Rattle.std.proofs.lemmas.Result.{err_from_is_err_and}
 use Rattle.etcs_runs.specs.Faults.{IfFault, IsOfEngine}
 use Rattle.etcs_runs.specs.Cutting.{Stands}
-use Rattle.etcs_runs.proofs.LineTexts.{after_piece, cut_given, cut_line, cut_lines, more_given}
+use Rattle.etcs_runs.proofs.LineTexts.{after_piece, cut_given, cut_line, cut_lines, last_line, more_given}
 use Rattle.etcs_runs.proofs.Keeping.{none_output, piece_stops}
 use Rattle.etcs_runs.proofs.cutter.LinesEngine.feed.Goals as goal
 
@@ -40,6 +40,11 @@ loop-line-preserved g c =
           (stands ((given ++ before.front) ++ ends) output (ended.ok (given ++ before.front) output (before.stands given output h)))
           );
     }
+
+pub next_line-requires : goal.next_line-requires
+next_line-requires g c =
+    let before = c.loop-line.invariant in
+    last_line c.args.piece.now before.front c.loop-line.rest.now c.after_lines-after.result before.all c.after_lines-after.ensures.last
 
 pub end_line-requires : goal.end_line-requires
 end_line-requires g c =

@@ -1,7 +1,8 @@
 //! The whole codec in one crate: of this repository, a program or a library names only this one in `crates.txt`.
 //!
 //! [`prelude`] has what most programs use, for `use etcs_codec::prelude::*`. The rest is here: bits at any offset, rows and
-//! walks over them, runs over streams, how an account ends. [`crates`] has each crate below with everything in it.
+//! walks over them, runs over streams, how an account ends, why a bit is refused. [`crates`] has each crate below with
+//! everything in it.
 //!
 //! ```rust
 //! use etcs_codec::prelude::*;
@@ -20,7 +21,8 @@ pub use etcs_bits::{BitIterator, PokeFault, Poker, SliceWalker, Walker, next_bit
 pub use etcs_json::from_line;
 pub use etcs_reasons::{End, Part};
 pub use etcs_rows::{
-    LengthSet, Place, RowWalk, Step, Stopped, admits_fields, lengths, reaches, write_row,
+    Carrier, Cause, Here, LengthSet, Place, Refusal, RowWalk, Step, Stopped, admits_fields,
+    lengths, reaches, write_row,
 };
 pub use etcs_stream::{
     Command, Failed, Form, Input, Job, Output, RunFault, Sink, Source, Tally, run, write_fault,

@@ -1,4 +1,3 @@
 pub mod Accounting
 pub mod Feeding
 pub mod ItemLengths
-pub mod Nearest

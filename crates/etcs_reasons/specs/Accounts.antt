@@ -4,8 +4,6 @@ use Rattle.etcs_bits.specs.Bits.{num}
 use Rattle.etcs_vars.specs.Vars.{width}
 use Rattle.etcs_vars.specs.Reading.{Reading, spelled, Owner}
 use Rattle.etcs_vars.specs.Walking.{Refuses}
-use Rattle.etcs_reasons.specs.declared.account.Wanted.{Wanted}
-use Rattle.etcs_reasons.specs.declared.account.Wanted.TheVariants.{Fields}
 use Rattle.etcs_reasons.specs.declared.account.End.{End}
 use Rattle.etcs_reasons.specs.declared.account.End.TheVariants.{Whole, Open, Refused}
 
@@ -26,7 +24,3 @@ abbrev pub Accounts : (Reading → Type 0) → Reading → End → List Bool →
 Accounts L p Whole b = L p × (n : ℕ) × (n ≤ length b) × (spelled p ≡ take n b)
 Accounts L p (Open part) b = Shows L p (num part.count part.bits) b × Owner L b part.var × (part.count < width part.var)
 Accounts L p (Refused bit part) b = Shows L p (num part.count part.bits) (take bit b) × Refuses L b bit part.var × (part.count < width part.var)
-
--- Accounts of some variables, which are the fields if fields are asked for
-abbrev pub AccountsFor : Wanted → (Reading → Type 0) → Reading → End → List Bool → Type 0
-AccountsFor wanted L fields e b = (p : Reading) × Accounts L p e b × (wanted ≡ Fields → fields ≡ p)

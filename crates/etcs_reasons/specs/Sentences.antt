@@ -1,5 +1,5 @@
 -- What is written in words.
-use Rattle.std.specs.Prelude.{◌≡◌, ℕ, ◌<◌, false, length, string_bytes}
+use Rattle.std.specs.Prelude.{◌≡◌, ◌<◌, false, length, string_bytes}
 use Rattle.etcs_reasons.specs.declared.text.Text.{Text}
 
 -- the text isn't empty, unless memory ran out for a part of it

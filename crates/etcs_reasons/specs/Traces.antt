@@ -1,5 +1,5 @@
 -- What a reader has taken of the bits that were fed.
-use Rattle.std.specs.Prelude.{◌≡◌, ℕ, ◌+◌, Bool, List, length}
+use Rattle.std.specs.Prelude.{◌≡◌, ◌+◌, Bool, List, length}
 use Rattle.etcs_vars.specs.Reading.{Reading, spelled}
 use Rattle.etcs_reader.specs.Rests.{Goes}
 use Rattle.etcs_reader.specs.Feeders.{FeederValue}
@@ -14,11 +14,3 @@ pub record Taken (R : Type 0) (left : R → Reading → Type 0) (follows : R →
   pub goes : Goes (left v.rest)
   pub long : length (spelled whole) + length v.part ≡ v.count
   pub accounts : Accounts (left start) whole e xs
-
--- what is left of an item has the variables that were read, which have this many bits; with them the bits xs are
--- accounted for with this end
-pub record IsRead (R S : Type 0) (left : R → Reading → Type 0) (holds : S → R → Reading → Type 0) (far : R → Reading) (L : Reading → Type 0) (xs : List Bool) (v : FeederValue R) (e : End) (bits : ℕ) : Type 0 where
-  pub goes : Goes (left v.rest)
-  pub held : (size : S) × holds size v.rest (far v.rest)
-  pub taken : length (spelled (far v.rest)) ≡ bits
-  pub accounts : Accounts L (far v.rest) e xs

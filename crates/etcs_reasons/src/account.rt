@@ -1,16 +1,13 @@
 //! The variables of an item, one after another, up to its end or the first refused bit.
 
-ghost use Rattle.std.specs.Prelude.{◌≡◌, ◌<◌, ◌≤◌, ◌*◌, ◌/◌, ◌^◌, ◌++◌, [], Bool, List, length, take, IfOk, IfSome, MatchResult};
+ghost use Rattle.std.specs.Prelude.{◌≡◌, ◌<◌, ◌≤◌, ◌+◌, ◌/◌, ◌^◌, ◌++◌, Bool, List, length, take, IfOk};
 ghost use Rattle.etcs_bits.specs.Bits.{bits};
-ghost use Rattle.etcs_vars.specs.Reading.{Reading, readings_of, spelled, IsOutcome, done};
-ghost use Rattle.etcs_vars.proofs.Languages.{Same};
+ghost use Rattle.etcs_vars.specs.Reading.{Reading, readings_of, spelled};
 ghost use Rattle.etcs_reader.specs.Feeders.{Feeds, all_of};
 ghost use Rattle.etcs_reader.specs.Rests.{Goes};
-ghost use Rattle.etcs_sequence.specs.Readables.{IsPart};
-ghost use Rattle.etcs_text.specs.declared.entry.Entry.{Entry};
-ghost use Rattle.etcs_text.specs.Entries.{EntryReads, entry_value};
-ghost use Rattle.etcs_reasons.specs.Accounts.{Accounts, AccountsFor};
-ghost use Rattle.etcs_reasons.specs.Traces.{IsRead, Taken};
+ghost use Rattle.etcs_text.specs.Entries.{EntryReads};
+ghost use Rattle.etcs_reasons.specs.Accounts.{Accounts};
+ghost use Rattle.etcs_reasons.specs.Traces.{Taken};
 
 use etcs_messages::inner::MessageRest;
 use etcs_messages::{Head, Own};
@@ -34,15 +31,6 @@ type ToTrack = MessageRest<TrainHead, TrainBody>;
 
 /// The most bytes that an item has.
 pub const MOST_BYTES: usize = 1023;
-
-/// What an account is made for.
-#[derive(Clone, Copy, Debug, PartialEq, Eq)]
-pub enum Wanted {
-    /// Its variables.
-    Fields,
-    /// A reason: where it ends, without the variables.
-    Reason,
-}
 
 /// The bits before the end of the bytes, or before the refused bit, that aren't of whole variables of the account.
 #[derive(Clone, Copy, Debug, PartialEq, Eq)]
@@ -70,7 +58,7 @@ pub enum End {
 /// The whole variables of an item with their numbers, in the order of sending, and where they end.
 #[derive(Drop)]
 pub struct Account {
-    /// The variables and their numbers. No clause says which they are with [`Wanted::Reason`].
+    /// The variables and their numbers.
     pub fields: Vec<(Var, u64)>,
     /// Where the account ends.
     pub end: End,
@@ -121,120 +109,39 @@ fn end_of<R: Rest>(feeder: &Feeder<R>, fed: Result<usize, Stop>) -> Result<End, 
     }
 }
 
-/// The variables that were read, which take this many bits.
+/// The variables that a reader has taken.
 ///
 /// # Errors
 ///
 /// If memory runs out.
-fn fields_of<R: ItemRest>(
-    alloc: Global,
-    rest: &R,
-    bits: usize,
-) -> Result<Vec<(Var, u64)>, AllocError>
-    requires goes { Goes (R.left rest.now) }
-    requires holds { (size : R.Size) × R.holds size rest.now (R.far rest.now) }
-    requires taken { length (spelled (R.far rest.now)) ≡ bits }
-    ensures { IfOk result (λ fields. fields.items ≡ R.far rest.now) }
+fn fields_of<R: ItemRest>(alloc: Global, feeder: &Feeder<R>) -> Result<Vec<(Var, u64)>, AllocError>
+    requires goes { Goes (R.left feeder.now.rest) }
+    requires holds { (size : R.Size) × R.holds size feeder.now.rest (R.far feeder.now.rest) }
+    requires taken { length (spelled (R.far feeder.now.rest)) + length feeder.now.part ≡ feeder.now.count }
+    ensures { IfOk result (λ fields. fields.items ≡ R.far feeder.now.rest) }
 {
+    let (_, count) = feeder.unfinished();
+    let bits = feeder.count() - count;
     let mut list = PairList::new(alloc);
-    rest.send(bits, &mut list)?;
+    feeder.rest().send(bits, &mut list)?;
     Ok(list.into_vec())
 }
 
-/// Feeds the bytes to a reader of an item of this size, from its first bit on, or after what one pass found of it. Returns the
-/// reader and its result.
-fn fed_of<R: ItemRest>(
-    alloc: Global,
-    size: R::Size,
-    bytes: &[u8],
-    part: Option<(R, usize)>,
-) -> (Feeder<R>, Result<usize, Stop>)
-    requires goes { Goes (readings_of (R.Reads size)) }
-    requires short { length bytes.now ≤ 1023 }
-    requires part { IfSome part (λ t. IsPart R.left R.follows (R.holds size) (R.Reads size) (R.most size) (bits bytes.now) t.0 t.1) }
-    ensures { (start : R) × Same (R.left start) (readings_of (R.Reads size)) × R.holds size start [] × Feeds R R.left R.next R.follows R.fails (all_of start) (bits bytes.now) result.1 result.0 }
-{
-    match part {
-        Some((rest, at)) => Feeder::after(rest, at, bytes),
-        None => {
-            let mut feeder = Feeder::new(R::begin(alloc, size));
-            let fed = feeder.feed(bytes);
-            (feeder, fed)
-        }
-    }
-}
-
-/// A reader of the item of this size that the bytes begin with, which has taken what it can of them; where they end; and how
-/// many bits its variables take.
+/// The account of the item of this size that the bytes begin with.
 ///
 /// # Errors
 ///
 /// If memory runs out.
-fn read_of<R: Traced>(
-    alloc: Global,
-    size: R::Size,
-    bytes: &[u8],
-    part: Option<(R, usize)>,
-) -> Result<(Feeder<R>, End, usize), AllocError>
+fn account_of<R: Traced>(alloc: Global, size: R::Size, bytes: &[u8]) -> Result<Account, AllocError>
     requires goes { Goes (readings_of (R.Reads size)) }
     requires short { length bytes.now ≤ 1023 }
-    requires part { IfSome part (λ t. IsPart R.left R.follows (R.holds size) (R.Reads size) (R.most size) (bits bytes.now) t.0 t.1) }
-    ensures { IfOk result (λ t. IsRead R R.Size R.left R.holds R.far (readings_of (R.Reads size)) (bits bytes.now) t.0 t.1 t.2) }
+    ensures { IfOk result (λ a. Accounts (readings_of (R.Reads size)) a.fields.items a.end (bits bytes.now)) }
 {
-    let (feeder, fed) = fed_of(alloc, size, bytes, part);
+    let mut feeder = Feeder::new(R::begin(alloc, size));
+    let fed = feeder.feed(bytes);
     let end = end_of(&feeder, fed)?;
-    let (_, count) = feeder.unfinished();
-    let bits = feeder.count() - count;
-    Ok((feeder, end, bits))
-}
-
-/// The account of the item of this size that the bytes begin with, after what one pass found of it, if there was one.
-///
-/// # Errors
-///
-/// If memory runs out.
-fn account_of<R: Traced>(
-    alloc: Global,
-    size: R::Size,
-    bytes: &[u8],
-    part: Option<(R, usize)>,
-    wanted: Wanted,
-) -> Result<Account, AllocError>
-    requires goes { Goes (readings_of (R.Reads size)) }
-    requires short { length bytes.now ≤ 1023 }
-    requires part { IfSome part (λ t. IsPart R.left R.follows (R.holds size) (R.Reads size) (R.most size) (bits bytes.now) t.0 t.1) }
-    ensures { IfOk result (λ a. AccountsFor wanted (readings_of (R.Reads size)) a.fields.items a.end (bits bytes.now)) }
-{
-    let (feeder, end, bits) = read_of(alloc, size, bytes, part)?;
-    let rest = feeder.rest();
-    let fields = match wanted {
-        Wanted::Fields => fields_of(alloc, rest, bits)?,
-        Wanted::Reason => Vec::new(alloc),
-    };
+    let fields = fields_of(alloc, &feeder)?;
     Ok(Account { fields, end })
-}
-
-/// How many bytes the item of this size has that the bytes begin with; or the account, if one pass finds no item.
-///
-/// # Errors
-///
-/// If memory runs out.
-fn bytes_or_account<R: Traced>(
-    alloc: Global,
-    size: R::Size,
-    bytes: &[u8],
-    wanted: Wanted,
-) -> Result<Result<usize, Account>, AllocError>
-    requires goes { Goes (readings_of (R.Reads size)) }
-    requires short { length bytes.now ≤ 1023 }
-    ensures { IfOk result (λ o. MatchResult o (λ n. (v : R.Item) × IsOutcome (R.Reads size) (bits bytes.now) (done (R.value v) (8 * n))) (λ a. AccountsFor wanted (readings_of (R.Reads size)) a.fields.items a.end (bits bytes.now))) }
-{
-    let mut part = None;
-    if let Some((_item, taken)) = R::whole(alloc, size, bytes, &mut part) {
-        return Ok(Ok(taken));
-    }
-    let account = account_of(alloc, size, bytes, part, wanted)?;
-    Ok(Err(account))
 }
 
 impl Account {
@@ -261,36 +168,10 @@ impl Account {
     {
         let bytes = &bytes[..bytes.len().min(MOST_BYTES)];
         match kind {
-            Kind::Long => account_of::<Telegrams>(alloc, Size::Long, bytes, None, Wanted::Fields),
-            Kind::Short => account_of::<Telegrams>(alloc, Size::Short, bytes, None, Wanted::Fields),
-            Kind::Radio => account_of::<ToTrain>(alloc, (), bytes, None, Wanted::Fields),
-            Kind::Train => account_of::<ToTrack>(alloc, (), bytes, None, Wanted::Fields),
-        }
-    }
-
-    /// Returns the number of bytes of the item of a kind that the bytes begin with; or an account as [`Account::read`] returns
-    /// it, of the first 1,023 bytes at most, with the fields if they are asked for.
-    ///
-    /// No clause says which of the two: the account may be that of a whole item, for instance if one pass over the bytes ran
-    /// out of memory.
-    ///
-    /// # Errors
-    ///
-    /// If memory runs out.
-    pub fn unless_whole(
-        alloc: Global,
-        kind: Kind,
-        bytes: &[u8],
-        wanted: Wanted,
-    ) -> Result<Result<usize, Account>, AllocError>
-        ensures { IfOk result (λ o. MatchResult o (λ n. (e : Entry) × IsOutcome (EntryReads kind) (bits bytes.now) (done (entry_value e) (8 * n))) (λ a. AccountsFor wanted (readings_of (EntryReads kind)) a.fields.items a.end (take 8184 (bits bytes.now)))) }
-    {
-        let bytes = &bytes[..bytes.len().min(MOST_BYTES)];
-        match kind {
-            Kind::Long => bytes_or_account::<Telegrams>(alloc, Size::Long, bytes, wanted),
-            Kind::Short => bytes_or_account::<Telegrams>(alloc, Size::Short, bytes, wanted),
-            Kind::Radio => bytes_or_account::<ToTrain>(alloc, (), bytes, wanted),
-            Kind::Train => bytes_or_account::<ToTrack>(alloc, (), bytes, wanted),
+            Kind::Long => account_of::<Telegrams>(alloc, Size::Long, bytes),
+            Kind::Short => account_of::<Telegrams>(alloc, Size::Short, bytes),
+            Kind::Radio => account_of::<ToTrain>(alloc, (), bytes),
+            Kind::Train => account_of::<ToTrack>(alloc, (), bytes),
         }
     }
 

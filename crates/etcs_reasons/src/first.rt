@@ -16,9 +16,9 @@ use std::alloc::{AllocError, Global};
 ///
 /// # Errors
 ///
-/// Those of [`EntryReader::feed`]; never `Ended`.
+/// Those of [`fed_unseen`].
 #[inline(always)]
-pub fn fed(alloc: Global, kind: Kind, bytes: &[u8]) -> Result<Fed, ReadFault>
+fn fed(alloc: Global, kind: Kind, bytes: &[u8]) -> Result<Fed, ReadFault>
     ensures { (at : Progress) × Feeds (EntryReads kind) [] (bits bytes.now) result at }
 {
     match seen(kind, bytes) {
@@ -27,9 +27,14 @@ pub fn fed(alloc: Global, kind: Kind, bytes: &[u8]) -> Result<Fed, ReadFault>
     }
 }
 
-/// As [`fed`], where no item is seen.
+/// Returns what a reader of the kind that has read nothing returns for these bytes, for a caller who saw no item at their
+/// front. Of most refused bytes no value is made.
+///
+/// # Errors
+///
+/// Those of [`EntryReader::feed`]; never `Ended`.
 #[inline(never)]
-fn fed_unseen(alloc: Global, kind: Kind, bytes: &[u8]) -> Result<Fed, ReadFault>
+pub fn fed_unseen(alloc: Global, kind: Kind, bytes: &[u8]) -> Result<Fed, ReadFault>
     ensures { (at : Progress) × Feeds (EntryReads kind) [] (bits bytes.now) result at }
 {
     if let Some((bit, var)) = refused_at(kind, bytes) {

@@ -1,38 +1,36 @@
 //! Why bytes are not an item.
 
-ghost use Rattle.std.specs.Prelude.{◌≡◌, ◌<◌, ℕ, length, string_bytes, take, IfOk, IfSome, IsNone};
+ghost use Rattle.std.specs.Prelude.{◌≡◌, ℕ, take, IfOk, IfSome, IsNone};
 ghost use Rattle.etcs_bits.specs.Bits.{bits};
 ghost use Rattle.etcs_vars.specs.declared.var.Var.{Var};
 ghost use Rattle.etcs_vars.specs.Reading.{readings_of};
 ghost use Rattle.etcs_vars.specs.Walking.{Refuses};
+ghost use Rattle.etcs_rows.specs.Refusals.{Explains};
 ghost use Rattle.etcs_text.specs.Entries.{EntryReads};
 ghost use Rattle.etcs_reasons.specs.declared.account.End.{End};
 ghost use Rattle.etcs_reasons.specs.declared.account.Part.{Part};
 ghost use Rattle.etcs_reasons.specs.Sentences.{IsWritten};
 
-use crate::account::{Account, End, MOST_BYTES, Wanted};
+use crate::account::{Account, End};
 use crate::first::is_item;
-use crate::front::Front;
 use crate::kinds::{wanted_bytes, way_of, way_of_message};
 use crate::numbers::is_or_are;
-use crate::reasons::{often, write_reason};
+use crate::reasons::{often, write_meant};
 use crate::text::Text;
+use etcs_rows::{Cause, Here, Refusal};
 use etcs_tables::{Way, message_row};
 use etcs_text::Kind;
-use etcs_text::inner::refused_at;
+use etcs_text::inner::refusal_at;
 use etcs_vars::Var;
 use std::alloc::{AllocError, Global};
 
 /// Where bytes stop being an item, and why.
 #[derive(Debug, Drop)]
 pub struct Reason {
-    /// The first bit with which no item continues, counted from 0.
-    pub bit: usize,
-    /// The variable that holds it.
-    pub var: Var,
-    /// Why, in a sentence with no capital and no full stop.
-    pub sentence: String,
-    /// What such a refusal most often comes from, in the same form, if there is something to name.
+    /// The first bit with which no item continues, the variable that holds it, and why no number of this variable may come
+    /// that begins with its bits up to there. Written by `{}` it is a sentence with no capital and no full stop.
+    pub refusal: Refusal,
+    /// What such a refusal most often comes from, as such a sentence, if there is something to name.
     pub often: Option<&'static str>,
 }
 
@@ -69,6 +67,16 @@ fn advice(alloc: Global, kind: Kind, bytes: &[u8]) -> Result<Option<&'static str
     Ok(None)
 }
 
+/// What it most often comes from that a bit of this variable is refused, if there is something to name.
+fn most_often(
+    alloc: Global,
+    kind: Kind,
+    bytes: &[u8],
+    var: Var,
+) -> Result<Option<&'static str>, AllocError> {
+    Ok(advice(alloc, kind, bytes)?.or(often(kind, bytes, var)))
+}
+
 /// What a message is that is kept as bits and has a number of the other way.
 fn other_way(kind: Kind, bytes: &[u8]) -> Option<&'static str> {
     let way = way_of_message(bytes.first().copied()?)?;
@@ -89,24 +97,31 @@ fn write_open(kind: Kind, bytes: &[u8], out: &mut Text) {
     write!(out, " {} here", is_or_are(count));
 }
 
-/// Appends why this bit is refused, which the variable holds, and returns what this most often comes from in such a kind.
-fn write_refused(
-    kind: Kind,
-    bytes: &[u8],
-    bit: usize,
-    var: Var,
-    out: &mut Text,
-) -> Option<&'static str>
-    ensures { IsWritten out.new }
+/// Appends what the number means that is refused, if the bytes have all of it and the variable admits it nowhere.
+fn write_spare(refusal: &Refusal, out: &mut Text)
+    ensures { IsWritten out.old → IsWritten out.new }
 {
-    let front = Front::new(kind, bytes, bit, var);
-    write_reason(&front, bytes, bit, var, out);
-    often(kind, bytes, var)
+    match (&refusal.here, refusal.cause, refusal.number) {
+        (Here::Any | Here::Row(_, _, _), Cause::Spare, Some(number)) => {
+            write_meant(refusal.var, number, out);
+        }
+        _ => {}
+    }
+}
+
+/// Appends why a bit of the bytes is refused, if one is: its refusal in words, and what its number means.
+fn write_refused(kind: Kind, bytes: &[u8], out: &mut Text)
+    ensures { (i : ℕ) (x : Var) → Refuses (readings_of (EntryReads kind)) (take 8184 (bits bytes.now)) i x → IsWritten out.new }
+{
+    if let Some(refusal) = refusal_at(kind, bytes) {
+        write!(out, "{refusal}");
+        write_spare(&refusal, out);
+    }
 }
 
 /// Appends why the bytes of an account are not an item, and returns what this most often comes from. For an item nothing is
-/// appended; the result is then what a message is whose number is of the other way. If the account has a refused bit,
-/// something is appended, or the text notes that memory ran out.
+/// appended; the result is then what a message is whose number is of the other way. If the account has a refused bit, and one
+/// of the bytes' first 8,184 bits is refused, something is appended, or the text notes that memory ran out.
 ///
 /// # Errors
 ///
@@ -117,100 +132,35 @@ pub fn write_cause(
     account: &Account,
     out: &mut Text,
 ) -> Result<Option<&'static str>, AllocError>
-    ensures { (bit : ℕ) (part : Part) → account.now.end ≡ End.Refused bit part → IsWritten out.new }
+    ensures { (bit : ℕ) (part : Part) → account.now.end ≡ End.Refused bit part → (i : ℕ) (x : Var) → Refuses (readings_of (EntryReads kind)) (take 8184 (bits bytes.now)) i x → IsWritten out.new }
 {
-    let usual = match account.end {
-        End::Whole => return Ok(other_way(kind, bytes)),
+    match account.end {
+        End::Whole => Ok(other_way(kind, bytes)),
         End::Open(_) => {
             write_open(kind, bytes, out);
-            None
+            advice(out.alloc(), kind, bytes)
         }
-        End::Refused(bit, part) => write_refused(kind, bytes, bit, part.var, out),
-    };
-    Ok(advice(out.alloc(), kind, bytes)?.or(usual))
-}
-
-/// The reason of this refused bit, which the variable holds.
-///
-/// # Errors
-///
-/// If memory runs out.
-fn reason_at(
-    alloc: Global,
-    kind: Kind,
-    bytes: &[u8],
-    bit: usize,
-    var: Var,
-) -> Result<Reason, AllocError>
-    ensures { IfOk result (λ r. (r.bit ≡ bit) × (r.var ≡ var) × (0 < length (string_bytes r.sentence))) }
-{
-    let mut sentence = Text::new(alloc);
-    let usual = write_refused(kind, bytes, bit, var, &mut sentence);
-    Ok(Reason {
-        bit,
-        var,
-        sentence: sentence.into_string()?,
-        often: advice(alloc, kind, bytes)?.or(usual),
-    })
-}
-
-/// Returns why a bit of the bytes is refused, from their account: the account's refused bit, the variable of its part, and a
-/// sentence that isn't empty. `None` only if the account has no refused bit. No clause says what the sentence is.
-///
-/// # Errors
-///
-/// If memory runs out.
-pub fn reason_of(
-    alloc: Global,
-    kind: Kind,
-    bytes: &[u8],
-    account: &Account,
-) -> Result<Option<Reason>, AllocError>
-    ensures some { IfOk result (λ o. IfSome o (λ r. (part : Part) × (account.now.end ≡ End.Refused r.bit part) × (part.var ≡ r.var) × (0 < length (string_bytes r.sentence)))) }
-    ensures none { IfOk result (λ o. IsNone o → (bit : ℕ) (part : Part) → account.now.end ≡ End.Refused bit part → ⊥) }
-{
-    let End::Refused(bit, part) = account.end else {
-        return Ok(None);
-    };
-    Ok(Some(reason_at(alloc, kind, bytes, bit, part.var)?))
-}
-
-/// The first bit of the first 1,023 bytes at most with which no item of the kind continues, and the variable that holds it. In
-/// most cases no value is made.
-///
-/// # Errors
-///
-/// If memory runs out.
-fn refused_bit(alloc: Global, kind: Kind, bytes: &[u8]) -> Result<Option<(usize, Var)>, AllocError>
-    ensures some { IfOk result (λ o. IfSome o (λ t. Refuses (readings_of (EntryReads kind)) (take 8184 (bits bytes.now)) t.0 t.1)) }
-    ensures none { IfOk result (λ o. IsNone o → (i : ℕ) (x : Var) → Refuses (readings_of (EntryReads kind)) (take 8184 (bits bytes.now)) i x → ⊥) }
-{
-    if let Some(found) = refused_at(kind, &bytes[..bytes.len().min(MOST_BYTES)]) {
-        return Ok(Some(found));
-    }
-    let Err(account) = Account::unless_whole(alloc, kind, bytes, Wanted::Reason)? else {
-        return Ok(None);
-    };
-    match account.end {
-        End::Refused(bit, part) => Ok(Some((bit, part.var))),
-        End::Open(_) => Ok(None),
-        End::Whole => Ok(None),
+        End::Refused(_, part) => {
+            write_refused(kind, bytes, out);
+            most_often(out.alloc(), kind, bytes, part.var)
+        }
     }
 }
 
 /// Returns why the bytes don't begin an item of the kind: of the first 1,023 bytes at most the first bit with which no item
-/// continues, which the kind's reader refuses, the variable that holds it, and a sentence that isn't empty. `None` only if
-/// there is no such bit: the bytes then begin with an item or end inside one. No clause says what the sentence is.
+/// continues, which the kind's reader refuses, the variable that holds it, and why no number of this variable may come that
+/// begins with its bits up to there. `None` only if there is no such bit: the bytes then begin with an item or end inside one.
 ///
 /// # Errors
 ///
 /// If memory runs out.
 pub fn why(alloc: Global, kind: Kind, bytes: &[u8]) -> Result<Option<Reason>, AllocError>
-    ensures some { IfOk result (λ o. IfSome o (λ r. Refuses (readings_of (EntryReads kind)) (take 8184 (bits bytes.now)) r.bit r.var × (0 < length (string_bytes r.sentence)))) }
+    ensures some { IfOk result (λ o. IfSome o (λ r. Refuses (readings_of (EntryReads kind)) (take 8184 (bits bytes.now)) r.refusal.bit r.refusal.var × Explains (readings_of (EntryReads kind)) (take 8184 (bits bytes.now)) r.refusal)) }
     ensures none { IfOk result (λ o. IsNone o → (i : ℕ) (x : Var) → Refuses (readings_of (EntryReads kind)) (take 8184 (bits bytes.now)) i x → ⊥) }
 {
-    match refused_bit(alloc, kind, bytes)? {
-        Some((bit, var)) => Ok(Some(reason_at(alloc, kind, bytes, bit, var)?)),
-        None => Ok(None),
-    }
+    let Some(refusal) = refusal_at(kind, bytes) else {
+        return Ok(None);
+    };
+    let often = most_often(alloc, kind, bytes, refusal.var)?;
+    Ok(Some(Reason { refusal, often }))
 }

@@ -1,6 +1,6 @@
 //! A text that is put together by calls that don't fail.
 
-ghost use Rattle.std.specs.Prelude.{◌≡◌, ℕ, ◌<◌, ◌||◌, is_err, length, string_bytes, IfOk, IsSome};
+ghost use Rattle.std.specs.Prelude.{◌≡◌, ℕ, ◌<◌, ◌||◌, is_err, length, string_bytes, IfOk, IfSome, IsSome};
 ghost use Rattle.etcs_reasons.specs.Sentences.{IsWritten};
 
 use std::alloc::{AllocError, Global};
@@ -49,7 +49,8 @@ impl Text {
 
     /// Appends what `write!` has.
     pub fn write_fmt<D: Display + Drop>(&mut self, part: D)
-        ensures { IsSome (D.output part) → IsWritten self.old → IsWritten self.new }
+        ensures some { IfSome (D.output part) (λ text. 0 < length text → IsWritten self.new) }
+        ensures kept { IsSome (D.output part) → IsWritten self.old → IsWritten self.new }
     {
         let written = self.held.write_fmt(part);
         self.note(written);

@@ -11,20 +11,21 @@ use Rattle.etcs_messages.proofs.Bytes.{some_message}
 use Rattle.etcs_text.specs.declared.entry.Kind.TheVariants.{Long, Short, Radio, Train}
 use Rattle.etcs_text.specs.Entries.{EntryReads}
 use Rattle.etcs_text.proofs.ItemKinds.{same_telegrams, same_messages}
-use Rattle.etcs_reasons.proofs.Accounting.{first_bits, of_kind}
+use Rattle.etcs_text.proofs.Refusals.{first_bits}
+use Rattle.etcs_reasons.proofs.Accounting.{of_kind}
 use Rattle.etcs_reasons.proofs.account.Account.read.Goals as goal
 
 pub account_of-requires : goal.account_of-requires
-account_of-requires c = record { goes = some_telegram size.Long; short = omega (arith, length-take-le c.min.result c.args.bytes.now (omega (arith, c.min.ensures)), c.min.ensures); part = tt }
+account_of-requires c = record { goes = some_telegram size.Long; short = omega (arith, length-take-le c.min.result c.args.bytes.now (omega (arith, c.min.ensures)), c.min.ensures) }
 
 pub account_of-requires-in-Short : goal.account_of-requires-in-Short
-account_of-requires-in-Short c = record { goes = some_telegram size.Short; short = omega (arith, length-take-le c.min.result c.args.bytes.now (omega (arith, c.min.ensures)), c.min.ensures); part = tt }
+account_of-requires-in-Short c = record { goes = some_telegram size.Short; short = omega (arith, length-take-le c.min.result c.args.bytes.now (omega (arith, c.min.ensures)), c.min.ensures) }
 
 pub account_of-requires-in-Radio : goal.account_of-requires-in-Radio
-account_of-requires-in-Radio c = record { goes = some_message ToTrain; short = omega (arith, length-take-le c.min.result c.args.bytes.now (omega (arith, c.min.ensures)), c.min.ensures); part = tt }
+account_of-requires-in-Radio c = record { goes = some_message ToTrain; short = omega (arith, length-take-le c.min.result c.args.bytes.now (omega (arith, c.min.ensures)), c.min.ensures) }
 
 pub account_of-requires-in-Train : goal.account_of-requires-in-Train
-account_of-requires-in-Train c = record { goes = some_message ToTrack; short = omega (arith, length-take-le c.min.result c.args.bytes.now (omega (arith, c.min.ensures)), c.min.ensures); part = tt }
+account_of-requires-in-Train c = record { goes = some_message ToTrack; short = omega (arith, length-take-le c.min.result c.args.bytes.now (omega (arith, c.min.ensures)), c.min.ensures) }
 
 pub returns-in-Long : goal.returns-in-Long
 returns-in-Long c =

@@ -1,6 +1,6 @@
 //! Where an item was cut short, and a line begins another.
 
-ghost use Rattle.std.specs.Prelude.{◌≡◌, ℕ, IfOk, IsTrue, false};
+ghost use Rattle.std.specs.Prelude.{◌≡◌, ℕ, IfOk, IsTrue};
 ghost use Rattle.etcs_reasons.specs.declared.account.End.{End};
 ghost use Rattle.etcs_reasons.specs.declared.account.Part.{Part};
 ghost use Rattle.etcs_explain.specs.Cuts.{IsCut};
@@ -10,6 +10,7 @@ use etcs_reasons::inner::way_of;
 use etcs_reasons::{Account, End};
 use etcs_tables::message_row;
 use etcs_text::Kind;
+use etcs_text::inner::refusal_at;
 use std::alloc::{AllocError, Global};
 
 /// Whether the item that the held bytes begin was cut short before the bytes of a line. If this is true, the held bytes
@@ -32,8 +33,7 @@ pub(crate) fn is_cut(
     let is_longer = all.len() > wanted(kind, all.as_slice());
     let alone = Account::read(alloc, kind, line)?;
     if begins(kind, line, &alone, is_longer) {
-        let both = Account::read(alloc, kind, all.as_slice())?;
-        return Ok(is_refused(both.end));
+        return Ok(refusal_at(kind, all.as_slice()).is_some());
     }
     Ok(false)
 }
@@ -56,11 +56,4 @@ fn is_kept(kind: Kind, bytes: &[u8]) -> bool {
         (Kind::Radio | Kind::Train, Some(nid)) => message_row(way_of(kind), *nid).is_none(),
         _ => false,
     }
-}
-
-/// Whether a bit is refused.
-fn is_refused(end: End) -> bool
-    ensures { IsTrue result → (bit : ℕ) × (part : Part) × (end ≡ End.Refused bit part) }
-{
-    matches!(end, End::Refused(_, _))
 }

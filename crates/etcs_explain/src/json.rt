@@ -3,7 +3,8 @@
 ghost use Rattle.std.specs.Prelude.{◌<◌, length, string_bytes, IfOk};
 ghost use Rattle.etcs_reasons.specs.Sentences.{IsWritten};
 
-use crate::no_json::{MOST_JSON, shallow_front, write_no_json, write_too_deep};
+use crate::line_reason::{JsonReason, Misfit};
+use crate::no_json::{MOST_JSON, write_stop};
 use crate::quoted::{Quoted, is_word};
 use etcs_json::JsonFault;
 use etcs_json_trees::tree_of;
@@ -21,14 +22,23 @@ use serde_json::{Map, Value};
 use std::alloc::{AllocError, Global};
 use std::fmt;
 
-/// Writes that a part is wrong, and why, and returns none.
+/// Notes that a part is wrong, by what is expected and found there, with words between them, or by words alone, and returns
+/// none.
 macro_rules! wrong {
-    ($part:expr, $out:ident; $($text:tt)*) => {{
-        $part.write_path($out);
-        wrong!($out; $($text)*);
+    ($part:expr, $out:ident; expected [$($expected:tt)*] found $found:expr) => {
+        wrong!($part, $out; expected [$($expected)*] [""] found $found)
+    };
+    ($part:expr, $out:ident; expected [$($expected:tt)*] [$($rest:tt)*] found $found:expr) => {{
+        write!($out.found, "{}", $found);
+        wrong!($part, $out; expected [$($expected)*] [$($rest)*])
     }};
-    ($out:ident; $($text:tt)*) => {{
-        write!($out, $($text)*);
+    ($part:expr, $out:ident; expected [$($expected:tt)*] [$($rest:tt)*]) => {{
+        write!($out.expected, $($expected)*);
+        wrong!($part, $out; $($rest)*)
+    }};
+    ($part:expr, $out:ident; $($text:tt)*) => {{
+        $part.write_path(&mut $out.path);
+        write!($out.rest, $($text)*);
         return None;
     }};
 }
@@ -110,8 +120,9 @@ impl<'a> Part<'a> {
         }
     }
 
-    /// Writes the beginning of a reason: the path after its first point.
+    /// Writes its path.
     fn write_path(self, out: &mut Text) {
+        out.push(".");
         if let Some(packet) = self.packet {
             write!(out, "packets[{packet}]");
         }
@@ -126,7 +137,6 @@ impl<'a> Part<'a> {
         if let Some(entry) = self.entry {
             write!(out, "[{entry}]");
         }
-        out.push(": ");
     }
 
     /// The member of a name, as a path alone.
@@ -141,15 +151,15 @@ impl<'a> Part<'a> {
     }
 
     /// The object that it is.
-    fn object(self, out: &mut Text) -> Option<&'a Map<String, Value>> {
+    fn object(self, out: &mut Misfit) -> Option<&'a Map<String, Value>> {
         match self.value.as_object() {
             Some(map) => Some(map),
-            None => wrong!(self, out; "expected an object, found {}", Brief(self.value)),
+            None => wrong!(self, out; expected ["an object"] found Brief(self.value)),
         }
     }
 
     /// The member of a name.
-    fn member(self, name: &'static str, out: &mut Text) -> Option<Part<'a>> {
+    fn member(self, name: &'static str, out: &mut Misfit) -> Option<Part<'a>> {
         let part = self.named(name);
         match self.object(out)?.get(name) {
             Some(value) => Some(Part { value, ..part }),
@@ -158,7 +168,7 @@ impl<'a> Part<'a> {
     }
 
     /// Tests that it is an object with no members but these.
-    fn test_names(self, names: &[&str], out: &mut Text) -> Option<()> {
+    fn test_names(self, names: &[&str], out: &mut Misfit) -> Option<()> {
         for (name, _) in self.object(out)?.iter() {
             if !(&*names).contains(&name.as_str()) {
                 wrong!(self.named(name.as_str()), out; "unexpected member");
@@ -168,35 +178,33 @@ impl<'a> Part<'a> {
     }
 
     /// The whole number that it is.
-    fn number(self, most: u64, out: &mut Text) -> Option<u64> {
+    fn number(self, most: u64, out: &mut Misfit) -> Option<u64> {
         match self.value.as_u64() {
             Some(number) if number <= most => Some(number),
             _ if is_float(self.value) =>
-                wrong!(self, out; "expected a whole number from 0 to {most}, {PLAIN}"),
-            _ => {
-                let value = Brief(self.value);
-                wrong!(self, out; "expected a whole number from 0 to {most}, found {value}")
-            }
+                wrong!(self, out; expected ["a whole number from 0 to {most}"] [", {PLAIN}"]),
+            _ =>
+                wrong!(self, out; expected ["a whole number from 0 to {most}"] found Brief(self.value)),
         }
     }
 
     /// The NID_MESSAGE or NID_PACKET of an item.
-    fn nid(self, out: &mut Text) -> Option<u8> {
+    fn nid(self, out: &mut Misfit) -> Option<u8> {
         Some(low_byte(self.member("nid", out)?.number(255, out)?))
     }
 
     /// How many bits it has as a text.
-    fn bits(self, out: &mut Text) -> Option<usize> {
+    fn bits(self, out: &mut Misfit) -> Option<usize> {
         if let Some(text) = self.value.as_str() {
             if text.as_bytes().iter().all(|c| matches!(*c, b'0' | b'1')) {
                 return Some(text.len());
             }
         }
-        wrong!(self, out; "expected a string of zeros and ones")
+        wrong!(self, out; expected ["a string of zeros and ones"] [""])
     }
 
     /// Tests that it has this many bits.
-    fn test_bits(self, wanted: usize, out: &mut Text) -> Option<()> {
+    fn test_bits(self, wanted: usize, out: &mut Misfit) -> Option<()> {
         let count = self.bits(out)?;
         if count == wanted {
             return Some(());
@@ -207,52 +215,51 @@ impl<'a> Part<'a> {
             "lengthen"
         };
         let by = count.max(wanted).saturating_sub(count.min(wanted));
-        self.write_path(out);
-        write_bits(count, out);
+        write_bits(count, &mut out.rest);
         let are = is_or_are(wanted);
-        wrong!(out; ", and {wanted} {are} left: {what} it by {by}")
+        wrong!(self, out; ", and {wanted} {are} left: {what} it by {by}")
     }
 
     /// The number of a variable, if the pair of this path has this value.
-    fn number_of(self, value: &Value, var: Var, out: &mut Text) -> Option<u64> {
+    fn number_of(self, value: &Value, var: Var, out: &mut Misfit) -> Option<u64> {
         if var == Var::NID_RADIO {
             let digits = value.as_str().unwrap_or("").as_bytes();
             if digits.len() == 16 && digits.iter().all(u8::is_ascii_hexdigit) {
                 return Some(0);
             }
-            wrong!(self, out; "expected a string of 16 hexadecimal digits for {var}");
+            wrong!(self, out; expected ["a string of 16 hexadecimal digits"] [" for {var}"]);
         }
         let number = value.as_u64();
         match number {
             Some(number) if var.admits(number) => Some(number),
             Some(_) => {
-                self.write_path(out);
-                write_not_admitted(var, number, out);
-                None
+                write_not_admitted(var, number, &mut out.rest);
+                wrong!(self, out; "")
             }
             None if is_float(value) =>
-                wrong!(self, out; "expected a whole number of at most 64 bits for {var}, {PLAIN}"),
-            None => wrong!(self, out; "expected a whole number for {var}, found {}", Brief(value)),
+                wrong!(self, out; expected ["a whole number of at most 64 bits"] [" for {var}, {PLAIN}"]),
+            None =>
+                wrong!(self, out; expected ["a whole number"] [" for {var}"] found Brief(value)),
         }
     }
 
     /// The number in the pair of a variable.
-    fn pair(self, var: Var, after: After<'_>, out: &mut Text) -> Option<u64> {
+    fn pair(self, var: Var, after: After<'_>, out: &mut Misfit) -> Option<u64> {
         let value = self.value;
         let (name, number) = (value.get(0usize), value.get(1usize));
         let (Some(name), Some(number), None) = (name, number, value.get(2usize)) else {
-            wrong!(self, out; "expected a pair [\"{var}\", number]");
+            wrong!(self, out; expected ["a pair [\"{var}\", number]"] [""]);
         };
         if name.as_str() == Some(var.name()) {
             return self.number_of(number, var, out);
         }
-        wrong!(self, out; "expected {var} {after}, found {}", Brief(name))
+        wrong!(self, out; expected ["{var}"] [" {after}"] found Brief(name))
     }
 
     /// How many bits the pairs of a row have.
-    fn pairs(self, row: Row, out: &mut Text) -> Option<usize> {
+    fn pairs(self, row: Row, out: &mut Misfit) -> Option<usize> {
         let Some(list) = self.value.as_array() else {
-            wrong!(self, out; "expected a list of pairs, found {}", Brief(self.value));
+            wrong!(self, out; expected ["a list of pairs"] found Brief(self.value));
         };
         let mut place = Place::start(row);
         let mut after = After::Nothing;
@@ -277,12 +284,13 @@ impl<'a> Part<'a> {
         }
         match place.var() {
             None => Some(count),
-            Some(var) => wrong!(self, out; "expected {var} {after}, found the end of the list"),
+            Some(var) =>
+                wrong!(self, out; expected ["{var}"] [" {after}"] found "the end of the list"),
         }
     }
 
     /// How many bits a packet of an item of a kind has.
-    fn packet(self, kind: Kind, out: &mut Text) -> Option<usize> {
+    fn packet(self, kind: Kind, out: &mut Misfit) -> Option<usize> {
         let nid = self.nid(out)?;
         let way = way_of(kind);
         if !is_framed(way, nid) {
@@ -316,7 +324,7 @@ impl<'a> Part<'a> {
     }
 
     /// How many bits packet 0 has, which only telegrams may have; packet 255 isn't listed.
-    fn unframed(self, kind: Kind, nid: u8, out: &mut Text) -> Option<usize> {
+    fn unframed(self, kind: Kind, nid: u8, out: &mut Misfit) -> Option<usize> {
         if kind == Kind::Radio {
             wrong!(self.named("nid"), out; "a message has no packet {nid}");
         }
@@ -329,10 +337,10 @@ impl<'a> Part<'a> {
     }
 
     /// How many bits the packets of an item of a kind have.
-    fn packets(self, kind: Kind, out: &mut Text) -> Option<usize> {
+    fn packets(self, kind: Kind, out: &mut Misfit) -> Option<usize> {
         let member = self.member("packets", out)?;
         let Some(list) = member.value.as_array() else {
-            wrong!(member, out; "expected a list, found {}", Brief(member.value));
+            wrong!(member, out; expected ["a list"] found Brief(member.value));
         };
         let mut count = 0usize;
         for (index, value) in list.as_slice().iter().enumerate() {
@@ -345,18 +353,18 @@ impl<'a> Part<'a> {
     }
 
     /// Tests that an item has no members but these, and is of the kind.
-    fn test_kind(self, kind: Kind, names: &[&str], out: &mut Text) -> Option<()> {
+    fn test_kind(self, kind: Kind, names: &[&str], out: &mut Misfit) -> Option<()> {
         self.test_names(names, out)?;
         let member = self.member("kind", out)?;
         let word = word(kind);
         if member.value.as_str() == Some(word) {
             return Some(());
         }
-        wrong!(member, out; "expected \"{word}\", as in --kind, found {}", Brief(member.value))
+        wrong!(member, out; expected ["\"{word}\""] [", as in --kind"] found Brief(member.value))
     }
 
     /// How many bits an item has before its packets.
-    fn front_bits(self, kind: Kind, out: &mut Text) -> Option<usize> {
+    fn front_bits(self, kind: Kind, out: &mut Misfit) -> Option<usize> {
         if let Kind::Long | Kind::Short = kind {
             return self.member("header", out)?.pairs(header_row(), out);
         }
@@ -371,7 +379,7 @@ impl<'a> Part<'a> {
     }
 
     /// Which packet of an item has this bit.
-    fn packet_at(self, kind: Kind, bit: usize, out: &mut Text) -> Option<usize> {
+    fn packet_at(self, kind: Kind, bit: usize, out: &mut Misfit) -> Option<usize> {
         let mut end = self.front_bits(kind, out)?;
         let list = self.member("packets", out)?.value.as_array()?;
         for (index, value) in list.as_slice().iter().enumerate() {
@@ -387,7 +395,7 @@ impl<'a> Part<'a> {
     }
 
     /// Tests a telegram.
-    fn test_telegram(self, kind: Kind, out: &mut Text) -> Option<()> {
+    fn test_telegram(self, kind: Kind, out: &mut Misfit) -> Option<()> {
         self.test_kind(kind, &["kind", "header", "packets", "fill"], out)?;
         let front = self.front_bits(kind, out)?;
         let packets = self.packets(kind, out)?;
@@ -400,7 +408,7 @@ impl<'a> Part<'a> {
     }
 
     /// Tests a message that isn't kept as bits.
-    fn test_message(self, kind: Kind, out: &mut Text) -> Option<()> {
+    fn test_message(self, kind: Kind, out: &mut Misfit) -> Option<()> {
         let names = ["kind", "nid", "header", "fields", "packets", "padding"];
         self.test_kind(kind, &names, out)?;
         let front = self.front_bits(kind, out)?;
@@ -425,7 +433,7 @@ impl<'a> Part<'a> {
     }
 
     /// Tests a message with data, which is kept as bits.
-    fn test_kept(self, kind: Kind, out: &mut Text) -> Option<()> {
+    fn test_kept(self, kind: Kind, out: &mut Misfit) -> Option<()> {
         let typed = self.typed_message(kind);
         let names = match typed {
             Some(_) => &[
@@ -441,17 +449,15 @@ impl<'a> Part<'a> {
         let member = self.member("data", out)?;
         let count = member.bits(out)?;
         if count % 8 != 6 || count > 8166 {
-            member.write_path(out);
-            write_bits(count, out);
-            wrong!(out; ", but with the 18 before it a message has 3 to 1,023 whole bytes");
+            write_bits(count, &mut out.rest);
+            wrong!(member, out; ", but with the 18 before it a message has 3 to 1,023 whole bytes");
         }
         Some(())
     }
 }
 
-/// Why no item of the kind has a tree: the path of the first part that is wrong, after its first point, and the reason.
-/// Nothing is written if none is found.
-fn test_tree(kind: Kind, tree: &Value, out: &mut Text) -> Option<()> {
+/// Tests that an item of the kind has a tree. If none is sure to have it, notes the first part that is wrong, and why.
+fn test_tree(kind: Kind, tree: &Value, out: &mut Misfit) -> Option<()> {
     let whole = Part::whole(tree);
     match kind {
         Kind::Long | Kind::Short => whole.test_telegram(kind, out),
@@ -461,43 +467,38 @@ fn test_tree(kind: Kind, tree: &Value, out: &mut Text) -> Option<()> {
 }
 
 /// Appends why no item of the kind has a tree.
-fn write_no_tree(kind: Kind, tree: &Value, out: &mut Text)
+fn write_no_tree(kind: Kind, tree: &Value, misfit: &mut Misfit, out: &mut Text)
     ensures { IsWritten out.new }
 {
-    let mut wrong = Text::new(out.alloc());
-    match test_tree(kind, tree, &mut wrong) {
+    match test_tree(kind, tree, misfit) {
         Some(()) => out.push("no item of the kind has this JSON"),
-        None => {
-            out.push(".");
-            out.push_whole(&wrong);
-        }
+        None => misfit.write(out),
     }
 }
 
 /// Appends why no item of the kind has the JSON of a line.
-fn write_shape(kind: Kind, line: &[u8], out: &mut Text)
+fn write_shape(kind: Kind, line: &[u8], misfit: &mut Misfit, out: &mut Text)
     ensures { IsWritten out.new }
 {
     if line.len() > MOST_JSON {
         write!(out, "{}", line.len());
         return out.push(" bytes: the reason is only looked for in up to 65,536");
     }
-    let front = shallow_front(line);
-    match Value::from_slice(out.alloc(), front) {
-        Ok(tree) => write_no_tree(kind, &tree, out),
+    if write_stop(line, misfit, out) {
+        return;
+    }
+    match Value::from_slice(out.alloc(), line) {
+        Ok(tree) => write_no_tree(kind, &tree, misfit, out),
         Err(error) if error.is_memory() => out.note(Err(AllocError)),
-        Err(error) if error.is_eof() && front.len() < line.len() => {
-            write_too_deep(front.len(), out)
-        }
-        Err(error) => write_no_json(front, &error, out),
+        Err(_) => out.push("not JSON: the magnitude of a number is more than 1.8e308"),
     }
 }
 
 /// Appends that a bit of an item is refused, which is among the bits of a packet in the JSON of a line.
-fn write_refused(kind: Kind, line: &[u8], bit: usize, var: Var, out: &mut Text)
+fn write_refused(kind: Kind, line: &[u8], bit: usize, var: Var, misfit: &mut Misfit, out: &mut Text)
     ensures { IsWritten out.new }
 {
-    let mut unsaid = Text::new(out.alloc());
+    let mut unsaid = Misfit::new(out.alloc());
     let Ok(tree) = tree_of(out.alloc(), line) else {
         return out.note(Err(AllocError));
     };
@@ -506,22 +507,38 @@ fn write_refused(kind: Kind, line: &[u8], bit: usize, var: Var, out: &mut Text)
         None => None,
     };
     if let Some(packet) = packet {
-        write!(out, ".packets[{packet}].data: ");
+        write!(misfit.path, ".packets[{packet}].data");
+        out.push_whole(&misfit.path);
+        out.push(": ");
     }
     out.push("the bits are refused at bit ");
     write!(out, "{bit} of the item, ");
     out.push(var.name());
 }
 
+/// Appends why a line of JSON is not an item, after this fault, and notes what is wrong.
+pub(crate) fn write_why(
+    kind: Kind,
+    line: &[u8],
+    fault: JsonFault,
+    misfit: &mut Misfit,
+    out: &mut Text,
+)
+    ensures { IsWritten out.new }
+{
+    match fault {
+        JsonFault::Shape => write_shape(kind, line, misfit, out),
+        JsonFault::Refused { bit, var } => write_refused(kind, line, bit, var, misfit, out),
+        JsonFault::Memory => out.note(Err(AllocError)),
+    }
+}
+
 /// Appends why a line of JSON is not an item, after this fault.
 pub(crate) fn write_no_item(kind: Kind, line: &[u8], fault: JsonFault, out: &mut Text)
     ensures { IsWritten out.new }
 {
-    match fault {
-        JsonFault::Shape => write_shape(kind, line, out),
-        JsonFault::Refused { bit, var } => write_refused(kind, line, bit, var, out),
-        JsonFault::Memory => out.note(Err(AllocError)),
-    }
+    let mut misfit = Misfit::new(out.alloc());
+    write_why(kind, line, fault, &mut misfit, out);
 }
 
 /// Returns why a line isn't the JSON of an item of the kind, after `from_line` returned this fault for it: the path of the
@@ -538,7 +555,5 @@ pub fn json_reason(
 ) -> Result<String, AllocError>
     ensures ok { IfOk result (λ s. 0 < length (string_bytes s)) }
 {
-    let mut reason = Text::new(alloc);
-    write_no_item(kind, line, fault, &mut reason);
-    reason.into_string()
+    Ok(JsonReason::of_line(alloc, kind, line, fault)?.reason)
 }

@@ -8,6 +8,7 @@ mod explainer;
 mod hints;
 mod items;
 mod json;
+mod line_reason;
 mod no_json;
 mod quoted;
 mod run;
@@ -17,5 +18,6 @@ mod titles;
 
 pub use etcs_reasons::{Account, End, Layout, Part, Reason, why};
 pub use json::json_reason;
+pub use line_reason::JsonReason;
 pub use run::explain;
 pub use task::Task;

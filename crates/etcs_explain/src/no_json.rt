@@ -1,11 +1,11 @@
 //! Where a line stops being JSON, or nests lists and objects deeper than any item.
 
+ghost use Rattle.std.specs.Prelude.{IsTrue};
 ghost use Rattle.etcs_reasons.specs.Sentences.{IsWritten};
 
+use crate::line_reason::Misfit;
 use crate::quoted::Escaped;
 use etcs_reasons::inner::Text;
-use serde_json::{Error, Value};
-use std::alloc::AllocError;
 
 /// The most bytes of a line of JSON for which a reason is looked for.
 pub(crate) const MOST_JSON: usize = 65_536;
@@ -13,199 +13,196 @@ pub(crate) const MOST_JSON: usize = 65_536;
 /// How deep lists and objects are looked into. An item nests them 5 deep.
 const MOST_DEEP: usize = 6;
 
-/// The front of a line before the first list or object that is nested deeper; all of the line if there is none.
-pub(crate) fn shallow_front(line: &[u8]) -> &[u8] {
-    let mut depth = 0usize;
-    let mut is_text = false;
-    let mut is_escaped = false;
-    for (place, byte) in line.iter().enumerate() {
-        match *byte {
-            _ if is_escaped => is_escaped = false,
-            b'\\' => is_escaped = is_text,
-            b'"' => is_text = !is_text,
-            _ if is_text => {}
-            b'[' | b'{' if depth == MOST_DEEP => return line.get(..place).unwrap_or(line),
-            b'[' | b'{' => depth = depth.saturating_add(1),
-            b']' | b'}' => depth = depth.saturating_sub(1),
-            _ => {}
-        }
-    }
-    line
-}
+/// The digits of an escape.
+const HEX: &[u8] = b"0123456789abcdefABCDEF";
 
-/// Appends that a list or an object at this place is nested too deep.
-pub(crate) fn write_too_deep(place: usize, out: &mut Text)
-    ensures { IsWritten out.new }
-{
-    let column = place.saturating_add(1);
-    write!(
-        out,
-        "lists and objects are nested more than {MOST_DEEP} deep at column {column}"
-    );
-    out.push(", and an item has 5 levels");
-}
+/// The rest of an escape from D800 to DBFF, the first half of a character, and its other half, one from DC00 to DFFF.
+const HALVES: &[&[u8]] = &[HEX, HEX, b"\\", b"u", b"dD", b"cdefCDEF", HEX, HEX];
 
-/// Appends where a line of at most that many bytes, refused with this error, stops being JSON.
-pub(crate) fn write_no_json(line: &[u8], error: &Error, out: &mut Text)
-    ensures { IsWritten out.new }
-{
-    out.push("not JSON: ");
-    if is_too_large(error, out) {
-        return out.push("the magnitude of a number is more than 1.8e308");
-    }
-    let front = front_of(line, out);
-    let column = front.len().saturating_add(1);
-    if front.len() == line.len() {
-        write!(
-            out,
-            "the line ends at column {}, inside a value",
-            line.len()
-        );
-        return out.push("; jq -c . joins several lines into one");
-    }
-    out.push("unexpected ");
-    write_character(line.get(front.len()..).unwrap_or(&[]), out);
-    out.push(" at column ");
-    write!(out, "{column}");
-}
-
-/// Appends the character that bytes begin with, or the first byte if it isn't UTF-8.
-fn write_character(bytes: &[u8], out: &mut Text) {
-    for count in 1..5usize {
-        let front = bytes.get(..count).unwrap_or(bytes);
-        if let Ok(text) = std::str::from_utf8(front) {
-            return match text {
-                " " => out.push("space"),
-                _ => write!(out, "{}", Escaped(text)),
-            };
-        }
-    }
-    if let Some(byte) = bytes.first() {
-        write!(out, "byte {byte:02X}");
-    }
-}
-
-/// The longest front of a line with which JSON begins.
-fn front_of<'a>(line: &'a [u8], out: &mut Text) -> &'a [u8] {
-    let text = paired_front(match std::str::from_utf8(line) {
-        Ok(_) => line,
-        Err(error) => line.get(..error.valid_up_to()).unwrap_or(line),
-    });
-    let mut found: &[u8] = &[];
-    let mut step = MOST_JSON;
-    for _ in 0..17 {
-        if let Some(front) = text.get(..found.len().saturating_add(step)) {
-            if begins_json(front, out) {
-                found = front;
-            }
-        }
-        step /= 2;
-    }
-    found
-}
-
-/// Where a line is in an escape. An escape from D800 to DBFF is the first half of a character, and the next has to be the
-/// other, from DC00 to DFFF.
+/// A place in JSON: before or after a value, or in one after this part of it.
 #[derive(Clone, Copy)]
-enum Escape {
-    /// In none.
-    Outside,
-    /// In none, after a first half.
-    Half,
-    /// After its backslash, and whether it is the other half.
-    Begun { is_other: bool },
-    /// After its `u`.
-    Digits { is_other: bool },
-    /// After the digit D.
-    HalfDigits { is_other: bool },
-    /// Before this many further digits, and whether it is a first half.
-    Rest { left: usize, is_half: bool },
+enum Place {
+    Value,
+    FirstItem,
+    Key,
+    FirstKey,
+    Colon,
+    AfterValue,
+    /// In a string, before a byte of each of these.
+    Characters(&'static [&'static [u8]]),
+    Backslash,
+    Unit,
+    UnitD,
+    AfterString,
+    /// In `true`, `false` or `null`, before these.
+    Letters(&'static [u8]),
+    Minus,
+    Zero,
+    Whole,
+    Point,
+    Fraction,
+    Exponent,
+    Sign,
+    Power,
 }
 
-impl Escape {
-    /// Where the line is after this byte. `None` if the byte can't follow half a character.
-    fn after(self, byte: u8) -> Option<Escape> {
-        match (self, byte) {
-            (Escape::Outside, b'\\') => Some(Escape::Begun { is_other: false }),
-            (Escape::Half, b'\\') => Some(Escape::Begun { is_other: true }),
-            (Escape::Begun { is_other }, b'u') => Some(Escape::Digits { is_other }),
-            (Escape::Digits { is_other }, b'D' | b'd') => Some(Escape::HalfDigits { is_other }),
-            (Escape::Digits { is_other: false }, _) => Some(rest_of(3, false)),
-            (Escape::HalfDigits { is_other }, b'C'..=b'F' | b'c'..=b'f') if is_other => {
-                Some(rest_of(2, false))
-            }
-            (Escape::HalfDigits { is_other: false }, b'0'..=b'7') => Some(rest_of(2, false)),
-            (Escape::HalfDigits { is_other: false }, b'8' | b'9' | b'A' | b'B' | b'a' | b'b') => {
-                Some(rest_of(2, true))
-            }
-            (Escape::Outside | Escape::Begun { is_other: false }, _) => Some(Escape::Outside),
-            (Escape::Rest { left, is_half }, _) => Some(rest_of(left.saturating_sub(1), is_half)),
+impl Place {
+    /// The place after this byte of a string, a number or a literal. `None` if it doesn't continue or begin one.
+    fn after(self, byte: u8) -> Option<Place> {
+        Some(match (self, byte) {
+            (Place::Characters([bytes, rest @ ..]), _) if bytes.contains(&byte) =>
+                Place::Characters(rest),
+            (Place::Characters([]), b'"') => Place::AfterString,
+            (Place::Characters([]), b'\\') => Place::Backslash,
+            (Place::Characters([]), 32..=255) => self,
+            (Place::Backslash, b'u') => Place::Unit,
+            (Place::Backslash, _) if b"\"\\/bfnrt".contains(&byte) => Place::Characters(&[]),
+            (Place::Unit, b'd' | b'D') => Place::UnitD,
+            (Place::Unit, _) if HEX.contains(&byte) => Place::Characters(&[HEX, HEX, HEX]),
+            (Place::UnitD, b'0'..=b'7') => Place::Characters(&[HEX, HEX]),
+            (Place::UnitD, _) if b"89abAB".contains(&byte) => Place::Characters(HALVES),
+            (Place::Value | Place::FirstItem, b't') => Place::Letters(b"rue"),
+            (Place::Value | Place::FirstItem, b'f') => Place::Letters(b"alse"),
+            (Place::Value | Place::FirstItem, b'n') => Place::Letters(b"ull"),
+            (Place::Letters([letter, rest @ ..]), _) if byte == *letter => Place::Letters(rest),
+            (Place::Value | Place::FirstItem, b'-') => Place::Minus,
+            (Place::Value | Place::FirstItem | Place::Minus, b'0') => Place::Zero,
+            (Place::Value | Place::FirstItem | Place::Minus | Place::Whole, b'0'..=b'9') =>
+                Place::Whole,
+            (Place::Zero | Place::Whole, b'.') => Place::Point,
+            (Place::Point | Place::Fraction, b'0'..=b'9') => Place::Fraction,
+            (Place::Zero | Place::Whole | Place::Fraction, b'e' | b'E') => Place::Exponent,
+            (Place::Exponent, b'+' | b'-') => Place::Sign,
+            (Place::Exponent | Place::Sign | Place::Power, b'0'..=b'9') => Place::Power,
+            _ => return None,
+        })
+    }
+}
+
+/// The front of a JSON text.
+#[derive(Drop)]
+struct Front {
+    place: Place,
+    /// The lists and objects that are open, the innermost last, as the bits of a number after its first 1: 1 is an object.
+    open: usize,
+    /// Whether its last string is a key.
+    is_key: bool,
+}
+
+impl Front {
+    /// Appends a byte. `None` if no JSON begins so, or none that is looked into.
+    fn push(&mut self, byte: u8) -> Option<()> {
+        self.place = match self.place.after(byte) {
+            Some(place) => place,
+            None => self.after_mark(self.outside()?, byte)?,
+        };
+        Some(())
+    }
+
+    /// The place outside of strings, numbers and literals, if it isn't inside one.
+    fn outside(&self) -> Option<Place> {
+        match self.place {
+            Place::AfterString if self.is_key => Some(Place::Colon),
+            Place::AfterString | Place::Letters([]) => Some(Place::AfterValue),
+            Place::Zero | Place::Whole | Place::Fraction | Place::Power => Some(Place::AfterValue),
+            Place::Value | Place::FirstItem | Place::Key | Place::FirstKey => Some(self.place),
+            Place::Colon | Place::AfterValue => Some(self.place),
             _ => None,
         }
     }
-}
 
-/// Before this many further digits of an escape.
-fn rest_of(left: usize, is_half: bool) -> Escape {
-    match (left, is_half) {
-        (0, true) => Escape::Half,
-        (0, false) => Escape::Outside,
-        _ => Escape::Rest { left, is_half },
-    }
-}
-
-/// The front of a line before the first byte that can't follow half a character; all of the line if there is none. The
-/// parser reads on to the line's end before it refuses such a half.
-fn paired_front(line: &[u8]) -> &[u8] {
-    let mut escape = Escape::Outside;
-    for (place, byte) in line.iter().enumerate() {
-        match escape.after(*byte) {
-            Some(next) => escape = next,
-            None => return line.get(..place).unwrap_or(line),
+    /// The place after a blank, a mark, or the quote that begins a string.
+    fn after_mark(&mut self, place: Place, byte: u8) -> Option<Place> {
+        let end = match self.open {
+            0 | 1 => None,
+            open if open % 2 == 0 => Some(b']'),
+            _ => Some(b'}'),
+        };
+        match (place, byte) {
+            (_, b' ' | b'\t' | b'\n' | b'\r') => Some(place),
+            (Place::Value | Place::FirstItem | Place::Key | Place::FirstKey, b'"') => {
+                self.is_key = matches!(place, Place::Key | Place::FirstKey);
+                Some(Place::Characters(&[]))
+            }
+            (Place::Value | Place::FirstItem, b'[') => self.open(0, Place::FirstItem),
+            (Place::Value | Place::FirstItem, b'{') => self.open(1, Place::FirstKey),
+            (Place::Colon, b':') => Some(Place::Value),
+            (Place::AfterValue, b',') if end == Some(b']') => Some(Place::Value),
+            (Place::AfterValue, b',') if end == Some(b'}') => Some(Place::Key),
+            (Place::AfterValue | Place::FirstItem | Place::FirstKey, _) if end == Some(byte) => {
+                self.open /= 2;
+                Some(Place::AfterValue)
+            }
+            _ => None,
         }
     }
-    line
-}
 
-/// Whether a text ends inside an escape of four digits, after a character that is none.
-fn has_short_escape(front: &[u8]) -> bool {
-    let end = front.len();
-    for digits in 1..4usize {
-        let at = end.saturating_sub(digits.saturating_add(2));
-        if front.get(at..).is_some_and(|rest| rest.starts_with(b"\\u")) {
-            let before = front.get(..at).unwrap_or(&[]);
-            let slashes = before.iter().rev().take_while(|c| **c == b'\\').count();
-            let rest = front.get(at.saturating_add(2)..).unwrap_or(&[]);
-            return slashes % 2 == 0 && !rest.iter().all(u8::is_ascii_hexdigit);
-        }
+    /// The place in a list (0) or an object (1) that begins, if it is looked into.
+    fn open(&mut self, bit: usize, first: Place) -> Option<Place> {
+        self.open = self.open.saturating_mul(2).saturating_add(bit);
+        if self.is_deep() { None } else { Some(first) }
     }
-    false
+
+    /// Whether more lists and objects are open than are looked into.
+    fn is_deep(&self) -> bool {
+        self.open >> MOST_DEEP > 1
+    }
 }
 
-/// Whether JSON begins with these bytes.
-fn begins_json(front: &[u8], out: &mut Text) -> bool {
-    if has_short_escape(front) {
+/// The front of bytes that is UTF-8.
+fn text_of(bytes: &[u8]) -> &str {
+    match std::str::from_utf8(bytes) {
+        Ok(text) => text,
+        Err(error) => std::str::from_utf8(
+            bytes.get(..error.valid_up_to()).unwrap_or(&[]),
+        ).unwrap_or(""),
+    }
+}
+
+/// Appends where a line stops being JSON, or is nested too deep, and notes the column. Returns false, with nothing appended,
+/// if the line is JSON, except that a number may be too large.
+pub(crate) fn write_stop(line: &[u8], misfit: &mut Misfit, out: &mut Text) -> bool
+    ensures { IsTrue result → IsWritten out.new }
+{
+    let mut front = Front {
+        place: Place::Value,
+        open: 1,
+        is_key: false,
+    };
+    let text = text_of(line).as_bytes();
+    let stop = text.iter().position(|byte| front.push(*byte).is_none());
+    let (before, rest) = line.split_at(stop.unwrap_or(text.len()).min(line.len()));
+    if rest.is_empty() && front.open == 1 && matches!(front.outside(), Some(Place::AfterValue)) {
         return false;
     }
-    match Value::from_slice(out.alloc(), front) {
-        Ok(_) => true,
-        Err(error) if error.is_memory() => {
-            out.note(Err(AllocError));
-            true
-        }
-        Err(error) => error.is_eof() || is_too_large(&error, out),
+    let last = text_of(before).chars().count();
+    let column = last.saturating_add(1);
+    misfit.column = Some(column);
+    if front.is_deep() {
+        write!(
+            out,
+            "lists and objects are nested more than {MOST_DEEP} deep at column {column}"
+        );
+        out.push(", and an item has 5 levels");
+        return true;
     }
-}
-
-/// Whether JSON is refused because a number is too large.
-fn is_too_large(error: &Error, out: &mut Text) -> bool {
-    let mut said = Text::new(out.alloc());
-    write!(said, "{error}");
-    match said.into_string() {
-        Ok(said) => said.as_str().starts_with("number out of range"),
-        Err(refused) => {
-            out.note(Err(refused));
-            false
+    match text_of(rest).chars().next() {
+        _ if rest.is_empty() => {
+            write!(
+                out,
+                "not JSON: the line ends at column {last}, inside a value"
+            );
+            out.push("; jq -c . joins several lines into one");
+            return true;
         }
+        Some(' ') => out.push("not JSON: unexpected space"),
+        Some(character) => write!(out, "not JSON: unexpected {}", Escaped(character)),
+        None => write!(
+            out,
+            "not JSON: unexpected byte {:02X}",
+            rest.first().copied().unwrap_or(0)
+        ),
     }
+    write!(out, " at column {column}");
+    true
 }

@@ -16,19 +16,16 @@ impl<'a> fmt::Display for Quoted<'a> {
     }
 }
 
-/// A text as it is, except that each character that doesn't show is escaped.
+/// A character as it is, or escaped if it doesn't show.
 #[derive(Clone, Copy)]
-pub(crate) struct Escaped<'a>(pub(crate) &'a str);
+pub(crate) struct Escaped(pub(crate) char);
 
-impl<'a> fmt::Display for Escaped<'a> {
+impl fmt::Display for Escaped {
     fn fmt<W: fmt::Write>(&self, f: &mut fmt::Formatter<W>) -> fmt::Result {
-        for character in self.0.chars() {
-            match character {
-                '"' | '\\' => f.write_char(character)?,
-                _ => write_escaped(character, f)?,
-            }
+        match self.0 {
+            '"' | '\\' => f.write_char(self.0),
+            _ => write_escaped(self.0, f),
         }
-        Ok(())
     }
 }
 

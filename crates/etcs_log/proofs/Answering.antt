@@ -33,9 +33,11 @@ use Rattle.etcs_log.specs.declared.job.Good.TheVariants.{Left, Digits, Json}
 use Rattle.etcs_log.specs.declared.job.LogJob.{LogJob}
 use Rattle.etcs_log.specs.declared.job.LogTally.{LogTally}
 use Rattle.etcs_log.specs.declared.kinds.Kinds.{Kinds}
+use Rattle.etcs_log.specs.declared.notes.Note.{Note}
+use Rattle.etcs_log.specs.declared.notes.Note.TheVariants as note
 use Rattle.etcs_reasons.specs.BitDigits.{are_bits, packed}
 use Rattle.etcs_log.specs.Candidates.{AreNone, Candidate, IsFirst, candidates, contains, is_asked, is_other, last_bytes, last_candidate, last_candidates, may_have, message_candidate, message_way, telegram_bytes, where_asked, whole_bytes, whole_candidate, whole_candidates}
-use Rattle.etcs_log.specs.Logs.{Answer, passed, item, other, bad, GoodText, IsAnswer, IsBytesAnswer, IsNote, other_note, Answered, BytesAnswered, Counted, CountsText, Grouped, GroupsText, Noted, Tried, counts_front, is_written, telegrams_in}
+use Rattle.etcs_log.specs.Logs.{Answer, passed, item, other, bad, GoodText, IsAnswer, IsBytesAnswer, AreBad, IsBytesNote, IsNote, SaysBytes, Answered, BytesAnswered, Counted, CountsText, Grouped, GroupsText, Noted, Tried, IsSaid, bad_in, counts_front, is_written, items_in, other_in, reported, telegrams_in}
 use Rattle.etcs_log.specs.declared.seen.Seen.{Seen}
 use Rattle.etcs_log.specs.JsonLines.{IsJsonItem}
 use Rattle.etcs_log.specs.LogGroups.{AreGroups, Holds, telegram_of}
@@ -109,42 +111,34 @@ empty_list (x ∷ xs) h = absurd (omega (arith, h))
 nothing_said : (digits bytes : List ℕ) → digits ≡ [] → decode_of digits ≡ Ok bytes → bytes ≡ []
 nothing_said digits bytes none h = empty_list bytes (omega (arith, (decode_of-ok digits bytes h).2, ap length none))
 
-pub bad_none : (kinds : Kinds) (line buffer : List ℕ) → is_passed_over line ≡ false → Says (line_digits line) (Err NoDigits) buffer → IsAnswer kinds line bad
-bad_none kinds line buffer read says = (inr read, λ bytes h. subst (λ (z : List ℕ). IsBytesAnswer kinds (line_front line) z bad) (sym (nothing_said (line_digits line) bytes says h.digits)) (none_there kinds, no_other kinds))
+pub bad_none : (kinds : Kinds) (line buffer : List ℕ) → is_passed_over line ≡ false → Says (line_digits line) (Err NoDigits) buffer → IsAnswer kinds line (bad note.NoDigits)
+bad_none kinds line buffer read says = (inr read, (λ bytes h. subst (λ (z : List ℕ). AreBad kinds z) (sym (nothing_said (line_digits line) bytes says h.digits)) (none_there kinds, no_other kinds)), says)
 
 no_odd : (line bytes : List ℕ) (n : ℕ) → n ≡ length (line_digits line) → n % 2 ≡ 1 → decode_of (line_digits line) ≡ Ok bytes → ⊥
 no_odd line bytes n is odd h = cc (sym h ∙ decode_of-odd (line_digits line) (ap (λ (k : ℕ). k % 2) (sym is) ∙ odd))
 
-pub bad_odd : (kinds : Kinds) (line buffer : List ℕ) (n : ℕ) → is_passed_over line ≡ false → Says (line_digits line) (Err (OddDigits n)) buffer → IsAnswer kinds line bad
-bad_odd kinds line buffer n read (is, odd) = (inr read, λ bytes h. absurd (no_odd line bytes n is odd h.digits))
+pub bad_odd : (kinds : Kinds) (line buffer : List ℕ) (n : ℕ) → is_passed_over line ≡ false → Says (line_digits line) (Err (OddDigits n)) buffer → IsAnswer kinds line (bad (note.OddDigits n))
+bad_odd kinds line buffer n read (is, odd) = (inr read, (λ bytes h. absurd (no_odd line bytes n is odd h.digits)), (is, odd))
+
+note_said : (kinds : Kinds) (line bytes : List ℕ) (why : Note) → SaysBytes line bytes → IsBytesNote kinds bytes why → IsNote kinds line why
+note_said kinds line bytes note.TooLong says is = absurd is
+note_said kinds line bytes note.NoDigits says is = absurd is
+note_said kinds line bytes (note.OddDigits n) says is = absurd is
+note_said kinds line bytes (note.Bytes asked n wanted) says is = (bytes, says, is)
+note_said kinds line bytes (note.Refused kind r) says is = (bytes, says, is)
+note_said kinds line bytes (note.Other n) says is = absurd is
 
 bytes_said : (kinds : Kinds) (line bytes : List ℕ) (a : Answer) → length line ≤ 1048576 → is_passed_over line ≡ false → decode_of (line_digits line) ≡ Ok bytes → IsBytesAnswer kinds (line_front line) bytes a → IsAnswer kinds line a
 bytes_said kinds line bytes passed short read digits is = absurd is
 bytes_said kinds line bytes (item kind before e) short read digits is = (bytes, record { short = short; read = read; digits = digits }, is)
 bytes_said kinds line bytes (other count) short read digits is = (bytes, record { short = short; read = read; digits = digits }, is)
-bytes_said kinds line bytes bad short read digits is = (inr read, λ these h. subst (λ (z : List ℕ). IsBytesAnswer kinds (line_front line) z bad) (decode_of-same (line_digits line) bytes these digits h.digits) is)
+bytes_said kinds line bytes (bad why) short read digits is = (inr read, (λ these h. subst (λ (z : List ℕ). AreBad kinds z) (decode_of-same (line_digits line) bytes these digits h.digits) is.0), note_said kinds line bytes why (record { short = short; read = read; digits = digits }) is.1)
 
 pub answered_bytes : (job : LogJob) (number : ℕ) (line buffer bytes : List ℕ) (n : ℕ) (before after : Seen) (text text' : List ℕ) → length line ≤ 1048576 → is_passed_over line ≡ false → Says (line_digits line) (Ok n) buffer → bytes ≡ drop (length buffer - n) buffer → BytesAnswered job number (line_front line) bytes before after text text' → Answered job number line before after text text'
 answered_bytes job number line buffer bytes n before after text text' short read says is (a, said, counted) =
     (a, bytes_said job.kinds line bytes a short read (says.2 ∙ ap Ok (sym is)) said, counted)
 
 -- ---- How a line is counted.
-
--- the text about it is written elsewhere
-pub counted_bad : (job : LogJob) (n : ℕ) (before after : LogTally) (text text' : List ℕ) → is_written job.good ≡ true → after.items ≡ before.items → after.bad ≡ before.bad + 1 → after.other ≡ before.other → text' ≡ text → Counted job n bad before after text text'
-counted_bad job n before after text text' good i b o t = ([], (λ _. refl, λ silent. cc (sym good ∙ silent)), t ∙ sym (append-nil text), omega (arith, i), omega (arith, b), omega (arith, o))
-
-pub counted_note_if : {T E : Type 0} (r : Result T E) (job : LogJob) (n : ℕ) (before after : LogTally) (text text' : List ℕ) → is_written job.good ≡ false → after.items ≡ before.items → after.bad ≡ before.bad + 1 → after.other ≡ before.other → OnOk r ((note : List ℕ) × IsNote n note × (text' ≡ text ++ note)) → OnOk r (Counted job n bad before after text text')
-counted_note_if (Ok x) job n before after text text' silent i b o (note, is, t) = (note, (λ good. cc (sym silent ∙ good), λ _. is), t, omega (arith, i), omega (arith, b), omega (arith, o))
-counted_note_if (Err e) job n before after text text' silent i b o h = tt
-
--- of another kind
-pub counted_other : (job : LogJob) (n count : ℕ) (before after : LogTally) (text text' : List ℕ) → is_written job.good ≡ true → after.items ≡ before.items → after.bad ≡ before.bad → after.other ≡ before.other + 1 → text' ≡ text → Counted job n (other count) before after text text'
-counted_other job n count before after text text' good i b o t = ([], (λ _. refl, λ silent. cc (sym good ∙ silent)), t ∙ sym (append-nil text), omega (arith, i), omega (arith, b), omega (arith, o))
-
-pub counted_other_if : {T E : Type 0} (r : Result T E) (job : LogJob) (n count : ℕ) (before after : LogTally) (text text' : List ℕ) → is_written job.good ≡ false → after.items ≡ before.items → after.bad ≡ before.bad → after.other ≡ before.other + 1 → OnOk r (text' ≡ text ++ other_note n count) → OnOk r (Counted job n (other count) before after text text')
-counted_other_if (Ok x) job n count before after text text' silent i b o t = (other_note n count, (λ good. cc (sym silent ∙ good), λ _. refl), t, omega (arith, i), omega (arith, b), omega (arith, o))
-counted_other_if (Err e) job n count before after text text' silent i b o h = tt
 
 -- an item
 counted_item : (job : LogJob) (n : ℕ) (kind : Kind) (front : List ℕ) (e : EntryValue) (before after : LogTally) (text text' said : List ℕ) → GoodText job.good job.kinds n kind front e said → after.items ≡ before.items + 1 → after.bad ≡ before.bad → after.other ≡ before.other → text' ≡ text ++ said → Counted job n (item kind front e) before after text text'
@@ -215,9 +209,20 @@ on_ok (Err e) P h = tt
 no_group : (job : LogJob) (a : Answer) (old new : List Group) → telegrams_in (a ∷ []) ≡ [] → new ≡ old → Grouped job a old new
 no_group job a old new none same = λ asked vs h. subst (λ (z : List Group). AreGroups (vs ++ telegrams_in (a ∷ [])) z) (sym same) (subst (λ (z : List TelegramValue). AreGroups z old) (sym (ap (λ (z : List TelegramValue). vs ++ z) none ∙ append-nil vs)) h)
 
-pub noted_same : {T E : Type 0} (r : Result T E) (job : LogJob) (n : ℕ) (a : Answer) (before after : Seen) (text text' : List ℕ) → telegrams_in (a ∷ []) ≡ [] → after.groups ≡ before.groups → OnOk r (Counted job n a before.tally after.tally text text') → OnOk r (Noted job n a before after text text')
-noted_same (Ok x) job n a before after text text' none same h = (h, no_group job a before.groups after.groups none same)
-noted_same (Err x) job n a before after text text' none same h = tt
+-- a line that is no item
+noted_note : {T E : Type 0} (r : Result T E) (job : LogJob) (n : ℕ) (a : Answer) (why : Note) (before after : Seen) (text text' : List ℕ) → telegrams_in (a ∷ []) ≡ [] → IsSaid job n a (reported job n why) → after.tally.items ≡ before.tally.items + items_in (a ∷ []) → after.tally.bad ≡ before.tally.bad + bad_in (a ∷ []) → after.tally.other ≡ before.tally.other + other_in (a ∷ []) → after.groups ≡ before.groups → OnOk r (text' ≡ text ++ reported job n why) → OnOk r (Noted job n a before after text text')
+noted_note (Ok x) job n a why before after text text' none said i b o same t = ((reported job n why, said, t, i, b, o), no_group job a before.groups after.groups none same)
+noted_note (Err x) job n a why before after text text' none said i b o same t = tt
+
+pub noted_bad : {T E : Type 0} (r : Result T E) (job : LogJob) (n : ℕ) (why : Note) (before mid after : Seen) (text text' : List ℕ) → mid ≡ record before { tally = record before.tally { bad = before.tally.bad + 1 } } → after ≡ mid → OnOk r (text' ≡ text ++ reported job n why) → OnOk r (Noted job n (bad why) before after text text')
+noted_bad r job n why before mid after text text' counted same t =
+    let is = same ∙ counted in
+    noted_note r job n (bad why) why before after text text' refl refl (omega (arith, ap (λ (z : Seen). z.tally.items) is)) (omega (arith, ap (λ (z : Seen). z.tally.bad) is)) (omega (arith, ap (λ (z : Seen). z.tally.other) is)) (ap (λ (z : Seen). z.groups) is) t
+
+pub noted_other : {T E : Type 0} (r : Result T E) (job : LogJob) (n count : ℕ) (before mid after : Seen) (text text' : List ℕ) → mid ≡ record before { tally = record before.tally { other = before.tally.other + 1 } } → after ≡ mid → OnOk r (text' ≡ text ++ reported job n (note.Other count)) → OnOk r (Noted job n (other count) before after text text')
+noted_other r job n count before mid after text text' counted same t =
+    let is = same ∙ counted in
+    noted_note r job n (other count) (note.Other count) before after text text' refl refl (omega (arith, ap (λ (z : Seen). z.tally.items) is)) (omega (arith, ap (λ (z : Seen). z.tally.bad) is)) (omega (arith, ap (λ (z : Seen). z.tally.other) is)) (ap (λ (z : Seen). z.groups) is) t
 
 -- no group is asked for
 pub noted_alone : (job : LogJob) (n : ℕ) (a : Answer) (before after : Seen) (text text' : List ℕ) → job.groups ≡ false → Counted job n a before.tally after.tally text text' → Noted job n a before after text text'
@@ -309,6 +314,9 @@ tried_whole r bytes job job1 job2 n n1 n2 front before one two after text t1 t2 
 pub whole_bits : (kind : Kind) (bytes : List ℕ) → are_bits kind bytes ≡ true → whole_bytes kind bytes ≡ take (telegram_bytes kind) (packed bytes)
 whole_bits kind bytes are = ap (λ (b : Bool). cond b (take (telegram_bytes kind) (packed bytes)) bytes) are
 
+pub whole_plain : (kind : Kind) (bytes : List ℕ) → are_bits kind bytes ≡ false → whole_bytes kind bytes ≡ bytes
+whole_plain kind bytes none = ap (λ (b : Bool). cond b (take (telegram_bytes kind) (packed bytes)) bytes) none
+
 -- one of two is
 pub first_of : (a b : Bool) → not a ≡ false → a || b ≡ true
 first_of true b h = refl
@@ -386,14 +394,14 @@ pub answered_other : {T E : Type 0} (r : Result T E) (job : LogJob) (n : ℕ) (f
 answered_other (Ok x) job n front bytes before after text text' none is counted = (other (length bytes), (none, is, refl), counted)
 answered_other (Err x) job n front bytes before after text text' none is counted = tt
 
-pub answered_bad : {T E : Type 0} (r : Result T E) (job : LogJob) (n : ℕ) (front bytes : List ℕ) (before after : Seen) (text text' : List ℕ) → AreNone (candidates job.kinds bytes) → is_other job.kinds bytes ≡ false → OnOk r (Noted job n bad before after text text') → OnOk r (BytesAnswered job n front bytes before after text text')
-answered_bad (Ok x) job n front bytes before after text text' none is counted = (bad, (none, is), counted)
-answered_bad (Err x) job n front bytes before after text text' none is counted = tt
+pub answered_bad : {T E : Type 0} (r : Result T E) (job : LogJob) (n : ℕ) (why : Note) (front bytes : List ℕ) (before after : Seen) (text text' : List ℕ) → AreNone (candidates job.kinds bytes) → is_other job.kinds bytes ≡ false → IsBytesNote job.kinds bytes why → OnOk r (Noted job n (bad why) before after text text') → OnOk r (BytesAnswered job n front bytes before after text text')
+answered_bad (Ok x) job n why front bytes before after text text' none is says counted = (bad why, ((none, is), says), counted)
+answered_bad (Err x) job n why front bytes before after text text' none is says counted = tt
 
 -- and a line that says no bytes
-pub answered_none : {T E : Type 0} (job : LogJob) (n : ℕ) (line : List ℕ) (before after : Seen) (text text' : List ℕ) (r : Result T E) → IsAnswer job.kinds line bad → OnOk r (Noted job n bad before after text text') → OnOk r (Answered job n line before after text text')
-answered_none job n line before after text text' (Ok x) is counted = (bad, is, counted)
-answered_none job n line before after text text' (Err x) is counted = tt
+pub answered_none : {T E : Type 0} (why : Note) (job : LogJob) (n : ℕ) (line : List ℕ) (before after : Seen) (text text' : List ℕ) (r : Result T E) → IsAnswer job.kinds line (bad why) → OnOk r (Noted job n (bad why) before after text text') → OnOk r (Answered job n line before after text text')
+answered_none why job n line before after text text' (Ok x) is counted = (bad why, is, counted)
+answered_none why job n line before after text text' (Err x) is counted = tt
 
 -- ---- What is written about a line.
 

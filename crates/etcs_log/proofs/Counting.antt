@@ -11,6 +11,7 @@ use Rattle.etcs_runs.specs.Lines.{IsLine, lines_text, strip_cr}
 use Rattle.etcs_log.specs.declared.job.LogJob.{LogJob}
 use Rattle.etcs_log.specs.declared.job.LogTally.{LogTally}
 use Rattle.etcs_log.specs.declared.kinds.Kinds.{Kinds}
+use Rattle.etcs_log.specs.declared.notes.Note.TheVariants.{TooLong}
 use Rattle.etcs_log.specs.declared.seen.Seen.{Seen}
 use Rattle.etcs_telegram.specs.Telegrams.{TelegramValue}
 use Rattle.etcs_group.specs.declared.groups.Group.{Group}
@@ -37,49 +38,49 @@ items_few [] = omega arith
 items_few (passed ∷ others) = omega (arith, items_few others)
 items_few (item kind before e ∷ others) = omega (arith, items_few others)
 items_few (other count ∷ others) = omega (arith, items_few others)
-items_few (bad ∷ others) = omega (arith, items_few others)
+items_few (bad note ∷ others) = omega (arith, items_few others)
 
 bad_few : (others : List Answer) → bad_in others ≤ length others
 bad_few [] = omega arith
 bad_few (passed ∷ others) = omega (arith, bad_few others)
 bad_few (item kind before e ∷ others) = omega (arith, bad_few others)
 bad_few (other count ∷ others) = omega (arith, bad_few others)
-bad_few (bad ∷ others) = omega (arith, bad_few others)
+bad_few (bad note ∷ others) = omega (arith, bad_few others)
 
 other_few : (others : List Answer) → other_in others ≤ length others
 other_few [] = omega arith
 other_few (passed ∷ others) = omega (arith, other_few others)
 other_few (item kind before e ∷ others) = omega (arith, other_few others)
 other_few (other count ∷ others) = omega (arith, other_few others)
-other_few (bad ∷ others) = omega (arith, other_few others)
+other_few (bad note ∷ others) = omega (arith, other_few others)
 
 items_in-push : (others : List Answer) (a : Answer) → items_in (others ++ a ∷ []) ≡ items_in others + items_in (a ∷ [])
 items_in-push [] a = omega arith
 items_in-push (passed ∷ others) a = items_in-push others a
 items_in-push (item kind before e ∷ others) a = omega (arith, items_in-push others a)
 items_in-push (other count ∷ others) a = items_in-push others a
-items_in-push (bad ∷ others) a = items_in-push others a
+items_in-push (bad note ∷ others) a = items_in-push others a
 
 bad_in-push : (others : List Answer) (a : Answer) → bad_in (others ++ a ∷ []) ≡ bad_in others + bad_in (a ∷ [])
 bad_in-push [] a = omega arith
 bad_in-push (passed ∷ others) a = bad_in-push others a
 bad_in-push (item kind before e ∷ others) a = bad_in-push others a
 bad_in-push (other count ∷ others) a = bad_in-push others a
-bad_in-push (bad ∷ others) a = omega (arith, bad_in-push others a)
+bad_in-push (bad note ∷ others) a = omega (arith, bad_in-push others a)
 
 other_in-push : (others : List Answer) (a : Answer) → other_in (others ++ a ∷ []) ≡ other_in others + other_in (a ∷ [])
 other_in-push [] a = omega arith
 other_in-push (passed ∷ others) a = other_in-push others a
 other_in-push (item kind before e ∷ others) a = other_in-push others a
 other_in-push (other count ∷ others) a = omega (arith, other_in-push others a)
-other_in-push (bad ∷ others) a = other_in-push others a
+other_in-push (bad note ∷ others) a = other_in-push others a
 
 telegrams_in-push : (others : List Answer) (a : Answer) → telegrams_in (others ++ a ∷ []) ≡ telegrams_in others ++ telegrams_in (a ∷ [])
 telegrams_in-push [] a = refl
 telegrams_in-push (passed ∷ others) a = telegrams_in-push others a
 telegrams_in-push (item kind before e ∷ others) a = ap (λ (z : List TelegramValue). telegram_of e ++ z) (telegrams_in-push others a) ∙ sym (append_assoc (telegram_of e) (telegrams_in others) (telegrams_in (a ∷ [])))
 telegrams_in-push (other count ∷ others) a = telegrams_in-push others a
-telegrams_in-push (bad ∷ others) a = telegrams_in-push others a
+telegrams_in-push (bad note ∷ others) a = telegrams_in-push others a
 
 -- of a line after them, what is said
 outputs-push : (job : LogJob) (n m : ℕ) (others : List Answer) (a : Answer) (text added : List ℕ) → m ≡ n + length others → Outputs job n others text → IsSaid job m a added → Outputs job n (others ++ a ∷ []) (text ++ added)
@@ -207,15 +208,15 @@ no_more (Err e) = tt
 
 -- ---- A line that is too long.
 
-pub long_line : (kinds : Kinds) (line : List ℕ) → 1048576 < length line → IsAnswer kinds line bad
-long_line kinds line long = (inl long, λ bytes says. absurd (omega (arith, long, says.short)))
+pub long_line : (kinds : Kinds) (line : List ℕ) → 1048576 < length line → IsAnswer kinds line (bad TooLong)
+long_line kinds line long = (inl long, (λ bytes says. absurd (omega (arith, long, says.short))), long)
 
 stripped : (b : Bool) (line : List ℕ) → length line ≤ length (cond b (take (length line - 1) line) line) + 1
 stripped true line = omega (arith, length-take-le (length line - 1) line (omega arith))
 stripped false line = omega arith
 
 -- however it continues
-pub long_more : (kinds : Kinds) (part rest : List ℕ) → 1048577 < length part → IsAnswer kinds (strip_cr (part ++ rest)) bad
+pub long_more : (kinds : Kinds) (part rest : List ℕ) → 1048577 < length part → IsAnswer kinds (strip_cr (part ++ rest)) (bad TooLong)
 long_more kinds part rest long =
     let line = part ++ rest in
     long_line kinds (strip_cr line) (omega (arith, long, length-append part rest, stripped (ends_with_byte 13 line) line))

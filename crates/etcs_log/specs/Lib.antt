@@ -1,7 +1,9 @@
 pub mod Candidates
+pub mod Counts
 pub mod JsonLines
 pub mod LogGroups
 pub mod Logs
+pub mod Notes
 pub mod Tries
 pub mod Values
 pub mod Stands

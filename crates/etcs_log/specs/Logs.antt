@@ -1,31 +1,40 @@
 -- What is reported of the lines of a log.
-use Rattle.std.specs.Prelude.{◌≡◌, ℕ, ◌+◌, ◌<◌, ◌≤◌, Bool, true, false, ◌==◌, List, [], ◌∷◌, ◌++◌, length, if◌then◌else◌, codes, ◌⊎◌, Ok, All}
+use Rattle.std.specs.Prelude.{◌≡◌, ℕ, ◌+◌, ◌<◌, ◌≤◌, ◌%◌, Bool, true, false, ◌==◌, List, [], ◌∷◌, ◌++◌, length, take, if◌then◌else◌, codes, ◌⊎◌, Some, Ok, All}
 use Rattle.std.specs.Fmt.{decimal}
 use Rattle.hex.specs.Hex.{decode_of, encode_upper}
+use Rattle.etcs_bits.specs.Bits.{bits}
+use Rattle.etcs_vars.specs.Reading.{readings_of}
+use Rattle.etcs_rows.specs.Refusals.{FindsRefusal}
 use Rattle.etcs_runs.specs.Digits.{is_passed_over, line_digits, line_front}
 use Rattle.etcs_runs.specs.Lines.{IsLine, lines_text, strip_cr}
 use Rattle.etcs_text.specs.declared.entry.Kind.{Kind}
-use Rattle.etcs_text.specs.Entries.{EntryValue}
+use Rattle.etcs_text.specs.declared.entry.Kind.TheVariants.{Radio}
+use Rattle.etcs_reasons.specs.Kinds.{wanted_bytes}
+use Rattle.etcs_text.specs.Entries.{EntryReads, EntryValue}
 use Rattle.etcs_text.specs.Encodings.{IsEncoded}
 use Rattle.etcs_log.specs.declared.job.Good.{Good}
 use Rattle.etcs_log.specs.declared.job.Good.TheVariants.{Left, Digits, Json}
 use Rattle.etcs_log.specs.declared.job.LogJob.{LogJob}
 use Rattle.etcs_log.specs.declared.job.LogTally.{LogTally}
 use Rattle.etcs_log.specs.declared.kinds.Kinds.{Kinds}
+use Rattle.etcs_log.specs.declared.notes.Note.{Note}
+use Rattle.etcs_log.specs.declared.notes.Note.TheVariants.{TooLong, NoDigits, OddDigits, Bytes, Refused, Other}
 use Rattle.etcs_log.specs.declared.seen.Seen.{Seen}
 use Rattle.etcs_telegram.specs.Telegrams.{TelegramValue}
 use Rattle.etcs_group.specs.declared.groups.Group.{Group}
 use Rattle.etcs_group.specs.GroupLines.{AreGroupLines}
 use Rattle.etcs_log.specs.LogGroups.{AreGroups, telegram_of}
-use Rattle.etcs_log.specs.Candidates.{AreNone, Candidate, IsFirst, candidates, is_other, named}
+use Rattle.etcs_log.specs.Candidates.{AreNone, Candidate, IsFirst, candidates, is_other, named, whole_bytes}
 use Rattle.etcs_log.specs.JsonLines.{IsJsonItem}
+use Rattle.etcs_log.specs.Notes.{note_text}
 
--- what a line is: passed over; this item of this kind, after this front; of another kind, with this number of bytes; bad
+-- what a line is: passed over; this item of this kind, after this front; of another kind, with this number of bytes; bad,
+-- and why
 pub data Answer : Type 0 where
   passed : Answer
   item : Kind → List ℕ → EntryValue → Answer
   other : ℕ → Answer
-  bad : Answer
+  bad : Note → Answer
 
 -- the line has at most 1,048,576 characters, isn't passed over, and its digits are those of these bytes
 pub record SaysBytes (line bytes : List ℕ) : Type 0 where
@@ -33,20 +42,43 @@ pub record SaysBytes (line bytes : List ℕ) : Type 0 where
   pub read : is_passed_over line ≡ false
   pub digits : decode_of (line_digits line) ≡ Ok bytes
 
+-- none of the candidates among these bytes is an item, and no other kind has their number
+abbrev pub AreBad : Kinds → List ℕ → Type 0
+AreBad kinds bytes = AreNone (candidates kinds bytes) × (is_other kinds bytes ≡ false)
+
+-- why these bytes are no item: they are refused as one of a kind, at the first bit with which no item of the kind continues;
+-- or how many they are
+abbrev pub IsBytesNote : Kinds → List ℕ → Note → Type 0
+IsBytesNote kinds bytes TooLong = ⊥
+IsBytesNote kinds bytes NoDigits = ⊥
+IsBytesNote kinds bytes (OddDigits n) = ⊥
+IsBytesNote kinds bytes (Bytes asked n wanted) = (asked ≡ kinds) × (n ≡ length bytes) × (wanted ≡ wanted_bytes Radio (bits bytes))
+IsBytesNote kinds bytes (Refused kind r) = FindsRefusal (readings_of (EntryReads kind)) (take 8184 (bits (whole_bytes kind bytes))) (Some r)
+IsBytesNote kinds bytes (Other n) = ⊥
+
+-- why a line is no item: it is too long, has no digits, or an odd number of them; or what its bytes are
+abbrev pub IsNote : Kinds → List ℕ → Note → Type 0
+IsNote kinds line TooLong = 1048576 < length line
+IsNote kinds line NoDigits = line_digits line ≡ []
+IsNote kinds line (OddDigits n) = (n ≡ length (line_digits line)) × (n % 2 ≡ 1)
+IsNote kinds line (Bytes asked n wanted) = (bytes : List ℕ) × SaysBytes line bytes × IsBytesNote kinds bytes (Bytes asked n wanted)
+IsNote kinds line (Refused kind r) = (bytes : List ℕ) × SaysBytes line bytes × IsBytesNote kinds bytes (Refused kind r)
+IsNote kinds line (Other n) = ⊥
+
 -- what these bytes of a line are, with this before their digits: the first candidate that is an item; of another kind if
 -- none is, and by their number; else bad
 abbrev pub IsBytesAnswer : Kinds → List ℕ → List ℕ → Answer → Type 0
 IsBytesAnswer kinds front bytes passed = ⊥
 IsBytesAnswer kinds front bytes (item kind before e) = (before ≡ front) × IsFirst (candidates kinds bytes) kind e
 IsBytesAnswer kinds front bytes (other count) = AreNone (candidates kinds bytes) × (is_other kinds bytes ≡ true) × (count ≡ length bytes)
-IsBytesAnswer kinds front bytes bad = AreNone (candidates kinds bytes) × (is_other kinds bytes ≡ false)
+IsBytesAnswer kinds front bytes (bad note) = AreBad kinds bytes × IsBytesNote kinds bytes note
 
--- what a line is: a bad one is too long or isn't passed over, and if it has bytes they are bad
+-- what a line is: a bad one is too long or isn't passed over, if it has bytes they are bad, and the note says why
 abbrev pub IsAnswer : Kinds → List ℕ → Answer → Type 0
 IsAnswer kinds line passed = (length line ≤ 1048576) × (is_passed_over line ≡ true)
 IsAnswer kinds line (item kind before e) = (bytes : List ℕ) × SaysBytes line bytes × IsBytesAnswer kinds (line_front line) bytes (item kind before e)
 IsAnswer kinds line (other count) = (bytes : List ℕ) × SaysBytes line bytes × IsBytesAnswer kinds (line_front line) bytes (other count)
-IsAnswer kinds line bad = ((1048576 < length line) ⊎ (is_passed_over line ≡ false)) × ((bytes : List ℕ) → SaysBytes line bytes → IsBytesAnswer kinds (line_front line) bytes bad)
+IsAnswer kinds line (bad note) = ((1048576 < length line) ⊎ (is_passed_over line ≡ false)) × ((bytes : List ℕ) → SaysBytes line bytes → AreBad kinds bytes) × IsNote kinds line note
 
 -- one result for each line, in order; a CR at its end isn't a character of it
 abbrev pub AreAnswers : Kinds → List (List ℕ) → List Answer → Type 0
@@ -67,25 +99,17 @@ GoodText Left kinds n kind before e text = text ≡ []
 GoodText Digits kinds n kind before e text = (bytes : List ℕ) × IsEncoded e bytes × (text ≡ named kinds kind ++ (encode_upper bytes ++ 10 ∷ []))
 GoodText Json kinds n kind before e text = IsJsonItem n before e text
 
--- what is reported of the bad line of this number: a line with its number and some text
-abbrev pub IsNote : ℕ → List ℕ → Type 0
-IsNote number text = (reason : List ℕ) × (text ≡ codes "line " ++ decimal number ++ codes ": " ++ reason ++ codes "\n")
-
--- which items have this number of bytes
-abbrev pub other_words : ℕ → List ℕ
-other_words count = if count == 104 then codes " bytes, as a long telegram has\n" else if count == 27 then codes " bytes, as a short telegram has\n" else codes " bytes, as a radio message whose L_MESSAGE says so\n"
-
--- what is reported of the line of this number, which is of another kind and has this many bytes
-abbrev pub other_note : ℕ → ℕ → List ℕ
-other_note number count = codes "line " ++ decimal number ++ codes ": other: " ++ decimal count ++ other_words count
+-- what is written of the line of this number, which is no item: nothing if good lines are
+abbrev pub reported : LogJob → ℕ → Note → List ℕ
+reported job n note = if is_written job.good then [] else note_text job.good n note
 
 -- what is written of the line of this number: only of good lines if they are written, else only of bad lines and of those
 -- of another kind
 abbrev pub IsSaid : LogJob → ℕ → Answer → List ℕ → Type 0
 IsSaid job n passed text = text ≡ []
 IsSaid job n (item kind before e) text = GoodText job.good job.kinds n kind before e text
-IsSaid job n (other count) text = (is_written job.good ≡ true → text ≡ []) × (is_written job.good ≡ false → text ≡ other_note n count)
-IsSaid job n bad text = (is_written job.good ≡ true → text ≡ []) × (is_written job.good ≡ false → IsNote n text)
+IsSaid job n (other count) text = text ≡ reported job n (Other count)
+IsSaid job n (bad note) text = text ≡ reported job n note
 
 -- what is written of lines one after another, of which the first has this number
 abbrev pub Outputs : LogJob → ℕ → List Answer → List ℕ → Type 0
@@ -98,7 +122,7 @@ items_in [] = 0
 items_in (passed ∷ others) = items_in others
 items_in (item kind before e ∷ others) = 1 + items_in others
 items_in (other count ∷ others) = items_in others
-items_in (bad ∷ others) = items_in others
+items_in (bad note ∷ others) = items_in others
 
 -- how many lines are bad
 abbrev pub bad_in : List Answer → ℕ
@@ -106,7 +130,7 @@ bad_in [] = 0
 bad_in (passed ∷ others) = bad_in others
 bad_in (item kind before e ∷ others) = bad_in others
 bad_in (other count ∷ others) = bad_in others
-bad_in (bad ∷ others) = 1 + bad_in others
+bad_in (bad note ∷ others) = 1 + bad_in others
 
 -- how many lines are of another kind
 abbrev pub other_in : List Answer → ℕ
@@ -114,7 +138,7 @@ other_in [] = 0
 other_in (passed ∷ others) = other_in others
 other_in (item kind before e ∷ others) = other_in others
 other_in (other count ∷ others) = 1 + other_in others
-other_in (bad ∷ others) = other_in others
+other_in (bad note ∷ others) = other_in others
 
 -- the telegrams among the items, in order
 abbrev pub telegrams_in : List Answer → List TelegramValue
@@ -122,7 +146,7 @@ telegrams_in [] = []
 telegrams_in (passed ∷ others) = telegrams_in others
 telegrams_in (item kind before e ∷ others) = telegram_of e ++ telegrams_in others
 telegrams_in (other count ∷ others) = telegrams_in others
-telegrams_in (bad ∷ others) = telegrams_in others
+telegrams_in (bad note ∷ others) = telegrams_in others
 
 -- the line with how many lines are of other kinds, if there are any
 abbrev pub other_count : ℕ → List ℕ

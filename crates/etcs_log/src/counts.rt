@@ -1,23 +1,24 @@
 //! Counts what a log has.
 
-ghost use Rattle.std.specs.Prelude.{◌≡◌, ◌<◌, ◌++◌, codes, OnOk};
+ghost use Rattle.std.specs.Prelude.{◌≡◌, ◌<◌, ◌++◌, OnOk};
 ghost use Rattle.std.specs.Fmt.{decimal};
 ghost use Rattle.etcs_log.specs.Logs.{counts_front, other_count};
 
 use crate::job::LogTally;
 use crate::kinds::{Kinds, kind_name};
+use crate::notes::Note;
+use crate::refusals::{RefusalCount, count};
 use etcs_packet_text::inner::write_decimal;
 use etcs_packets::inner::AnyPacket;
 use etcs_reasons::inner::way_of_message;
 use etcs_tables::Way;
 use etcs_text::{Entry, Kind};
-use etcs_vars::Var;
 use std::alloc::{AllocError, Global};
 
 /// All kinds, in the order in which they are counted.
 const KINDS: [Kind; 4] = [Kind::Long, Kind::Short, Kind::Radio, Kind::Train];
 
-/// What items have, and at which variables bad lines are refused, if that is asked for. No count passes 2^64 - 1.
+/// What items have, and where and why bad lines are refused, if that is asked for. No count passes 2^64 - 1.
 #[derive(Drop)]
 pub(crate) struct Counts {
     asked: bool,
@@ -27,12 +28,7 @@ pub(crate) struct Counts {
     kept: u64,
     packets: [u64; 256],
     messages: [u64; 256],
-    refusals: Vec<(Var, u64)>,
-}
-
-/// One more.
-fn count(number: &mut u64) {
-    *number = number.saturating_add(1);
+    refusals: Vec<RefusalCount>,
 }
 
 /// Counts packets by their numbers.
@@ -134,27 +130,31 @@ impl Counts {
         }
     }
 
-    /// Counts a refusal at this variable.
+    /// Counts the refusal that a note reports, if it reports one, by its variable and cause.
     ///
     /// # Errors
     ///
     /// If memory runs out.
-    pub(crate) fn add_refused(&mut self, var: Var) -> Result<(), AllocError> {
+    pub(crate) fn add_note(&mut self, note: &Note) -> Result<(), AllocError> {
+        let Note::Refused(_, refusal) = note else {
+            return Ok(());
+        };
         if !self.asked {
             return Ok(());
         }
-        for entry in &mut self.refusals {
-            if entry.0 == var {
-                count(&mut entry.1);
+        for refusals in &mut self.refusals {
+            if refusals.var == refusal.var {
+                refusals.add(refusal.cause);
                 return Ok(());
             }
         }
-        self.refusals.push((var, 1))?;
+        self.refusals
+            .push(RefusalCount::new(refusal.var, refusal.cause))?;
         Ok(())
     }
 
     /// Appends a line for each of several kinds, and for each count that isn't 0: messages kept as bits, packets by number,
-    /// messages by number, refusals by variable.
+    /// messages by number, refusals by variable and cause.
     ///
     /// # Errors
     ///
@@ -166,8 +166,8 @@ impl Counts {
         }
         write_packets(&self.packets, out)?;
         write_messages(kinds, &self.messages, out)?;
-        for (var, count) in &self.refusals {
-            writeln!(out, "refused {var} {count}")?;
+        for refusals in &self.refusals {
+            writeln!(out, "{refusals}")?;
         }
         Ok(())
     }

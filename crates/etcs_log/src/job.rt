@@ -13,7 +13,8 @@ pub enum Good {
     Left,
     /// Their digits in upper case, with the name of the kind before them if several kinds are asked for.
     Digits,
-    /// One line of JSON each: the line's number, what is before its digits, and its item.
+    /// One line of JSON each: the line's number, what is before its digits, and its item. What is reported of other lines is
+    /// JSON then, too.
     Json,
 }
 

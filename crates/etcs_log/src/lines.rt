@@ -7,7 +7,7 @@ ghost use Rattle.etcs_text.specs.Entries.{entry_value};
 ghost use Rattle.etcs_runs.specs.Digits.{line_front};
 ghost use Rattle.etcs_log.specs.Candidates.{AreNone, candidates, last_candidate, last_candidates, may_have, message_candidate, named, whole_candidate, whole_candidates};
 ghost use Rattle.etcs_log.specs.LogGroups.{Holds};
-ghost use Rattle.etcs_log.specs.Logs.{Answered, BytesAnswered, Counted, CountsText, EndText, GroupsText, Noted, bad, item, other};
+ghost use Rattle.etcs_log.specs.Logs.{Answered, BytesAnswered, Counted, CountsText, EndText, GroupsText, Noted, bad, item, other, reported};
 ghost use Rattle.etcs_log.specs.Tries.{Tries};
 ghost use Rattle.etcs_log.specs.Values.{bytes_text, one_more};
 
@@ -15,7 +15,7 @@ use crate::counts::{Counts, write_tally};
 use crate::job::{Good, LogJob, LogTally};
 use crate::json_lines::write_json_item;
 use crate::kinds::{Kinds, is_other, kind_name, telegram_bytes};
-use crate::notes::{Bad, write_note, write_other, write_reason};
+use crate::notes::{Note, note_of, write_note};
 use crate::readers::Readers;
 use crate::seen::Seen;
 use etcs_group::Groups;
@@ -135,8 +135,8 @@ impl Answers {
         match line_bytes(line, buffer) {
             Ok(count) => self.take_bytes(line, &buffer[buffer.len() - count..], text),
             Err(NoBytes::Empty) => Ok(()),
-            Err(NoBytes::NoDigits) => self.refuse(Bad::NoDigits, &[], text),
-            Err(NoBytes::OddDigits(count)) => self.refuse(Bad::OddDigits(count), &[], text),
+            Err(NoBytes::NoDigits) => self.refuse(&Note::NoDigits, text),
+            Err(NoBytes::OddDigits(count)) => self.refuse(&Note::OddDigits(count), text),
         }
     }
 
@@ -434,10 +434,11 @@ impl Answers {
         ensures line { self.new.line ≡ self.old.line }
         ensures ok { OnOk result (BytesAnswered self.old.job self.old.line (line_front line.now) bytes.now self.old.seen self.new.seen text.old.items text.new.items) }
     {
-        if is_other(self.job.kinds, bytes) {
+        let kinds = self.job.kinds;
+        if is_other(kinds, bytes) {
             return self.pass_other(bytes.len(), text);
         }
-        self.refuse(Bad::Bytes, bytes, text)
+        self.refuse(&note_of(kinds, bytes), text)
     }
 
     /// Reports that a line has this number of bytes, which only items of a kind that isn't asked for have.
@@ -452,42 +453,42 @@ impl Answers {
         ensures ok { OnOk result (Noted self.old.job self.old.line (other count) self.old.seen self.new.seen text.old.items text.new.items) }
     {
         self.seen.tally.other += 1;
-        if self.job.good.is_written() {
-            write_other(self.line, count, &mut self.notes)
-        } else {
-            write_other(self.line, count, text)
-        }
+        self.report(&Note::Other(count), text)
     }
 
-    /// Reports why a line with these bytes, if it has any, is bad.
+    /// Reports why a line is bad.
     ///
     /// # Errors
     ///
     /// If memory runs out.
-    pub(crate) fn refuse(
-        &mut self,
-        why: Bad,
-        bytes: &[u8],
-        text: &mut Vec<u8>,
-    ) -> Result<(), AllocError>
+    pub(crate) fn refuse(&mut self, note: &Note, text: &mut Vec<u8>) -> Result<(), AllocError>
         requires bad { self.old.seen.tally.bad < 2 ^ 63 }
         ensures job { self.new.job ≡ self.old.job }
         ensures line { self.new.line ≡ self.old.line }
-        ensures ok { OnOk result (Noted self.old.job self.old.line bad self.old.seen self.new.seen text.old.items text.new.items) }
+        ensures ok { OnOk result (Noted self.old.job self.old.line (bad note.now) self.old.seen self.new.seen text.old.items text.new.items) }
     {
         self.seen.tally.bad += 1;
+        self.counts.add_note(note)?;
+        self.report(note, text)
+    }
+
+    /// Reports why a line is no item.
+    ///
+    /// # Errors
+    ///
+    /// If memory runs out.
+    fn report(&mut self, note: &Note, text: &mut Vec<u8>) -> Result<(), AllocError>
+        ensures job { self.new.job ≡ self.old.job }
+        ensures line { self.new.line ≡ self.old.line }
+        ensures seen { self.new.seen ≡ self.old.seen }
+        ensures ok { OnOk result (text.new.items ≡ text.old.items ++ reported self.old.job self.old.line note.now) }
+    {
         self.words.clear();
-        write_reason(
-            why,
-            self.job.kinds,
-            bytes,
-            &mut self.counts,
-            &mut self.words,
-        )?;
+        write_note(self.job.good, self.line, note, &mut self.words)?;
         if self.job.good.is_written() {
-            write_note(self.line, self.words.as_str(), &mut self.notes)
+            self.notes.extend_from_slice(self.words.as_bytes())
         } else {
-            write_note(self.line, self.words.as_str(), text)
+            text.extend_from_slice(self.words.as_bytes())
         }
     }
 

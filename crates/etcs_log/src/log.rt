@@ -9,7 +9,7 @@ ghost use Rattle.etcs_log.specs.laws.LogLaws.{log_sound, long_output, stands_out
 
 use crate::job::{LogJob, LogTally};
 use crate::lines::Answers;
-use crate::notes::Bad;
+use crate::notes::Note;
 use etcs_packet_text::inner::Page;
 use etcs_runs::inner::{Engine, LineHandler, Lines, send};
 use etcs_runs::{MOST_LINE, RunFault, Sink, without_cr};
@@ -84,7 +84,7 @@ impl LogLines {
         self.text.clear();
         self.answers.line += 1;
         if line.len() > MOST_LINE {
-            return self.answers.refuse(Bad::Long, &[], &mut self.text);
+            return self.answers.refuse(&Note::TooLong, &mut self.text);
         }
         make_room(&mut self.buffer, line.len().div_ceil(2))?;
         self.answers
@@ -155,7 +155,7 @@ impl LineHandler for LogLines {
     fn refuse_long(&mut self, _number: u64, page: &mut Page) -> Result<(), RunFault> {
         self.text.clear();
         self.answers.line += 1;
-        self.answers.refuse(Bad::Long, &[], &mut self.text)?;
+        self.answers.refuse(&Note::TooLong, &mut self.text)?;
         Ok(self.pass_on(page)?)
     }
 

@@ -30,13 +30,15 @@ const MOST_READS: u64 = 1 << 49;
 /// - bad in all other cases, and if it has more than 1,048,576 characters.
 ///
 /// If good lines are asked for, the sink takes the line of each item: its digits in upper case, after the kind's name if there
-/// are several kinds, or JSON. All else is for `notes`: no clause says what `notes` takes, and what it doesn't take is lost.
+/// are several kinds, or JSON. All else is for `notes`, where a line about a line is JSON if good lines are: no clause says what
+/// `notes` takes, and what it doesn't take is lost.
 ///
-/// Otherwise the sink takes, in the order of the log, for each bad line `line`, its number and a reason, and for each line of
-/// another kind `line`, its number, and the number of its bytes with the items that have it. After the last line, if counts
-/// are asked for, it takes how many lines are items, bad and, if any, of another kind, with further counts; and then, if
-/// groups are asked for, a line for each group of the telegrams among the items. No clause says what the reasons and the
-/// further counts are.
+/// Otherwise the sink takes, in the order of the log, for each bad line `line`, its number and why it is bad, and for each line
+/// of another kind `line`, its number, and the number of its bytes with the items that have it. If the bytes of a bad line, or
+/// the bits that its digits are, are refused as an item of a kind, the first bit with which no item of the kind continues is
+/// why, with its variable and the refusal in words. After the last line, if counts are asked for, it takes how many lines are
+/// items, bad and, if any, of another kind, with further counts; and then, if groups are asked for, a line for each group of
+/// the telegrams among the items. No clause says what the further counts are.
 ///
 /// - `Ok`: the source is at its end, and the sink took all of that text and was flushed. The tally has how many lines are
 ///   items, bad, and of another kind.

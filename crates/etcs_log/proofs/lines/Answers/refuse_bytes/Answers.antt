@@ -13,4 +13,4 @@ pub returns-clause-ok : goal.returns-clause-ok
 returns-clause-ok c =
     let s = c.args.self.now in
     let p = c.refuse in
-    answered_bad p.result s.job s.line (line_front c.args.line.now) c.args.bytes.now s.seen p.new.self.seen c.args.text.now.items p.new.text.items c.requires.none (sym c.is_other.ensures ∙ c.if-is_other.false) p.ensures.ok
+    answered_bad p.result s.job s.line c.note_of.result (line_front c.args.line.now) c.args.bytes.now s.seen p.new.self.seen c.args.text.now.items p.new.text.items c.requires.none (sym c.is_other.ensures ∙ c.if-is_other.false) c.note_of.ensures p.ensures.ok

@@ -1,6 +1,7 @@
 use Rattle.std.proofs.Common.{◌≡◌, ◌∙◌, ℕ, Ok, Err, Result, ap, arith, refl}
 use Rattle.etcs_runs.specs.declared.digits.NoBytes.{NoBytes}
 use Rattle.etcs_runs.specs.declared.digits.NoBytes.TheVariants.{Empty, NoDigits, OddDigits}
+use Rattle.etcs_log.specs.declared.notes.Note.TheVariants as note
 use Rattle.etcs_log.proofs.Answering.{line_says, answered_passed, answered_bytes_if, answered_none, bad_none, bad_odd, slice_is}
 use Rattle.etcs_log.proofs.lines.Answers.take.Goals as goal
 
@@ -18,7 +19,7 @@ returns-in-Err-NoDigits-clause-ok c =
     let e = c.line_bytes.ensures in
     let is : ◌≡◌ {A = Result ℕ NoBytes} c.line_bytes.result (Err NoDigits) = c.in-Err-NoDigits.is ∙ ap Err c.in-Err-NoDigits.field-0-is in
     let says = line_says c.args.line.now c.line_bytes.new.buffer c.line_bytes.result (Err NoDigits) e.empty e.digits is (λ h. cc h) in
-    answered_none s.job s.line c.args.line.now s.seen c.refuse.new.self.seen c.args.text.now.items c.refuse.new.text.items c.refuse.result (bad_none s.job.kinds c.args.line.now c.line_bytes.new.buffer says.0 says.1) c.refuse.ensures.ok
+    answered_none note.NoDigits s.job s.line c.args.line.now s.seen c.refuse.new.self.seen c.args.text.now.items c.refuse.new.text.items c.refuse.result (bad_none s.job.kinds c.args.line.now c.line_bytes.new.buffer says.0 says.1) c.refuse.ensures.ok
 
 pub returns-in-Err-OddDigits-clause-ok : goal.returns-in-Err-OddDigits-clause-ok
 returns-in-Err-OddDigits-clause-ok c =
@@ -27,7 +28,7 @@ returns-in-Err-OddDigits-clause-ok c =
     let n = c.in-Err-OddDigits.count in
     let is : ◌≡◌ {A = Result ℕ NoBytes} c.line_bytes.result (Err (OddDigits n)) = c.in-Err-OddDigits.is ∙ ap Err c.in-Err-OddDigits.field-0-is in
     let says = line_says c.args.line.now c.line_bytes.new.buffer c.line_bytes.result (Err (OddDigits n)) e.empty e.digits is (λ h. cc h) in
-    answered_none s.job s.line c.args.line.now s.seen c.refuse-in-Err-OddDigits.new.self.seen c.args.text.now.items c.refuse-in-Err-OddDigits.new.text.items c.refuse-in-Err-OddDigits.result (bad_odd s.job.kinds c.args.line.now c.line_bytes.new.buffer n says.0 says.1) c.refuse-in-Err-OddDigits.ensures.ok
+    answered_none (note.OddDigits n) s.job s.line c.args.line.now s.seen c.refuse-in-Err-OddDigits.new.self.seen c.args.text.now.items c.refuse-in-Err-OddDigits.new.text.items c.refuse-in-Err-OddDigits.result (bad_odd s.job.kinds c.args.line.now c.line_bytes.new.buffer n says.0 says.1) c.refuse-in-Err-OddDigits.ensures.ok
 
 pub returns-in-Err-Empty-clause-ok : goal.returns-in-Err-Empty-clause-ok
 returns-in-Err-Empty-clause-ok c =

@@ -2,6 +2,7 @@ use Rattle.std.proofs.Common.{◌≡◌, ◌+◌, ◌++◌, arith, refl}
 use Rattle.std.proofs.lemmas.List.Elements.{All-append}
 use Rattle.std.proofs.lemmas.Result.{err_from_is_err_and}
 use Rattle.etcs_runs.specs.Lines.{strip_cr}
+use Rattle.etcs_log.specs.declared.notes.Note.TheVariants.{TooLong}
 use Rattle.etcs_log.specs.Logs.{bad}
 use Rattle.etcs_log.proofs.Counting.{answered_on, long_more, took_few, took_front, took_more}
 use Rattle.etcs_log.proofs.log.LogLinesLineHandler.refuse_long.Goals as goal
@@ -22,7 +23,7 @@ returns-clause-ok c lines part output h l long rest k =
     let n = c.refuse.new.self in
     let raw = part ++ rest in
     let noted = rw c.clear.ensures.items at c.in_ok-refuse.ensures.ok in
-    let answered = answered_on s.job (s.line + 1) (strip_cr raw) s.seen n.seen c.refuse.new.text.items c.args.page.now c.pass_on.new.page (bad, long_more s.job.kinds part rest long, noted) c.in_ok-pass_on.ensures.ok in
+    let answered = answered_on s.job (s.line + 1) (strip_cr raw) s.seen n.seen c.refuse.new.text.items c.args.page.now c.pass_on.new.page (bad TooLong, long_more s.job.kinds part rest long, noted) c.in_ok-pass_on.ensures.ok in
     rw c.pass_on.ensures.answers (took_more s.job n.job s.line n.line s.seen n.seen lines raw (strip_cr raw) output c.args.page.now c.pass_on.new.page h (All-append (λ c. c ≡ 10 → ⊥) part rest l k) refl c.refuse.ensures.job c.refuse.ensures.line answered)
 
 pub returns-in_err-refuse-clause-err : goal.returns-in_err-refuse-clause-err

@@ -37,7 +37,7 @@ C_TYPES = {
     "u32": ["uint32_t"], "u64": ["uint64_t"], "usize": ["size_t"], "Global": [],
     "&[u8]": ["const uint8_t *", "size_t"], "&mut [u8]": ["uint8_t *", "size_t"],
     "&mut EtcsAnswer": ["etcs_answer *"], "&mut [EtcsField]": ["etcs_field *", "size_t"], "&[EtcsField]": ["const etcs_field *", "size_t"], "[u8; 32]": ["char", "[32]"],
-    "&[EtcsTelegram]": ["const etcs_telegram *", "size_t"], "&mut EtcsGroup": ["etcs_group *"],
+    "&[EtcsTelegram]": ["const etcs_telegram *", "size_t"], "&mut EtcsGroup": ["etcs_group *"], "&mut EtcsReason": ["etcs_reason *"],
     "[u8; 104]": ["uint8_t", "[104]"], "[u8; 8]": ["uint8_t", "[8]"],
 }
 
@@ -175,9 +175,9 @@ def main():
         found = re.findall(pattern, source(path), re.M)
         if sorted(found) != sorted(ours):
             wrong.append(f"{path} has {', '.join(sorted(found))}")
-    groups = source("crates/etcs_c/src/groups.rt")
+    groups, reason = source("crates/etcs_c/src/groups.rt"), source("crates/etcs_c/src/reason.rt")
     structs = [("etcs_answer", "EtcsAnswer", answer), ("etcs_field", "EtcsField", source("crates/etcs_c/src/fields.rt"))]
-    structs += [("etcs_telegram", "EtcsTelegram", groups), ("etcs_group", "EtcsGroup", groups)]
+    structs += [("etcs_telegram", "EtcsTelegram", groups), ("etcs_group", "EtcsGroup", groups), ("etcs_reason", "EtcsReason", reason)]
     count = 0
     for c_name, name, text in structs:
         body = re.search(r"pub struct %s \{(.*?)\n\}" % name, text, re.S).group(1)
@@ -202,7 +202,7 @@ def main():
         elif not os.path.exists(os.path.join(TOP, path)) or open(os.path.join(TOP, path), encoding="utf-8").read() != text:
             wrong.append(f"{path} isn't what the specs say: bindings/header.py --write")
     renamed = {"WHOLE": "OK"}
-    numbers = {renamed.get(n, n): int(v) for n, v in re.findall(r"pub const (\w+): u32 = (\d+);", answer)}
+    numbers = {renamed.get(n, n): int(v) for n, v in re.findall(r"pub const (\w+): u32 = (\d+);", answer + reason)}
     kinds = {n.upper(): int(v) for v, n in re.findall(r"(\d+) => Some\(Kind::(\w+)\)", source("crates/etcs_c/src/kind.rt"))}
     constants = {n: int(v) for n, v in re.findall(r"ETCS_(\w+) = (\d+)", header)}
     if {**numbers, **kinds} != constants:

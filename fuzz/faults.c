@@ -9,6 +9,7 @@ etcs_status __real_etcs_to_json(etcs_kind kind, const uint8_t *bytes, size_t len
 etcs_status __real_etcs_from_json(etcs_kind kind, const uint8_t *line, size_t len, uint8_t *out, size_t room, etcs_answer *a);
 etcs_status __real_etcs_from_fields(etcs_kind kind, const etcs_field *fields, size_t len, uint8_t *out, size_t room, etcs_answer *a);
 etcs_status __real_etcs_explain(etcs_kind kind, const uint8_t *bytes, size_t len, uint8_t *out, size_t room, etcs_answer *a);
+etcs_status __real_etcs_refusal(etcs_kind kind, const uint8_t *bytes, size_t len, etcs_reason *reason, etcs_answer *a);
 etcs_status __real_etcs_fields_before(etcs_kind kind, const uint8_t *bytes, size_t len, etcs_field *out, size_t room, etcs_answer *a);
 
 etcs_status __wrap_etcs_check(etcs_kind kind, const uint8_t *bytes, size_t len, etcs_answer *a)
@@ -76,5 +77,14 @@ etcs_status __wrap_etcs_fields_before(etcs_kind kind, const uint8_t *bytes, size
         out[a->written - 1].number ^= 1;
     if (FAULT == 12 && status == ETCS_NO_MEMORY)
         return ETCS_REFUSED;
+    return status;
+}
+
+etcs_status __wrap_etcs_refusal(etcs_kind kind, const uint8_t *bytes, size_t len, etcs_reason *reason, etcs_answer *a)
+{
+    /* has the number after the nearest one */
+    etcs_status status = __real_etcs_refusal(kind, bytes, len, reason, a);
+    if (FAULT == 13 && status == ETCS_REFUSED && reason->has & ETCS_HAS_ABOVE)
+        reason->above++;
     return status;
 }

@@ -87,7 +87,7 @@ void __wrap_free(void *old)
 
 /* ---- Buffers: each ends where a page begins that can't be touched. */
 
-enum { INPUT = CALLS, ANSWER, AREAS };
+enum { INPUT = CALLS, ANSWER, REASON, AREAS };
 enum { AREA = 1 << 20 };
 
 static uint8_t *area_end[AREAS];
@@ -594,6 +594,54 @@ static void try_item(etcs_kind kind, const uint8_t *bytes, size_t taken)
     try_fields(kind, fields, count);
 }
 
+/* The number that these bits are. */
+static uint64_t number_at(const uint8_t *bytes, size_t at, size_t count)
+{
+    uint64_t number = 0;
+    for (size_t i = at; i < at + count; i++)
+        number = number << 1 | (bytes[i / 8] >> (7 - i % 8) & 1);
+    return number;
+}
+
+/* Whether a bit of this number is refused, where these bits have it in place of theirs. */
+static int is_blocked(etcs_kind kind, const uint8_t *bytes, size_t len, size_t at, size_t width, uint64_t number)
+{
+    static uint8_t changed[MOST_INPUT];
+    memcpy(changed, bytes, len);
+    for (size_t i = 0; i < width; i++) {
+        uint8_t bit = (uint8_t)(0x80 >> (at + i) % 8);
+        changed[(at + i) / 8] = (uint8_t)((changed[(at + i) / 8] & ~bit) | (number >> (width - 1 - i) & 1 ? bit : 0));
+    }
+    result r = call_with(CHECK, kind, changed, len, 0, 0);
+    return r.status == ETCS_REFUSED && r.answer.bit < at + width;
+}
+
+/* The reason of a refused bit takes no memory; its nearest numbers may come in place of the refused one, and none between them. */
+static void try_reason(etcs_kind kind, const uint8_t *bytes, size_t len, const result *refused)
+{
+    etcs_reason *r = (etcs_reason *)(void *)area(REASON, sizeof *r);
+    etcs_answer *a = (etcs_answer *)(void *)area(ANSWER, sizeof *a);
+    size_t bit = refused->answer.bit, rest = 0;
+    taken_times = 0, refused_from = 1, refused_to = (size_t)-1, is_inside = 1;
+    etcs_status status = etcs_refusal(kind, bytes, len, r, a);
+    refused_from = refused_to = 0, is_inside = 0;
+    HOLDS(status == ETCS_REFUSED && taken_times == 0 && a->bit == bit && !strcmp(a->var, refused->answer.var));
+    HOLDS(r->count > 0 && r->count <= bit + 1 && number_at(bytes, bit + 1 - r->count, r->count) == r->bits);
+    if (!(r->has & ETCS_HAS_NUMBER) || r->bits == 0)
+        return;
+    for (; r->number >> rest != r->bits; rest++)
+        HOLDS(rest < 63);
+    size_t at = bit + 1 - r->count, width = r->count + rest;
+    HOLDS(at + width <= 8 * len && number_at(bytes, at, width) == r->number);
+    if (width == 64)
+        return;
+    uint64_t from = r->has & ETCS_HAS_BELOW ? r->below + 1 : 0, to = r->has & ETCS_HAS_ABOVE ? r->above : (uint64_t)1 << width;
+    HOLDS(from <= r->bits << rest && to > r->bits << rest && (to - 1) >> rest >= r->bits);
+    HOLDS(from == 0 || !is_blocked(kind, bytes, len, at, width, r->below));
+    HOLDS(!(r->has & ETCS_HAS_ABOVE) || (to < (uint64_t)1 << width && !is_blocked(kind, bytes, len, at, width, to)));
+    HOLDS(is_blocked(kind, bytes, len, at, width, from + chance(to - from)));
+}
+
 /* A refused bit has its reason and the fields before it; the bits after it are ignored, and if it is turned it isn't refused. */
 static void try_refused(etcs_kind kind, const uint8_t *bytes, size_t len, const result *refused)
 {
@@ -604,6 +652,7 @@ static void try_refused(etcs_kind kind, const uint8_t *bytes, size_t len, const 
     HOLDS(is_same(&why, refused) && is_sentence(why.out, why.answer.written));
     result before = ask(FIELDS_BEFORE, kind, bytes, len);
     HOLDS(is_same(&before, refused));
+    try_reason(kind, bytes, len, refused);
     const etcs_field *fields = (const etcs_field *)(const void *)before.out;
     for (size_t i = 0; i < before.answer.written; i++)
         for (uint32_t b = fields[i].width; b-- > 0; sum++)

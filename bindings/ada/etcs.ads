@@ -64,6 +64,37 @@ package Etcs is
    end record
      with Convention => C;
 
+   --  Why a bit is refused: Cause, Here, and the members that are there, of which Has is the sum.
+   Spare : constant Unsigned_32 := 0;
+   Unfit : constant Unsigned_32 := 1;
+
+   Any            : constant Unsigned_32 := 0;
+   Message_Length : constant Unsigned_32 := 1;
+   Packet_Number  : constant Unsigned_32 := 2;
+   Packet_Length  : constant Unsigned_32 := 3;
+   Row            : constant Unsigned_32 := 4;
+
+   Has_Number : constant Unsigned_32 := 1;
+   Has_Below  : constant Unsigned_32 := 2;
+   Has_Above  : constant Unsigned_32 := 4;
+   Has_Room   : constant Unsigned_32 := 8;
+   Has_Nid    : constant Unsigned_32 := 16;
+
+   type Reason is record
+      Bits   : Unsigned_64 := 0;
+      Count  : Unsigned_64 := 0;
+      Number : Unsigned_64 := 0;
+      Below  : Unsigned_64 := 0;
+      Above  : Unsigned_64 := 0;
+      Unfit  : Unsigned_64 := 0;
+      Room   : Unsigned_64 := 0;
+      Cause  : Unsigned_32 := 0;
+      Here   : Unsigned_32 := 0;
+      Nid    : Unsigned_32 := 0;
+      Has    : Unsigned_32 := 0;
+   end record
+     with Convention => C;
+
    function Check
      (K : Kind; Bytes : access constant Unsigned_8; Len : size_t; A : in out Answer) return Status
      with Import, Convention => C, External_Name => "etcs_check";
@@ -122,6 +153,10 @@ package Etcs is
       Output : access Unsigned_8; Room : size_t; A : in out Answer) return Status
      with Import, Convention => C, External_Name => "etcs_explain";
 
+   function Refusal
+     (K : Kind; Bytes : access constant Unsigned_8; Len : size_t; R : in out Reason; A : in out Answer) return Status
+     with Import, Convention => C, External_Name => "etcs_refusal";
+
    function Fields_Before
      (K : Kind; Bytes : access constant Unsigned_8; Len : size_t;
       Output : access Field; Room : size_t; A : in out Answer) return Status
@@ -131,5 +166,10 @@ package Etcs is
      (K : Kind; Line : access constant Unsigned_8; Len : size_t;
       Output : access Unsigned_8; Room : size_t; A : in out Answer) return Status
      with Import, Convention => C, External_Name => "etcs_explain_json";
+
+   function Json_Reason
+     (K : Kind; Line : access constant Unsigned_8; Len : size_t;
+      Output : access Unsigned_8; Room : size_t; A : in out Answer) return Status
+     with Import, Convention => C, External_Name => "etcs_json_reason";
 
 end Etcs;

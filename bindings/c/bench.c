@@ -1,5 +1,5 @@
 /* bench CALL KIND FILE COUNT: nanoseconds of processor time for each item, over all items of the file COUNT times.
- * CALL is check, show, to_json, from_json, fields, pack (fields and from_fields), explain or before (of telegrams
+ * CALL is check, show, to_json, from_json, fields, pack (fields and from_fields), explain, refusal or before (of telegrams
  * whose last bit is turned, which is refused), or a number: the reader, fed pieces of that many bytes. */
 #include "etcs_help.h"
 #include <stdio.h>
@@ -59,12 +59,14 @@ int main(int argc, char **argv) {
             }
             continue;
         }
-        if (!strcmp(call, "explain") || !strcmp(call, "before")) {
+        if (!strcmp(call, "explain") || !strcmp(call, "refusal") || !strcmp(call, "before")) {
+            etcs_reason reason;
             size_t size = kind == ETCS_LONG ? 104 : 27;
             if (kind > ETCS_SHORT || len % size) return 2;
             for (size_t at = 0; at < len; at += size, items++) {
                 bytes[at + size - 1] ^= 1;
                 etcs_status status = !strcmp(call, "before") ? etcs_fields_before(kind, bytes + at, size, fields, 8192, &answer)
+                    : !strcmp(call, "refusal") ? etcs_refusal(kind, bytes + at, size, &reason, &answer)
                     : etcs_explain(kind, bytes + at, size, out, sizeof out, &answer);
                 if (status != ETCS_REFUSED) return 3;
                 sum += answer.written;

@@ -9,9 +9,10 @@
  *     case ETCS_MORE:    these bytes begin a telegram but hold no whole one
  *     }
  *
- * Each function here is proved to return and to write what its comment describes, with two exceptions: the words of a
- * reason (etcs_explain, etcs_explain_json); and those of a meaning (etcs_meaning), and whether there are any, unless the
- * number stands for something special. When ETCS_NO_MEMORY is returned isn't proved. etcs_help.h has helpers written in C
+ * Each function here is proved to return and to write what its comment describes, with two exceptions: what is written of
+ * why a line is refused (etcs_explain_json, etcs_json_reason); and the words of a meaning (etcs_meaning), and whether there
+ * are any, unless the number stands for something special. When ETCS_NO_MEMORY is returned isn't proved, except that etcs_refusal never
+ * returns it for a refused bit. etcs_help.h has helpers written in C
  * on top of them: names of variables and statuses, look-up of a variable, a reader of pieces.
  *
  * Memory: all buffers are the caller's, and no call keeps a pointer to them. Calls allocate by malloc and free all of it
@@ -20,12 +21,12 @@
  *
  * What the caller must ensure, since nothing checks it:
  *   - a pointer points to as many bytes, fields or telegrams as its length says, fewer than 2^63 bytes; if its length is
- *     0 it may be null; answer and group are never null;
- *   - a pointer to an answer, a group, fields or telegrams is aligned as its type is;
- *   - out, group and answer overlap neither each other nor what is read;
+ *     0 it may be null; answer, group and reason are never null;
+ *   - a pointer to an answer, a group, a reason, fields or telegrams is aligned as its type is;
+ *   - out, group, reason and answer overlap neither each other nor what is read;
  *   - no call is made from a signal handler, nor in the forked child of a process with threads;
- *   - there are 32 KiB of stack; for etcs_from_json and etcs_explain_json 64 KiB, since lists and objects may be nested,
- *     up to 127 deep.
+ *   - there are 32 KiB of stack; for etcs_from_json, etcs_explain_json and etcs_json_reason 64 KiB, since lists and objects
+ *     may be nested, up to 127 deep.
  *
  * What stays the same in each version of libetcs.so.1: these calls, the structs with their members, sizes and order, and
  * the numbers of kinds, statuses and variables. Later versions may add calls, statuses and variables after them.
@@ -111,7 +112,48 @@ typedef struct etcs_group {
     uint32_t is_complete; /* 1 if there is a telegram and no position is missing, else 0 */
 } etcs_group;
 
-/* In the comments below, the members of answer, or group, that a status comes with are named after it. */
+/* Why no number may come that begins with the bits up to a refused one: etcs_reason.cause. */
+enum {
+    ETCS_SPARE = 0, /* the tables have none, whatever is left of the item */
+    ETCS_UNFIT = 1  /* the tables have some, etcs_reason.unfit being one of them, but none of them fits there */
+};
+
+/* What comes there, as far as it limits the numbers of the variable: etcs_reason.here. */
+enum {
+    ETCS_ANY = 0,            /* a variable with any number that it admits (SUBSET-026, 7.5) */
+    ETCS_MESSAGE_LENGTH = 1, /* L_MESSAGE of message nid */
+    ETCS_PACKET_NUMBER = 2,  /* NID_PACKET, where room bits are left */
+    ETCS_PACKET_LENGTH = 3,  /* L_PACKET of packet nid, where room bits are left */
+    ETCS_ROW = 4             /* a variable of packet nid after L_PACKET, where room bits are left of the packet */
+};
+
+/* Which members of an etcs_reason are there: etcs_reason.has is the sum of theirs. */
+enum {
+    ETCS_HAS_NUMBER = 1,
+    ETCS_HAS_BELOW = 2,
+    ETCS_HAS_ABOVE = 4,
+    ETCS_HAS_ROOM = 8,
+    ETCS_HAS_NID = 16
+};
+
+/* Why a bit is refused: no number of its variable may come there that begins with the variable's bits up to it. A member that
+ * isn't there is 0. Numbers are as they are sent: of L_PACKET bits, of L_MESSAGE bytes, of a distance without Q_SCALE. */
+typedef struct etcs_reason {
+    uint64_t bits;   /* the bits of the variable up to and with the refused one, as a number, the first one highest */
+    uint64_t count;  /* how many bits these are: at least 1, and at most the variable's width */
+    uint64_t number; /* ETCS_HAS_NUMBER: the variable's number, if the bytes, up to 1,023, have all of its bits */
+    uint64_t below;  /* ETCS_HAS_BELOW: the greatest number that may come there of those below all that begin with bits */
+    uint64_t above;  /* ETCS_HAS_ABOVE: the least number that may come there of those above them */
+    uint64_t unfit;  /* with ETCS_UNFIT: a number that begins with bits and that the tables have; else 0 */
+    uint64_t room;   /* ETCS_HAS_ROOM: how many bits are left, with the variable, of its packet; for ETCS_PACKET_NUMBER and
+                        ETCS_PACKET_LENGTH of the telegram's user bits or the message, from the packet's first bit on */
+    uint32_t cause;  /* ETCS_SPARE or ETCS_UNFIT */
+    uint32_t here;   /* what comes there: ETCS_ANY and so on */
+    uint32_t nid;    /* ETCS_HAS_NID: the number of the message whose length comes there, or of the packet it is in */
+    uint32_t has;    /* which members are there */
+} etcs_reason;
+
+/* In the comments below, the members of answer, or group, or reason, that a status comes with are named after it. */
 
 /* Whether the bytes begin with an item. Bytes after the item are ignored.
  *     ETCS_OK       they do: taken
@@ -197,16 +239,22 @@ etcs_status etcs_assemble(const etcs_telegram *telegrams, size_t count, etcs_gro
  *     ETCS_OK, ETCS_NO_ROOM  written, which counts the zero */
 etcs_status etcs_version(uint8_t *out, size_t room, etcs_answer *answer);
 
-/* ---- Why input is no item. These three write only if it is refused; else out is unchanged. */
+/* ---- Why input is no item. These five write only if it is refused; else out, or reason, is unchanged. */
 
 /* As etcs_check, and why a refused bit is refused: a sentence in UTF-8, without a capital, a full stop or a zero after it,
- * as "message 6 has 10 or 13 to 1023 bytes, not 11"; if it has many numbers, some are left out and it ends with " ..". The
- * words may differ in the next version.
+ * as "message 6 has 10 or 13 to 1023 bytes, not 11". The words may differ in the next version; etcs_refusal has the numbers.
  *     ETCS_OK                     taken; written, which is 0
  *     ETCS_MORE                   written, which is 0
  *     ETCS_REFUSED, ETCS_NO_ROOM  bit, var; written, which is 1 or more */
 etcs_status etcs_explain(etcs_kind kind, const uint8_t *bytes, size_t len, uint8_t *out, size_t room,
                          etcs_answer *answer);
+
+/* As etcs_check, and why a refused bit is refused, as numbers: those of which etcs_explain makes its sentence. A refused bit
+ * is always reported, also if there is no memory.
+ *     ETCS_OK       taken; reason is unchanged
+ *     ETCS_MORE     the bytes begin an item but hold no whole one; reason is unchanged
+ *     ETCS_REFUSED  bit, var; reason */
+etcs_status etcs_refusal(etcs_kind kind, const uint8_t *bytes, size_t len, etcs_reason *reason, etcs_answer *answer);
 
 /* As etcs_check, and for a refused bit the fields of variables before it, in the order of sending, as etcs_fields writes
  * them: an item of the kind begins with these fields, they are the first bits of the bytes, and from their end to bit are
@@ -225,6 +273,17 @@ etcs_status etcs_fields_before(etcs_kind kind, const uint8_t *bytes, size_t len,
  *     ETCS_NO_ROOM   the same as one of the last two */
 etcs_status etcs_explain_json(etcs_kind kind, const uint8_t *line, size_t len, uint8_t *out, size_t room,
                               etcs_answer *answer);
+
+/* As etcs_explain_json, but what is written is the reason as data, an object of JSON without blanks, as
+ * {"column":null,"expected":"an object","found":"a list","path":".","reason":".: expected an object, found a list"}:
+ *     column    a number: the character, counted from 1, at which the line stops being JSON or is nested too deep
+ *     expected  what has to be at the path, if that is one thing
+ *     found     what is there in its place
+ *     path      of the first part that is wrong, as jq writes it
+ *     reason    the text that etcs_explain_json writes
+ * The first four are null where there is none. The words may differ in the next version. */
+etcs_status etcs_json_reason(etcs_kind kind, const uint8_t *line, size_t len, uint8_t *out, size_t room,
+                             etcs_answer *answer);
 
 #ifdef __cplusplus
 }

@@ -29,6 +29,7 @@ static etcs_status check_of_reader(etcs_kind kind, const uint8_t *bytes, size_t 
 _Static_assert(sizeof(etcs_answer) == 56 && offsetof(etcs_answer, var) == 24, "etcs_answer");
 _Static_assert(sizeof(etcs_telegram) == 108 && offsetof(etcs_telegram, bytes) == 4, "etcs_telegram");
 _Static_assert(sizeof(etcs_group) == 12 && offsetof(etcs_group, is_complete) == 8, "etcs_group");
+_Static_assert(sizeof(etcs_reason) == 72 && offsetof(etcs_reason, count) == 8 && offsetof(etcs_reason, cause) == 56 && offsetof(etcs_reason, has) == 68, "etcs_reason");
 _Static_assert(sizeof(etcs_field) == 16 && offsetof(etcs_field, var) == 8 && offsetof(etcs_field, width) == 12, "etcs_field");
 
 static __thread long left = LONG_MAX;
@@ -105,15 +106,15 @@ static void refused_reasons(void)
     size_t len = item(bytes, RADIO);
     etcs_answer a = {0};
     bytes[1] = 0x02, bytes[2] = 0xC0;   /* L_MESSAGE 11 */
-    for (int call = 0; call < 3; call++)
+    for (int call = 0; call < 4; call++)
         for (long n = 0;; n++) {
             memset(out, 7, sizeof out), memcpy(before, out, sizeof out);
             left = n;
             etcs_status s = call == 0 ? etcs_explain(ETCS_RADIO, bytes, len, out, sizeof out, &a)
                 : call == 1 ? etcs_fields_before(ETCS_RADIO, bytes, len, (etcs_field *)out, sizeof out / sizeof(etcs_field), &a)
-                : etcs_explain_json(ETCS_RADIO, (const uint8_t *)wrong_json, sizeof wrong_json - 1, out, sizeof out, &a);
+                : (call == 2 ? etcs_explain_json : etcs_json_reason)(ETCS_RADIO, (const uint8_t *)wrong_json, sizeof wrong_json - 1, out, sizeof out, &a);
             left = LONG_MAX;
-            if (s == (call == 2 ? ETCS_BAD_JSON : ETCS_REFUSED)) { printf("reason, call %d: %ld allocations\n", call, n); break; }
+            if (s == (call >= 2 ? ETCS_BAD_JSON : ETCS_REFUSED)) { printf("reason, call %d: %ld allocations\n", call, n); break; }
             EXPECT(s == ETCS_NO_MEMORY);
             EXPECT(!memcmp(out, before, sizeof out));
             if (n > 1000) { EXPECT(0); break; }
@@ -124,6 +125,7 @@ static void refused_reasons(void)
 static void reasons(void)
 {
     static const char *const why = "message 24 has 10 or 13 to 1023 bytes, not 11";
+    static const char *const data = "{\"column\":null,\"expected\":null,\"found\":null,\"path\":\".header[1]\",\"reason\":\".header[1]: M_ACK admits 0 and 1, not 2\"}";
     uint8_t bytes[64], out[4096];
     char line[4096];
     etcs_field before[8];
@@ -137,6 +139,7 @@ static void reasons(void)
     EXPECT(etcs_explain(9, bytes, len, out, sizeof out, &a) == ETCS_UNKNOWN_KIND);
     EXPECT(etcs_fields_before(9, bytes, len, before, 8, &a) == ETCS_UNKNOWN_KIND);
     EXPECT(etcs_explain_json(9, bytes, len, out, sizeof out, &a) == ETCS_UNKNOWN_KIND);
+    EXPECT(etcs_json_reason(9, bytes, len, out, sizeof out, &a) == ETCS_UNKNOWN_KIND);
     /* L_MESSAGE 11 is no length of message 24: its last bit is bit 17 */
     bytes[1] = 0x02, bytes[2] = 0xC0;
     size = strlen(why);
@@ -155,6 +158,7 @@ static void reasons(void)
     EXPECT(etcs_to_json(ETCS_RADIO, bytes, len, (uint8_t *)line, sizeof line, &a) == ETCS_OK);
     size_t line_len = a.written;
     EXPECT(etcs_explain_json(ETCS_RADIO, (uint8_t *)line, line_len, out, sizeof out, &a) == ETCS_OK && a.written == 0);
+    EXPECT(etcs_json_reason(ETCS_RADIO, (uint8_t *)line, line_len, out, sizeof out, &a) == ETCS_OK && a.written == 0);
     line[line_len] = 0;
     char *number = strstr(line, "[\"M_ACK\",0]");
     EXPECT(number);
@@ -165,6 +169,13 @@ static void reasons(void)
     out[a.written] = 0;
     printf("%s\n", out);
     EXPECT(strstr((char *)out, ".header[1]") && strstr((char *)out, "M_ACK"));
+    size = strlen(data);
+    for (size_t room = 0; room <= size; room++) {
+        memset(out, 7, sizeof out), memset(&a, 0, sizeof a);
+        etcs_status s = etcs_json_reason(ETCS_RADIO, (uint8_t *)line, line_len, out, room, &a);
+        EXPECT(s == (room < size ? ETCS_NO_ROOM : ETCS_BAD_JSON) && a.written == size);
+        for (size_t i = 0; i < sizeof out; i++) EXPECT(out[i] == (room < size || i >= size ? 7 : (uint8_t)data[i]));
+    }
     EXPECT(etcs_explain_json(ETCS_SHORT, (uint8_t *)line, line_len, out, sizeof out, &a) == ETCS_BAD_JSON && a.written > 0);
     EXPECT(etcs_explain_json(ETCS_RADIO, (uint8_t *)line, 0, out, sizeof out, &a) == ETCS_BAD_JSON && a.written > 0);
 }
@@ -177,6 +188,27 @@ static int are_first(const etcs_field *fields, size_t count, const uint8_t *byte
         for (uint32_t n = fields[i].width; n-- > 0; at++)
             if ((fields[i].number >> n & 1) != (bytes[at / 8] >> (7 - at % 8) & 1u)) return 0;
     return at <= bit && bit < at + 64;
+}
+
+/* Whether the reason is that of a bit of these bytes, by its members alone: its bits end with this bit, its number begins with
+ * them, the nearest numbers lie on either side, and what isn't there is 0. */
+static int is_reason(const etcs_reason *r, const uint8_t *bytes, size_t len, size_t bit)
+{
+    uint32_t has = r->has;
+    uint64_t read = 0, number = 0;
+    size_t first = bit + 1 - r->count, width;
+    if (r->count < 1 || r->count > 64 || r->count > bit + 1) return 0;
+    for (size_t at = first; at <= bit; at++) read = 2 * read + (bytes[at / 8] >> (7 - at % 8) & 1u);
+    if (read != r->bits || r->cause > ETCS_UNFIT || r->here > ETCS_ROW || has > 31) return 0;
+    if (has & ETCS_HAS_NUMBER) {
+        for (number = read, width = r->count; number != r->number && first + width < 8 * len; width++)
+            number = 2 * number + (bytes[(first + width) / 8] >> (7 - (first + width) % 8) & 1u);
+        if (number != r->number || (has & ETCS_HAS_BELOW && r->below >= number) || (has & ETCS_HAS_ABOVE && r->above <= number)) return 0;
+    }
+    if (has & ETCS_HAS_BELOW && has & ETCS_HAS_ABOVE && r->below >= r->above) return 0;
+    return (has & ETCS_HAS_NUMBER || !r->number) && (has & ETCS_HAS_BELOW || !r->below) && (has & ETCS_HAS_ABOVE || !r->above)
+        && (r->cause == ETCS_UNFIT || !r->unfit) && !(has & ETCS_HAS_ROOM) == (r->here < ETCS_PACKET_NUMBER) && (has & ETCS_HAS_ROOM || !r->room)
+        && !(has & ETCS_HAS_NID) == (r->here == ETCS_ANY || r->here == ETCS_PACKET_NUMBER) && (has & ETCS_HAS_NID || !r->nid);
 }
 
 static void short_buffers(void)
@@ -292,6 +324,22 @@ static void statuses(void)
     EXPECT(STARVES(etcs_explain(ETCS_RADIO, eleven, 3, out, 256, &a)) && out[0] == 7);
     EXPECT(ANSWERS(ETCS_UNKNOWN_KIND, etcs_explain(9, eleven, 3, out, 256, &a)) && out[0] == 7);
 
+    etcs_reason reason;
+#define REASON(kind, bytes, len) (memset(&reason, 7, sizeof reason), etcs_refusal(kind, bytes, len, &reason, &a))
+#define IS_SAME (reason.bits == 0x0707070707070707 && reason.has == 0x07070707)
+    EXPECT(ANSWERS(ETCS_OK, REASON(ETCS_RADIO, ten, 10)) && a.taken == 10 && IS_SAME);
+    EXPECT(ANSWERS(ETCS_MORE, REASON(ETCS_RADIO, ten, 9)) && IS_SAME);
+    EXPECT(ANSWERS(ETCS_REFUSED, REASON(ETCS_RADIO, eleven, 3)) && IS_REFUSED(17, "L_MESSAGE"));
+    EXPECT(reason.bits == 11 && reason.count == 10 && reason.number == 11 && reason.below == 10 && reason.above == 13);
+    EXPECT(reason.unfit == 0 && reason.room == 0 && reason.cause == ETCS_SPARE && reason.here == ETCS_MESSAGE_LENGTH && reason.nid == 24);
+    EXPECT(reason.has == (ETCS_HAS_NUMBER | ETCS_HAS_BELOW | ETCS_HAS_ABOVE | ETCS_HAS_NID));
+    /* a refused bit takes no memory */
+    left = 0;
+    EXPECT(ANSWERS(ETCS_REFUSED, REASON(ETCS_RADIO, eleven, 3)) && IS_REFUSED(17, "L_MESSAGE") && reason.bits == 11);
+    left = LONG_MAX;
+    EXPECT(STARVES(REASON(ETCS_RADIO, front, packet_len)) && IS_SAME);
+    EXPECT(ANSWERS(ETCS_UNKNOWN_KIND, REASON(9, eleven, 3)) && IS_SAME);
+
     EXPECT(ANSWERS(ETCS_OK, etcs_fields_before(ETCS_RADIO, ten, 10, fields, 8, &a)) && a.taken == 10 && a.written == 0);
     EXPECT(ANSWERS(ETCS_MORE, etcs_fields_before(ETCS_RADIO, ten, 9, fields, 8, &a)) && a.written == 0);
     EXPECT(ANSWERS(ETCS_REFUSED, etcs_fields_before(ETCS_RADIO, eleven, 3, fields, 8, &a)) && IS_REFUSED(17, "L_MESSAGE") && a.written == 1);
@@ -307,6 +355,14 @@ static void statuses(void)
     EXPECT(ANSWERS(ETCS_NO_ROOM, etcs_explain_json(ETCS_SHORT, JSON(spare), out, 0, &a)) && IS_REFUSED(74, "Q_SCALE") && a.written > 0);
     EXPECT(STARVES(etcs_explain_json(ETCS_RADIO, JSON("{}"), out, 256, &a)) && out[0] == 7);
     EXPECT(ANSWERS(ETCS_UNKNOWN_KIND, etcs_explain_json(9, JSON(line), out, 256, &a)) && out[0] == 7);
+
+    EXPECT(ANSWERS(ETCS_OK, etcs_json_reason(ETCS_RADIO, JSON(line), out, 256, &a)) && a.written == 0 && out[0] == 7);
+    EXPECT(ANSWERS(ETCS_BAD_JSON, etcs_json_reason(ETCS_RADIO, JSON("{}"), out, 256, &a)) && a.written > 0);
+    EXPECT(ANSWERS(ETCS_NO_ROOM, etcs_json_reason(ETCS_RADIO, JSON("{}"), out, 0, &a)) && a.written > 0);
+    EXPECT(ANSWERS(ETCS_REFUSED, etcs_json_reason(ETCS_SHORT, JSON(spare), out, 256, &a)) && IS_REFUSED(74, "Q_SCALE") && a.written > 0);
+    EXPECT(ANSWERS(ETCS_NO_ROOM, etcs_json_reason(ETCS_SHORT, JSON(spare), out, 0, &a)) && IS_REFUSED(74, "Q_SCALE") && a.written > 0);
+    EXPECT(STARVES(etcs_json_reason(ETCS_RADIO, JSON("{}"), out, 256, &a)) && out[0] == 7);
+    EXPECT(ANSWERS(ETCS_UNKNOWN_KIND, etcs_json_reason(9, JSON(line), out, 256, &a)) && out[0] == 7);
 }
 
 /* The same for the calls over lines of hexadecimal and over numbers, with the words of `explain` and the rule of logs. */
@@ -456,11 +512,14 @@ static void no_pointers(void)
     EXPECT(etcs_to_json(ETCS_RADIO, NULL, 0, NULL, 0, &a) == ETCS_MORE && etcs_to_json(ETCS_RADIO, bytes, len, NULL, 0, &a) == ETCS_NO_ROOM);
     EXPECT(etcs_fields(ETCS_RADIO, NULL, 0, NULL, 0, &a) == ETCS_MORE && etcs_fields(ETCS_RADIO, bytes, len, NULL, 0, &a) == ETCS_NO_ROOM);
     EXPECT(etcs_explain(ETCS_RADIO, NULL, 0, NULL, 0, &a) == ETCS_MORE && etcs_explain(ETCS_SHORT, bytes, len, NULL, 0, &a) == ETCS_NO_ROOM);
+    etcs_reason reason;
+    EXPECT(etcs_refusal(ETCS_RADIO, NULL, 0, &reason, &a) == ETCS_MORE);
     EXPECT(etcs_fields_before(ETCS_RADIO, NULL, 0, NULL, 0, &a) == ETCS_MORE);
     EXPECT(etcs_fields(ETCS_RADIO, bytes, len, sent, 32, &a) == ETCS_OK);
     EXPECT(etcs_from_fields(ETCS_RADIO, NULL, 0, NULL, 0, &a) == ETCS_MORE && etcs_from_fields(ETCS_RADIO, sent, a.written, NULL, 0, &a) == ETCS_NO_ROOM);
     EXPECT(etcs_from_json(ETCS_RADIO, NULL, 0, NULL, 0, &a) == ETCS_BAD_JSON && etcs_explain_json(ETCS_RADIO, NULL, 0, NULL, 0, &a) == ETCS_NO_ROOM);
     EXPECT(etcs_from_json(ETCS_RADIO, NULL, 0, out, sizeof out, &a) == ETCS_BAD_JSON && etcs_explain_json(ETCS_RADIO, NULL, 0, out, sizeof out, &a) == ETCS_BAD_JSON);
+    EXPECT(etcs_json_reason(ETCS_RADIO, NULL, 0, NULL, 0, &a) == ETCS_NO_ROOM && etcs_json_reason(ETCS_RADIO, NULL, 0, out, sizeof out, &a) == ETCS_BAD_JSON);
     EXPECT(etcs_meaning(ETCS_RADIO, ETCS_VAR_D_LINK, 1, 3, NULL, 0, &a) == ETCS_OK && etcs_meaning(ETCS_RADIO, ETCS_VAR_Q_LINK, 1, 3, NULL, 0, &a) == ETCS_NO_ROOM);
     EXPECT(etcs_line_bytes(NULL, 0, NULL, 0, &a) == ETCS_EMPTY_LINE && etcs_line_front(NULL, 0) == 0 && etcs_version(NULL, 0, &a) == ETCS_NO_ROOM);
     /* bit 0 is refused, before which there is no field */
@@ -645,6 +704,7 @@ static void dear_refusals(int call)
         size_t len = item(bytes, digits[i]);
         if (call == 0) etcs_check(file_kind, bytes, len, &a);
         if (call == 6) etcs_explain(file_kind, bytes, len, text, sizeof text, &a);
+        if (call == 6) etcs_refusal(file_kind, bytes, len, &(etcs_reason){0}, &a);
         if (call == 7) etcs_fields_before(file_kind, bytes, len, before, ETCS_MOST_FIELDS, &a);
     }
 }
@@ -690,13 +750,14 @@ static void *all_calls(void *arg)
                 for (size_t i = at % 13; i < n; i += 61) {
                     uint8_t was = json_text[i];
                     json_text[i] = '7';
-                    etcs_explain_json(file_kind, json_text, n, text, sizeof text, &a);
+                    (i % 2 ? etcs_explain_json : etcs_json_reason)(file_kind, json_text, n, text, sizeof text, &a);
                     json_text[i] = was;
                 }
             } else
                 for (size_t bit = at % 13; bit < 8 * taken; bit += 17) {
                     file[at + bit / 8] ^= 0x80 >> bit % 8;
-                    if (call == 6) etcs_explain(file_kind, file + at, taken, text, sizeof text, &a);
+                    if (call == 6 && bit % 2) etcs_refusal(file_kind, file + at, taken, &(etcs_reason){0}, &a);
+                    else if (call == 6) etcs_explain(file_kind, file + at, taken, text, sizeof text, &a);
                     else etcs_fields_before(file_kind, file + at, taken, sent, ETCS_MOST_FIELDS, &a);
                     file[at + bit / 8] ^= 0x80 >> bit % 8;
                 }
@@ -773,7 +834,7 @@ static void *deep(void *arg)
             for (size_t i = 0; i < len; i++) text[i] = (uint8_t)units[u][i % strlen(units[u])];
             for (size_t n = 1; n <= len; n = n < 2000 ? n + 1 : n * 3) {
                 EXPECT(etcs_from_json(kind, text, n, out, sizeof out, &a) == ETCS_BAD_JSON);
-                EXPECT(etcs_explain_json(kind, text, n, out, sizeof out, &a) == ETCS_BAD_JSON && a.written > 0);
+                EXPECT((n % 2 ? etcs_explain_json : etcs_json_reason)(kind, text, n, out, sizeof out, &a) == ETCS_BAD_JSON && a.written > 0);
             }
         }
     free(text);
@@ -874,6 +935,9 @@ static void items(void)
                     refused++, pieces(file_kind, front, taken, 1 + bit % 40);
                     pieces(file_kind, front, taken, 1), pieces(file_kind, front, a.bit / 8 + 1, 1);
                     EXPECT(etcs_explain(file_kind, front, taken, text, sizeof text, &b) == s && a.bit == b.bit && !strcmp(a.var, b.var) && b.written > 0);
+                    etcs_reason reason;
+                    EXPECT(etcs_refusal(file_kind, front, taken, &reason, &b) == s && a.bit == b.bit && !strcmp(a.var, b.var));
+                    EXPECT(is_reason(&reason, front, taken, b.bit));
                     EXPECT(etcs_fields_before(file_kind, front, taken, sent, ETCS_MOST_FIELDS, &b) == s && a.bit == b.bit && !strcmp(a.var, b.var));
                     EXPECT(are_first(sent, b.written, front, b.bit));
                 }

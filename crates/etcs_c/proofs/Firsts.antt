@@ -3,7 +3,7 @@ use Rattle.std.proofs.Common.{◌≡◌, ℕ, ◌+◌, ◌*◌, ◌/◌, Bool, L
 use Rattle.std.proofs.lemmas.List.{length-take-le}
 use Rattle.etcs_vars.specs.declared.feed.Fed.TheVariants.{Done}
 use Rattle.etcs_vars.specs.Reading.{Reading, IsOutcome, done, refused, more, readings_of, spelled}
-use Rattle.etcs_vars.proofs.Outcomes.{more_wanted, none_refused}
+use Rattle.etcs_vars.proofs.Outcomes.{more_wanted}
 use Rattle.etcs_text.specs.declared.entry.Kind.{Kind}
 use Rattle.etcs_text.specs.Entries.{EntryReads, EntryValue}
 use Rattle.etcs_text.specs.Readers.{Feeds, Progress, finished}
@@ -12,7 +12,7 @@ use Rattle.etcs_reasons.proofs.ItemLengths.{item_length}
 use Rattle.etcs_reasons.specs.Accounts.{Accounts}
 use Rattle.etcs_reasons.specs.declared.account.Part.{Part}
 use Rattle.etcs_reasons.specs.declared.account.End.TheVariants as end
-use Rattle.etcs_c.proofs.Fronts.{outcome_front}
+use Rattle.etcs_c.proofs.Fronts.{outcome_front, outcome_refused}
 
 -- the item that was fed, which is this one
 pub first_whole : (kind : Kind) (b : List Bool) (k : ℕ) (at : Progress) (v : EntryValue) → Feeds (EntryReads kind) [] b (Ok (Done k)) at → at ≡ finished v → IsOutcome (EntryReads kind) b (done v (8 * k))
@@ -37,4 +37,4 @@ module _ (kind : Kind) (b : List Bool) (p : Reading) where
   account_open part (shows, owner, short) = outcome_front kind b more (more_wanted Items (kind_regular kind) (take 8184 b) owner)
 
   pub account_refused : (i : ℕ) (part : Part) → Accounts Items p (end.Refused i part) (take 8184 b) → IsOutcome (EntryReads kind) b (refused i part.var)
-  account_refused i part (shows, r, short) = outcome_front kind b (refused i part.var) ((none_refused Items (kind_regular kind) (take 8184 b) i part.var r, r.within, r.blocked), r.owned)
+  account_refused i part (shows, r, short) = outcome_refused kind b i part.var r

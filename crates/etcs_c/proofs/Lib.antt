@@ -1,4 +1,5 @@
 pub mod Delivering
+pub mod Ends
 pub mod Firsts
 pub mod Fits
 pub mod Fronts

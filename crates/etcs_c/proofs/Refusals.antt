@@ -31,6 +31,11 @@ pub words_said : {V E : Type 0} (old new : List ℕ) (s : ℕ) (a : EtcsAnswer) 
 words_said old new s a items status (Ok v) some writes = inl (items v, some, writes)
 words_said old new s a items status (Err x) some starves = inr starves
 
+-- exactly these are written
+pub exactly_said : {A V E : Type 0} (items : V → List A) (wanted : List A) (status : ℕ) (old new : List A) (s : ℕ) (a : EtcsAnswer) (made : Result V E) → IfOk made (λ v. items v ≡ wanted) → MatchResult made (λ v. WritesAs status (items v) old new s a) (λ x. Starves old new s) → WritesAs status wanted old new s a ⊎ Starves old new s
+exactly_said {A} items wanted status old new s a (Ok v) is writes = inl (subst (λ (t : List A). WritesAs status t old new s a) is writes)
+exactly_said items wanted status old new s a (Err x) is starves = inr starves
+
 pub before_said : {V E : Type 0} (items : V → List EtcsField) (kind : Kind) (b : List Bool) (i : ℕ) (part : Part) (p sent : Reading) → Accounts (readings_of (EntryReads kind)) p (end.Refused i part) (take 8184 b) → sent ≡ p → (old new : List EtcsField) (s : ℕ) (a : EtcsAnswer) (made : Result V E) → IfOk made (λ v. items v ≡ fields_of sent) → MatchResult made (λ v. WritesAs 2 (items v) old new s a) (λ x. Starves old new s) → ((fs : List EtcsField) × AreBefore kind b i part.var fs × WritesAs 2 fs old new s a) ⊎ Starves old new s
 before_said items kind b i part p sent account same old new s a (Ok v) is writes = inl (items v, before kind b i part p (items v) account (is ∙ ap fields_of same), writes)
 before_said items kind b i part p sent account same old new s a (Err y) is starves = inr starves

@@ -20,12 +20,12 @@ module _ (kind : Kind) (b : List Bool) (s : ℕ) (a : EtcsAnswer) where
   unwritten Whole out = said_as (λ e. ⊥) Whole (λ i x. s ≡ 2) (λ i x. (s ≡ 2) × (out ≡ out)) (Unit {0}) (out ≡ out) (λ e none. absurd none) (λ i x is. (is, refl)) (λ _. refl)
 
   -- nor where no bit is refused
-  pub unrefused_said : {A : Type 0} (Refused : ℕ → Var → Type 0) (out : List A) → SaysUnrefused kind b s a → SaysRefusal kind b Refused out out s a
+  pub unrefused_said : {A : Type 0} (Refused : ℕ → Var → Type 0) (out : A) → SaysUnrefused kind b s a → SaysRefusal kind b Refused out out s a
   unrefused_said Refused out = said_as (λ e. (s ≡ 0) × (a.written ≡ 0)) (λ e. (s ≡ 0) × (a.written ≡ 0) × (out ≡ out)) (λ i x. ⊥) Refused (a.written ≡ 0) ((a.written ≡ 0) × (out ≡ out)) (λ e is. (is.0, is.1, refl)) (λ i x none. absurd none) (λ none. (none, refl))
 
--- of bits that begin with an item no bit is refused
-pub whole_unrefused : (kind : Kind) (b : List Bool) (e : EntryValue) (n : ℕ) → IsOutcome (EntryReads kind) b (done e n) → (s : ℕ) (a a' : EtcsAnswer) → SaysBits kind b s a → a'.taken ≡ a.taken → a'.written ≡ 0 → SaysUnrefused kind b s a'
-whole_unrefused kind b e n (le, r, reads, is) s a a' (inl (done v k, o, (taken, zero))) same none = inl (done v k, o, (taken ∙ ap (λ (m : ℕ). 8 * m) (sym same), (zero, none)))
-whole_unrefused kind b e n (le, r, reads, is) s a a' (inl (refused i x, o, h)) same none = absurd (o.0.0 n le (r, (e, reads), is))
-whole_unrefused kind b e n (le, r, reads, is) s a a' (inl (more, o, (status, h))) same none = inl (more, o, (status, none))
-whole_unrefused kind b e n outcome s a a' (inr (status, h)) same none = inr (status, none)
+-- of bits of which none is refused
+pub none_refused_said : (kind : Kind) (b : List Bool) → ((i : ℕ) (x : Var) → IsOutcome (EntryReads kind) b (refused i x) → ⊥) → (s : ℕ) (a a' : EtcsAnswer) → SaysBits kind b s a → a'.taken ≡ a.taken → a'.written ≡ 0 → SaysUnrefused kind b s a'
+none_refused_said kind b not s a a' (inl (done v k, o, (taken, zero))) same none = inl (done v k, o, (taken ∙ ap (λ (m : ℕ). 8 * m) (sym same), (zero, none)))
+none_refused_said kind b not s a a' (inl (refused i x, o, h)) same none = absurd (not i x o)
+none_refused_said kind b not s a a' (inl (more, o, (status, h))) same none = inl (more, o, (status, none))
+none_refused_said kind b not s a a' (inr (status, h)) same none = inr (status, none)

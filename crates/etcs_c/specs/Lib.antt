@@ -5,6 +5,7 @@ pub mod Groups
 pub mod ItemFields
 pub mod Lines
 pub mod Meanings
+pub mod Reasons
 pub mod Writes
 pub mod Fields
 pub mod laws

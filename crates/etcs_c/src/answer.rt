@@ -83,6 +83,7 @@ pub fn refuse(bit: usize, var: Var, answer: &mut EtcsAnswer) -> u32
     ensures status { result ≡ 2 }
     ensures bit { answer.new.bit ≡ bit }
     ensures var { answer.new.var ≡ name_field var }
+    ensures written { answer.new.written ≡ answer.old.written }
 {
     answer.bit = bit;
     answer.var = name_field(var);

@@ -1,9 +1,10 @@
 //! Each status of each call, over items and fields that are worked out by hand from the tables.
 
 use crate::{
-    EtcsAnswer, EtcsField, EtcsGroup, EtcsTelegram, etcs_assemble, etcs_check, etcs_explain,
-    etcs_explain_json, etcs_fields, etcs_fields_before, etcs_from_fields, etcs_from_json,
-    etcs_line_bytes, etcs_line_front, etcs_meaning, etcs_show, etcs_to_json, etcs_version,
+    EtcsAnswer, EtcsField, EtcsGroup, EtcsReason, EtcsTelegram, etcs_assemble, etcs_check,
+    etcs_explain, etcs_explain_json, etcs_fields, etcs_fields_before, etcs_from_fields,
+    etcs_from_json, etcs_json_reason, etcs_line_bytes, etcs_line_front, etcs_meaning, etcs_refusal,
+    etcs_show, etcs_to_json, etcs_version,
 };
 use etcs_fakes::starve;
 use std::alloc::{AllocError, Global};
@@ -41,6 +42,12 @@ const ANY: usize = usize::MAX;
 
 /// The variable of the refused bits, and of no bit.
 const LENGTH: &[u8] = b"L_MESSAGE\0";
+
+const PACKET_LENGTH: &[u8] = b"L_PACKET\0";
+
+const PACKET_NUMBER: &[u8] = b"NID_PACKET\0";
+
+const COUNT: &[u8] = b"N_ITER\0";
 
 const SCALE: &[u8] = b"Q_SCALE\0";
 
@@ -99,21 +106,117 @@ static OF_BYTES: &[OfBytes] = &[
     (Call::FieldsBefore, 9, ELEVEN, 1, (5, ANY, ANY, ANY, NONE)),
 ];
 
-/// Whether the reason is asked for, the kind, a line, and how much room there is for 120 bytes at most.
-type OfLines = (bool, u32, &'static [u8], usize, Wanted);
+/// The numbers of a reason, in the order of its members.
+type Reason = [u64; 11];
+
+/// What is there before a call.
+const NO_REASON: Reason = [9; 11];
+
+/// The kind, the bytes, and the reason.
+type OfReasons = (u32, &'static [u8], Wanted, Reason);
+
+/// Message 24 has 10 bytes, or 13 and more. Q_MEDIA is 0. In a short telegram 160 bits are left for packet 44, of which 8 are
+/// those of packet 255: so L_PACKET is at most 152, not 153, and doesn't begin with a 1. Packet 21 of 54 bits ends with an
+/// N_ITER of 0. In the 29 bits that are left of a message there is no packet 255.
+static OF_REASONS: &[OfReasons] = &[
+    (3, ITEM, (0, 10, ANY, ANY, NONE), NO_REASON),
+    (3, FRONT, (1, ANY, ANY, ANY, NONE), NO_REASON),
+    (9, ELEVEN, (5, ANY, ANY, ANY, NONE), NO_REASON),
+    (
+        3,
+        ELEVEN,
+        (2, ANY, ANY, 17, LENGTH),
+        [11, 10, 11, 10, 13, 0, 0, 0, 1, 24, 23],
+    ),
+    (
+        2,
+        &[0xA0, 0x82],
+        (2, ANY, ANY, 8, MEDIA),
+        [1, 1, 1, 0, 0, 0, 0, 0, 0, 0, 3],
+    ),
+    (
+        2,
+        &[0xA0, 0x00, 0x7F, 0x80, 0x20, 0x00, 0xCB, 0x20, 0x4C, 0x80],
+        (2, ANY, ANY, 72, PACKET_LENGTH),
+        [153, 13, 153, 152, 0, 153, 160, 1, 3, 44, 27],
+    ),
+    (
+        2,
+        &[0xA0, 0x00, 0x7F, 0x80, 0x20, 0x00, 0xCB, 0x28],
+        (2, ANY, ANY, 60, PACKET_LENGTH),
+        [1, 1, 0, 152, 0, 4096, 160, 1, 3, 44, 26],
+    ),
+    (
+        2,
+        &[
+            0xA0, 0x00, 0x7F, 0x80, 0x20, 0x00, 0xC5, 0x60, 0x1B, 0x20, 0x00, 0x00, 0x01,
+        ],
+        (2, ANY, ANY, 103, COUNT),
+        [1, 5, 1, 0, 0, 1, 5, 1, 4, 21, 27],
+    ),
+    (
+        3,
+        &[
+            0x18, 0x03, 0x40, 0x00, 0x00, 0x00, 0x00, 0x08, 0x00, 0x3F, 0xE8,
+        ],
+        (2, ANY, ANY, 82, PACKET_NUMBER),
+        [255, 8, 255, 254, 0, 0, 29, 0, 2, 0, 11],
+    ),
+];
+
+/// The calls over lines of JSON.
+#[derive(Clone, Copy)]
+enum LineCall {
+    FromJson,
+    ExplainJson,
+    JsonReason,
+}
+
+/// A call over a line, of which kind, and how much room there is for 200 bytes at most.
+type OfLines = (LineCall, u32, &'static [u8], usize, Wanted);
 
 static OF_LINES: &[OfLines] = &[
-    (false, 3, LINE, 10, (0, ANY, 10, ANY, NONE)),
-    (false, 3, LINE, 9, (3, ANY, 10, ANY, NONE)),
-    (false, 3, b"{}", 10, (6, ANY, ANY, ANY, NONE)),
-    (false, 2, SPARE, 27, (2, ANY, ANY, 74, SCALE)),
-    (false, 9, LINE, 10, (5, ANY, ANY, ANY, NONE)),
-    (true, 3, LINE, 120, (0, ANY, 0, ANY, NONE)),
-    (true, 3, b"{}", 29, (6, ANY, 29, ANY, NONE)),
-    (true, 3, b"{}", 28, (3, ANY, 29, ANY, NONE)),
-    (true, 2, SPARE, 69, (2, ANY, 69, 74, SCALE)),
-    (true, 2, SPARE, 68, (3, ANY, 69, 74, SCALE)),
-    (true, 9, LINE, 120, (5, ANY, ANY, ANY, NONE)),
+    (LineCall::FromJson, 3, LINE, 10, (0, ANY, 10, ANY, NONE)),
+    (LineCall::FromJson, 3, LINE, 9, (3, ANY, 10, ANY, NONE)),
+    (LineCall::FromJson, 3, b"{}", 10, (6, ANY, ANY, ANY, NONE)),
+    (LineCall::FromJson, 2, SPARE, 27, (2, ANY, ANY, 74, SCALE)),
+    (LineCall::FromJson, 9, LINE, 10, (5, ANY, ANY, ANY, NONE)),
+    (LineCall::ExplainJson, 3, LINE, 200, (0, ANY, 0, ANY, NONE)),
+    (LineCall::ExplainJson, 3, b"{}", 29, (6, ANY, 29, ANY, NONE)),
+    (LineCall::ExplainJson, 3, b"{}", 28, (3, ANY, 29, ANY, NONE)),
+    (LineCall::ExplainJson, 2, SPARE, 69, (2, ANY, 69, 74, SCALE)),
+    (LineCall::ExplainJson, 2, SPARE, 68, (3, ANY, 69, 74, SCALE)),
+    (
+        LineCall::ExplainJson,
+        9,
+        LINE,
+        160,
+        (5, ANY, ANY, ANY, NONE),
+    ),
+    (LineCall::JsonReason, 3, LINE, 200, (0, ANY, 0, ANY, NONE)),
+    (
+        LineCall::JsonReason,
+        3,
+        b"{}",
+        100,
+        (6, ANY, 100, ANY, NONE),
+    ),
+    (LineCall::JsonReason, 3, b"{}", 99, (3, ANY, 100, ANY, NONE)),
+    (
+        LineCall::JsonReason,
+        2,
+        SPARE,
+        151,
+        (2, ANY, 151, 74, SCALE),
+    ),
+    (
+        LineCall::JsonReason,
+        2,
+        SPARE,
+        150,
+        (3, ANY, 151, 74, SCALE),
+    ),
+    (LineCall::JsonReason, 9, LINE, 200, (5, ANY, ANY, ANY, NONE)),
 ];
 
 /// The number, variable and width of each field.
@@ -291,15 +394,64 @@ fn ask_bytes(alloc: Global, case: &OfBytes, answer: &mut EtcsAnswer) -> u32 {
     }
 }
 
+/// Asks for a reason, and returns its numbers.
+fn ask_reason(alloc: Global, case: &OfReasons, answer: &mut EtcsAnswer) -> (u32, Reason) {
+    let [
+        bits,
+        count,
+        number,
+        below,
+        above,
+        unfit,
+        room,
+        cause,
+        here,
+        nid,
+        has,
+    ] = NO_REASON;
+    let reason = &mut EtcsReason {
+        bits,
+        count,
+        number,
+        below,
+        above,
+        unfit,
+        room,
+        cause: cause as u32,
+        here: here as u32,
+        nid: nid as u32,
+        has: has as u32,
+    };
+    let status = etcs_refusal(alloc, case.0, case.1, reason, answer);
+    (status, numbers(reason))
+}
+
+/// The numbers of a reason, in the order of its members.
+fn numbers(reason: &EtcsReason) -> Reason {
+    [
+        reason.bits,
+        reason.count,
+        reason.number,
+        reason.below,
+        reason.above,
+        reason.unfit,
+        reason.room,
+        u64::from(reason.cause),
+        u64::from(reason.here),
+        u64::from(reason.nid),
+        u64::from(reason.has),
+    ]
+}
+
 /// Asks a call over a line.
 fn ask_line(alloc: Global, case: &OfLines, answer: &mut EtcsAnswer) -> u32 {
-    let (is_why, kind, line, room, _) = *case;
-    let mut text = [0; 120];
-    let out = &mut text[..room.min(120)];
-    if is_why {
-        etcs_explain_json(alloc, kind, line, out, answer)
-    } else {
-        etcs_from_json(alloc, kind, line, out, answer)
+    let (call, kind, line, room, _) = *case;
+    let mut text = [0; 200];
+    let out = &mut text[..room.min(200)];
+    match call {
+        LineCall::FromJson => etcs_from_json(alloc, kind, line, out, answer),
+        LineCall::ExplainJson => etcs_explain_json(alloc, kind, line, out, answer),
+        LineCall::JsonReason => etcs_json_reason(alloc, kind, line, out, answer),
     }
 }
 
@@ -373,6 +525,18 @@ fn wrong_of_bytes(alloc: Global, cases: &[OfBytes]) -> Option<usize> {
         let answer = &mut unanswered();
         let status = ask_bytes(alloc, case, answer);
         if !is_answered(status, answer, &case.4) {
+            return Some(i);
+        }
+    }
+    None
+}
+
+/// The first of these bytes for which something else is returned, or another reason.
+fn wrong_of_reasons(alloc: Global, cases: &[OfReasons]) -> Option<usize> {
+    for (i, case) in cases.iter().enumerate() {
+        let answer = &mut unanswered();
+        let (status, reason) = ask_reason(alloc, case, answer);
+        if reason != case.3 || !is_answered(status, answer, &case.2) {
             return Some(i);
         }
     }
@@ -462,6 +626,7 @@ fn wrong_of_version(cases: &[OfRoom]) -> Option<usize> {
 fn each_status(rt: HostRuntime) -> Result<(), Fail> {
     let alloc = rt.alloc();
     assert_eq!(rt; wrong_of_bytes(alloc, OF_BYTES), None);
+    assert_eq!(rt; wrong_of_reasons(alloc, OF_REASONS), None);
     assert_eq!(rt; wrong_of_lines(alloc, OF_LINES), None);
     assert_eq!(rt; wrong_of_fields(alloc, OF_FIELDS), None);
     assert_eq!(rt; wrong_of_hex(alloc, OF_HEX), None);
@@ -495,7 +660,22 @@ static STARVED_BYTES: &[OfBytes] = &[
     (Call::FieldsBefore, 3, ELEVEN, 1, STARVED),
 ];
 
-static STARVED_LINES: &[OfLines] = &[(false, 3, LINE, 10, STARVED), (true, 3, b"{}", 29, STARVED)];
+/// A refused bit is reported without memory.
+static STARVED_REASONS: &[OfReasons] = &[
+    (3, PACKET_FRONT, STARVED, NO_REASON),
+    (
+        3,
+        ELEVEN,
+        (2, ANY, ANY, 17, LENGTH),
+        [11, 10, 11, 10, 13, 0, 0, 0, 1, 24, 23],
+    ),
+];
+
+static STARVED_LINES: &[OfLines] = &[
+    (LineCall::FromJson, 3, LINE, 10, STARVED),
+    (LineCall::ExplainJson, 3, b"{}", 29, STARVED),
+    (LineCall::JsonReason, 3, b"{}", 100, STARVED),
+];
 
 static STARVED_FIELDS: &[OfFields] = &[(3, OWN, 6, 10, STARVED)];
 
@@ -514,6 +694,7 @@ fn refused_memory(rt: HostRuntime) -> Result<(), Fail> {
     let alloc = rt.alloc();
     let held = starve(alloc)?;
     let bytes = wrong_of_bytes(alloc, STARVED_BYTES);
+    let reasons = wrong_of_reasons(alloc, STARVED_REASONS);
     let lines = wrong_of_lines(alloc, STARVED_LINES);
     let fields = wrong_of_fields(alloc, STARVED_FIELDS);
     let hex = wrong_of_hex(alloc, STARVED_HEX);
@@ -521,6 +702,7 @@ fn refused_memory(rt: HostRuntime) -> Result<(), Fail> {
     let groups = wrong_of_groups(alloc, STARVED_GROUPS);
     drop(held);
     assert_eq!(rt; bytes, None);
+    assert_eq!(rt; reasons, None);
     assert_eq!(rt; lines, None);
     assert_eq!(rt; fields, None);
     assert_eq!(rt; hex, None);
@@ -532,36 +714,95 @@ fn refused_memory(rt: HostRuntime) -> Result<(), Fail> {
 /// JSON whose header lacks its variables: the reason is a sentence that is put together from several.
 const HOLLOW: &[u8] = b"{\"header\":[],\"kind\":\"short\"}";
 
-/// The status for it, and how many bytes were written.
-fn why_hollow(alloc: Global) -> (u32, usize) {
+/// The status for it from a call, and how many bytes were written.
+fn why_hollow(alloc: Global, call: LineCall) -> (u32, usize) {
     let answer = &mut unanswered();
-    let status = etcs_explain_json(alloc, 2, HOLLOW, &mut [0; 256], answer);
+    let status = ask_line(alloc, &(call, 2, HOLLOW, 200, STARVED), answer);
     (status, answer.written)
 }
 
-/// Whether the sentence is whole or it is out of memory, with no memory at first and with 16 bytes more each time. Memory is
-/// used up only once, since that takes long.
-fn are_whole(alloc: Global, whole: (u32, usize)) -> Result<bool, AllocError> {
+/// Whether the sentence and the object are whole or it is out of memory, with no memory at first and with 16 bytes more each
+/// time. Memory is used up only once, since that takes long.
+fn are_whole(
+    alloc: Global,
+    sentence: (u32, usize),
+    object: (u32, usize),
+) -> Result<bool, AllocError> {
     let spare: Vec<u8> = Vec::with_capacity(alloc, 8192)?;
     let held = starve(alloc)?;
     drop(spare);
     let mut are_whole = true;
     for step in 0..128usize {
         let kept: Vec<u8> = Vec::with_capacity(alloc, 8192 - step * 16)?;
-        let found = why_hollow(alloc);
+        let (code, written) = why_hollow(alloc, LineCall::ExplainJson);
+        let (status, count) = why_hollow(alloc, LineCall::JsonReason);
         drop(kept);
-        are_whole &= found.0 == 4 || (found.0 == whole.0 && found.1 == whole.1);
+        are_whole &= code == 4 || (code == sentence.0 && written == sentence.1);
+        are_whole &= status == 4 || (status == object.0 && count == object.1);
     }
     drop(held);
     Ok(are_whole)
 }
 
-/// With whatever memory there is, the sentence is whole, or it is out of memory.
+/// With whatever memory there is, the sentence and the object are whole, or it is out of memory.
 #[test]
 fn whole_sentences(rt: HostRuntime) -> Result<(), Fail> {
     let alloc = rt.alloc();
-    let whole = why_hollow(alloc);
-    assert_eq!(rt; whole.0, 6);
-    assert!(rt; are_whole(alloc, whole)?);
+    let sentence = why_hollow(alloc, LineCall::ExplainJson);
+    let object = why_hollow(alloc, LineCall::JsonReason);
+    assert_eq!(rt; sentence.0, 6);
+    assert_eq!(rt; object.0, 6);
+    assert!(rt; are_whole(alloc, sentence, object)?);
+    Ok(())
+}
+
+/// A kind, a line that is the JSON of none of its items, and the object that is written of it.
+type OfObjects = (u32, &'static [u8], &'static [u8]);
+
+static OBJECTS: &[OfObjects] = &[
+    (
+        3,
+        b"{}",
+        b"{\"column\":null,\"expected\":null,\"found\":null,\"path\":\".kind\",\"reason\":\".kind: this member is missing\"}",
+    ),
+    (
+        3,
+        b"[]",
+        b"{\"column\":null,\"expected\":\"an object\",\"found\":\"a list\",\"path\":\".\",\"reason\":\".: expected an object, found a list\"}",
+    ),
+    (
+        2,
+        b"{\"kind\":\"long\"}",
+        b"{\"column\":null,\"expected\":\"\\\"short\\\"\",\"found\":\"\\\"long\\\"\",\"path\":\".kind\",\"reason\":\".kind: expected \\\"short\\\", as in --kind, found \\\"long\\\"\"}",
+    ),
+    (
+        1,
+        b"[0,?]",
+        b"{\"column\":4,\"expected\":null,\"found\":null,\"path\":null,\"reason\":\"not JSON: unexpected ? at column 4\"}",
+    ),
+    (
+        2,
+        SPARE,
+        b"{\"column\":null,\"expected\":null,\"found\":null,\"path\":\".packets[0].data\",\"reason\":\".packets[0].data: the bits are refused at bit 74 of the item, Q_SCALE\"}",
+    ),
+];
+
+/// The first of these lines of which another object is written.
+fn wrong_of_objects(alloc: Global, cases: &[OfObjects]) -> Option<usize> {
+    for (i, case) in cases.iter().enumerate() {
+        let (kind, line, wanted) = *case;
+        let (answer, mut out) = (&mut unanswered(), [0; 256]);
+        etcs_json_reason(alloc, kind, line, &mut out, answer);
+        if answer.written != wanted.len() || !out.starts_with(wanted) {
+            return Some(i);
+        }
+    }
+    None
+}
+
+/// What is written of why a line is the JSON of no item.
+#[test]
+fn objects(rt: HostRuntime) -> Result<(), Fail> {
+    assert_eq!(rt; wrong_of_objects(rt.alloc(), OBJECTS), None);
     Ok(())
 }

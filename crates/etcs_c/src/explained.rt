@@ -1,66 +1,25 @@
 //! Why bytes or a line of JSON are no item.
 
-ghost use Rattle.std.specs.Prelude.{◌≡◌, ◌<◌, ℕ, IfOk, MatchResult, length};
+ghost use Rattle.std.specs.Prelude.{◌≡◌, ◌<◌, IfOk, length};
 ghost use Rattle.etcs_bits.specs.Bits.{bits};
-ghost use Rattle.etcs_reasons.specs.declared.account.End.{End};
-ghost use Rattle.etcs_reasons.specs.declared.account.Part.{Part};
-ghost use Rattle.etcs_c.specs.Explained.{IsRefused, SaysBefore, SaysLineWhy, SaysUnrefused, SaysWhy};
+ghost use Rattle.etcs_rows.specs.Words.{words};
+ghost use Rattle.etcs_c.specs.Explained.{SaysBefore, SaysLineWhy, SaysWhy};
 
-use crate::answer::{
-    BAD_JSON, EtcsAnswer, MORE, NO_MEMORY, REFUSED, WHOLE, accept, deliver, refuse,
-};
+use crate::answer::{BAD_JSON, EtcsAnswer, NO_MEMORY, REFUSED, WHOLE, deliver, refuse};
 use crate::fields::{EtcsField, fields_in};
-use crate::found::check;
-use etcs_explain::json_reason;
+use crate::found::account_of;
+use crate::reason::refusal_of;
+use etcs_explain::JsonReason;
 use etcs_json::{JsonFault, from_line};
-use etcs_reasons::{Account, End, Wanted, reason_of};
+use etcs_rows::Refusal;
 use etcs_text::Kind;
 use std::alloc::{AllocError, Global};
 
-/// The account of bytes of which a bit is refused; that bit and its variable are in the answer. Or the status of what the
-/// bytes begin with, as for a check.
-fn refused_of(
-    alloc: Global,
-    kind: Kind,
-    bytes: &[u8],
-    wanted: Wanted,
-    answer: &mut EtcsAnswer,
-) -> Result<Account, u32>
-    ensures { MatchResult result (λ a. IsRefused kind (bits bytes.now) wanted a answer.new) (λ s. SaysUnrefused kind (bits bytes.now) s answer.new) }
+/// A refusal in words.
+fn sentence_of(alloc: Global, refusal: &Refusal) -> Result<Vec<u8>, AllocError>
+    ensures { IfOk result (λ text. text.items ≡ words refusal.now) }
 {
-    answer.written = 0;
-    match Account::unless_whole(alloc, kind, bytes, wanted) {
-        Ok(Ok(taken)) => Err(accept(taken, answer)),
-        Ok(Err(account)) => match account.end {
-            End::Refused(bit, part) => {
-                refuse(bit, part.var, answer);
-                Ok(account)
-            }
-            End::Open(_) => Err(MORE),
-            End::Whole => {
-                let status = check(alloc, kind, bytes, answer);
-                answer.written = 0;
-                Err(status)
-            }
-        },
-        Err(AllocError) => Err(NO_MEMORY),
-    }
-}
-
-/// Why a bit of the bytes is refused, by their account.
-fn sentence_of(
-    alloc: Global,
-    kind: Kind,
-    bytes: &[u8],
-    account: &Account,
-) -> Result<Vec<u8>, AllocError>
-    requires { (i : ℕ) × (part : Part) × (account.now.end ≡ End.Refused i part) }
-    ensures { IfOk result (λ words. 0 < length words.items) }
-{
-    match reason_of(alloc, kind, bytes, account)? {
-        Some(reason) => Ok(reason.sentence.into_bytes()),
-        None => unreachable!(),
-    }
+    Ok(format!(in alloc; "{refusal}")?.into_bytes())
 }
 
 /// Returns the status of what the bytes begin with, and writes why a bit is refused.
@@ -73,9 +32,9 @@ pub(crate) fn write_why(
 ) -> u32
     ensures { SaysWhy kind (bits bytes.now) out.old out.new result answer.new }
 {
-    match refused_of(alloc, kind, bytes, Wanted::Reason, answer) {
-        Ok(account) => {
-            let sentence = sentence_of(alloc, kind, bytes, &account);
+    match refusal_of(alloc, kind, bytes, answer) {
+        Ok(refusal) => {
+            let sentence = sentence_of(alloc, &refusal);
             deliver(REFUSED, sentence, out, answer)
         }
         Err(status) => status,
@@ -92,30 +51,50 @@ pub(crate) fn write_before(
 ) -> u32
     ensures { SaysBefore kind (bits bytes.now) out.old out.new result answer.new }
 {
-    match refused_of(alloc, kind, bytes, Wanted::Fields, answer) {
-        Ok(account) => {
+    answer.written = 0;
+    match account_of(alloc, kind, bytes, answer) {
+        Ok((account, status)) => {
+            if status != REFUSED {
+                return status;
+            }
             let fields = fields_in(alloc, account.fields.as_slice());
             deliver(REFUSED, fields, out, answer)
         }
-        Err(status) => status,
+        Err(AllocError) => NO_MEMORY,
     }
 }
 
-/// Why a line for which this fault was returned is the JSON of no item.
-fn line_sentence_of(
+/// How the reason of a line is written.
+#[derive(Clone, Copy, PartialEq, Eq)]
+pub(crate) enum Form {
+    /// In words.
+    Words,
+    /// As an object of JSON: its path, what is expected there and what is found, and the words.
+    Object,
+}
+
+/// Why a line for which this fault was returned is the JSON of no item, in this form.
+fn line_reason_of(
     alloc: Global,
+    form: Form,
     kind: Kind,
     line: &[u8],
     fault: JsonFault,
 ) -> Result<Vec<u8>, AllocError>
-    ensures { IfOk result (λ words. 0 < length words.items) }
+    ensures { IfOk result (λ text. 0 < length text.items) }
 {
-    Ok(json_reason(alloc, kind, line, fault)?.into_bytes())
+    let reason = JsonReason::of_line(alloc, kind, line, fault)?;
+    let text = match form {
+        Form::Words => reason.reason,
+        Form::Object => reason.to_json(alloc)?,
+    };
+    Ok(text.into_bytes())
 }
 
-/// Returns the status of the line, as `from_json` does, and writes why it is the JSON of no item.
+/// Returns the status of the line, as `from_json` does, and writes why it is the JSON of no item, in this form.
 pub(crate) fn write_line_why(
     alloc: Global,
+    form: Form,
     kind: Kind,
     line: &[u8],
     out: &mut [u8],
@@ -131,12 +110,12 @@ pub(crate) fn write_line_why(
         Err(fault) => match fault {
             JsonFault::Refused { bit, var } => {
                 refuse(bit, var, answer);
-                let words = line_sentence_of(alloc, kind, line, fault);
-                deliver(REFUSED, words, out, answer)
+                let text = line_reason_of(alloc, form, kind, line, fault);
+                deliver(REFUSED, text, out, answer)
             }
             JsonFault::Shape => {
-                let words = line_sentence_of(alloc, kind, line, fault);
-                deliver(BAD_JSON, words, out, answer)
+                let text = line_reason_of(alloc, form, kind, line, fault);
+                deliver(BAD_JSON, text, out, answer)
             }
             JsonFault::Memory => NO_MEMORY,
         },

@@ -1,15 +1,15 @@
 //! What bytes begin with.
 
-ghost use Rattle.std.specs.Prelude.{◌≡◌, ◌*◌, [], MatchResult};
+ghost use Rattle.std.specs.Prelude.{◌≡◌, ◌*◌, [], IfOk, MatchResult};
 ghost use Rattle.etcs_bits.specs.Bits.{bits};
 ghost use Rattle.etcs_vars.specs.Reading.{IsOutcome, done};
 ghost use Rattle.etcs_text.specs.Entries.{EntryReads, entry_value};
 ghost use Rattle.etcs_text.specs.Readers.{reading};
 ghost use Rattle.etcs_c.specs.Answers.{SaysBits, SaysNone};
-ghost use Rattle.etcs_c.specs.ItemFields.{IsWhole};
+ghost use Rattle.etcs_c.specs.ItemFields.{IsWhole, OfEnd};
 
-use crate::answer::{EtcsAnswer, MORE, NO_MEMORY, accept, refuse};
-use etcs_reasons::inner::fed;
+use crate::answer::{EtcsAnswer, MORE, NO_MEMORY, WHOLE, accept, refuse};
+use etcs_reasons::inner::fed_unseen;
 use etcs_reasons::{Account, End};
 use etcs_text::inner::seen;
 use etcs_text::{Entry, EntryReader, Kind};
@@ -33,7 +33,7 @@ pub(crate) fn check(alloc: Global, kind: Kind, bytes: &[u8], answer: &mut EtcsAn
 fn check_unseen(alloc: Global, kind: Kind, bytes: &[u8], answer: &mut EtcsAnswer) -> u32
     ensures { SaysBits kind (bits bytes.now) result answer.new }
 {
-    match fed(alloc, kind, bytes) {
+    match fed_unseen(alloc, kind, bytes) {
         Ok(Fed::Done { taken }) => accept(taken, answer),
         Ok(Fed::More) => MORE,
         Err(ReadFault::Refused { bit, var }) => refuse(bit, var, answer),
@@ -78,7 +78,26 @@ fn first_item(
     }
 }
 
-/// The variables of the item that the bytes begin with, and how many bytes it has in the answer; or the status of what they
+/// The account of the bytes, and the status of what they begin with; the numbers of it are put into the answer.
+pub(crate) fn account_of(
+    alloc: Global,
+    kind: Kind,
+    bytes: &[u8],
+    answer: &mut EtcsAnswer,
+) -> Result<(Account, u32), AllocError>
+    ensures account { IfOk result (λ t. OfEnd kind (bits bytes.now) t.0.fields.items t.0.end t.1 answer.new) }
+    ensures written { answer.new.written ≡ answer.old.written }
+{
+    let account = Account::read(alloc, kind, bytes)?;
+    let status = match account.end {
+        End::Whole => accept(account.bytes(), answer),
+        End::Open(_) => MORE,
+        End::Refused(bit, part) => refuse(bit, part.var, answer),
+    };
+    Ok((account, status))
+}
+
+/// The account of the item that the bytes begin with, and how many bytes it has in the answer; or the status of what they
 /// begin with in its place.
 pub(crate) fn variables_of(
     alloc: Global,
@@ -88,15 +107,13 @@ pub(crate) fn variables_of(
 ) -> Result<Account, u32>
     ensures { MatchResult result (λ a. IsWhole kind (bits bytes.now) a.fields.items answer.new) (λ s. SaysNone kind (bits bytes.now) s answer.new) }
 {
-    match Account::read(alloc, kind, bytes) {
-        Ok(account) => match account.end {
-            End::Whole => {
-                answer.taken = account.bytes();
-                Ok(account)
+    match account_of(alloc, kind, bytes, answer) {
+        Ok((account, status)) => {
+            if status != WHOLE {
+                return Err(status);
             }
-            End::Open(_) => Err(MORE),
-            End::Refused(bit, part) => Err(refuse(bit, part.var, answer)),
-        },
+            Ok(account)
+        }
         Err(AllocError) => Err(NO_MEMORY),
     }
 }

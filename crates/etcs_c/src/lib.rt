@@ -1,6 +1,6 @@
 //! The codec for C, a static library: functions over numbers and the caller's buffers that check, show, convert,
-//! build and explain items ([`etcs_check`], [`etcs_fields`], [`etcs_from_fields`] and others), with [`EtcsField`] and
-//! [`EtcsAnswer`]. `etcs.h` declares them. Rust programs use `etcs_codec`.
+//! build and explain items ([`etcs_check`], [`etcs_fields`], [`etcs_from_fields`] and others), with [`EtcsField`],
+//! [`EtcsReason`] and [`EtcsAnswer`]. `etcs.h` declares them. Rust programs use `etcs_codec`.
 //!
 //! In C a slice is a pointer followed by its length, and `alloc` is no parameter. Nothing is kept between two calls.
 //!
@@ -23,6 +23,7 @@ mod json;
 mod kind;
 mod lines;
 mod meanings;
+mod reason;
 mod texts;
 mod vars;
 
@@ -31,7 +32,7 @@ ghost use Rattle.etcs_bits.specs.Bits.{bits};
 ghost use Rattle.etcs_runs.specs.Digits.{line_front};
 ghost use Rattle.etcs_c.specs.Answers.{OfKind, SaysBits, SaysLine, SaysText};
 ghost use Rattle.etcs_c.specs.Built.{IsBuilt};
-ghost use Rattle.etcs_c.specs.Explained.{SaysBefore, SaysLineWhy, SaysWhy};
+ghost use Rattle.etcs_c.specs.Explained.{SaysBefore, SaysLineWhy, SaysReason, SaysWhy};
 ghost use Rattle.etcs_c.specs.Groups.{SaysGroup};
 ghost use Rattle.etcs_c.specs.ItemFields.{SaysFields};
 ghost use Rattle.etcs_c.specs.Lines.{SaysBytes};
@@ -43,7 +44,7 @@ pub use answer::EtcsAnswer;
 use answer::{UNKNOWN_KIND, WHOLE, write_out};
 use built::from_fields;
 use etcs_runs::line_front;
-use explained::{write_before, write_line_why, write_why};
+use explained::{Form, write_before, write_line_why, write_why};
 pub use fields::EtcsField;
 use fields::write_fields;
 use found::check;
@@ -53,6 +54,8 @@ use json::from_json;
 use kind::kind_of;
 use lines::write_bytes;
 use meanings::{Asked, print_meaning};
+pub use reason::EtcsReason;
+use reason::write_reason;
 use std::alloc::Global;
 use texts::{Wanted, write_text};
 
@@ -173,9 +176,9 @@ pub extern "C" fn etcs_from_fields(
     }
 }
 
-/// As `etcs_check`, and if a bit is refused, writes why: a sentence in UTF-8, which isn't empty. The status is then still
-/// `ETCS_REFUSED`, or `ETCS_NO_ROOM`. In each other case nothing is written, and `written` is 0. The words of the sentence
-/// aren't promised.
+/// As `etcs_check`, and if a bit is refused, writes why: a sentence in UTF-8, which is exactly the refusal in words
+/// (`words`), and isn't empty. The status is then still `ETCS_REFUSED`, or `ETCS_NO_ROOM`. In each other case nothing is
+/// written, and `written` is 0. The words may differ in the next version.
 #[unsafe(no_mangle)]
 pub extern "C" fn etcs_explain(
     alloc: Global,
@@ -188,6 +191,24 @@ pub extern "C" fn etcs_explain(
 {
     match kind_of(kind) {
         Some(kind) => write_why(alloc, kind, bytes, out, answer),
+        None => UNKNOWN_KIND,
+    }
+}
+
+/// As `etcs_check`, and if a bit is refused, writes why, as numbers: exactly those of the refusal. A refused bit is then
+/// always reported, also if there is no memory. In each other case `out` is as before.
+#[unsafe(no_mangle)]
+pub extern "C" fn etcs_refusal(
+    alloc: Global,
+    kind: u32,
+    bytes: &[u8],
+    out: &mut EtcsReason,
+    answer: &mut EtcsAnswer,
+) -> u32
+    ensures { OfKind kind (λ k. SaysReason k (bits bytes.now) out.old out.new result answer.new) (out.new ≡ out.old) result }
+{
+    match kind_of(kind) {
+        Some(kind) => write_reason(alloc, kind, bytes, out, answer),
         None => UNKNOWN_KIND,
     }
 }
@@ -229,7 +250,26 @@ pub extern "C" fn etcs_explain_json(
     ensures { OfKind kind (λ k. SaysLineWhy k line.now out.old out.new result answer.new) (out.new ≡ out.old) result }
 {
     match kind_of(kind) {
-        Some(kind) => write_line_why(alloc, kind, line, out, answer),
+        Some(kind) => write_line_why(alloc, Form::Words, kind, line, out, answer),
+        None => UNKNOWN_KIND,
+    }
+}
+
+/// As `etcs_explain_json`, but what is written is the reason as an object of JSON without blanks: its path, column, what is
+/// expected and what is found, each `null` if there is none, and all of it in words ([`etcs_explain::JsonReason`]). The
+/// text isn't empty; no more is promised of it.
+#[unsafe(no_mangle)]
+pub extern "C" fn etcs_json_reason(
+    alloc: Global,
+    kind: u32,
+    line: &[u8],
+    out: &mut [u8],
+    answer: &mut EtcsAnswer,
+) -> u32
+    ensures { OfKind kind (λ k. SaysLineWhy k line.now out.old out.new result answer.new) (out.new ≡ out.old) result }
+{
+    match kind_of(kind) {
+        Some(kind) => write_line_why(alloc, Form::Object, kind, line, out, answer),
         None => UNKNOWN_KIND,
     }
 }

@@ -15,6 +15,7 @@ from meanings import mix
 
 KINDS = ("short", "long", "radio", "train", "long,short", "radio,train", "short,radio", "short,train", "long,short,radio,train")
 LINES = 1500
+NUMBERS = ("cause", "number", "below", "above", "room")
 
 
 def spelled(digits, chance):
@@ -60,9 +61,21 @@ def said(program, text, kinds):
         if line.startswith("group "):
             groups.append(line)
         else:
-            head, _, tail = line.partition(": ")
-            found[int(head.split()[1])] = tail
+            tree = json.loads(line)
+            found[tree["line"]] = noted(tree)
     return found, groups
+
+
+def noted(tree):
+    """What the program says about a bad line or one of another kind, and the numbers of a refusal."""
+    if "bit" in tree:
+        return (f"refused at bit {tree['bit']}, {tree['variable']}: {tree['reason']}", *map(tree.get, NUMBERS))
+    return ("other: " * (tree["cause"] == "other") + tree["reason"],)
+
+
+def fault_of(line):
+    """The same of a line that the module read."""
+    return (line.note, *(getattr(line.fault, it) for it in NUMBERS if isinstance(line.fault, etcs.Refused)))
 
 
 def grouped(items, chance):
@@ -85,7 +98,7 @@ def main():
     for kinds in KINDS:
         found, groups = said(program, text, kinds)
         read = list(etcs.read_log(text.split(b"\n")[:-1], kinds))
-        mine = {it.number: (it.front, it.item.to_dict()) if it.item is not None else it.note for it in read}
+        mine = {it.number: (it.front, it.item.to_dict()) if it.item is not None else fault_of(it) for it in read}
         count += len(mine)
         for number in sorted({*found, *mine}):
             if found.get(number) != mine.get(number):

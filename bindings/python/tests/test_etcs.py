@@ -7,6 +7,7 @@ import os
 import pickle
 import random
 import signal
+import sys
 import tempfile
 import threading
 import time
@@ -19,9 +20,14 @@ from etcs._blanks import PACKETS
 from etcs._fields import fields_of
 from etcs._variables import VARIABLES, WIDTHS
 
+TOP = os.path.join(os.path.dirname(os.path.abspath(__file__)), "..", "..", "..")
+sys.dont_write_bytecode = True
+sys.path.append(os.path.join(TOP, "tests"))
+import tables_refusals
+
 SHORT = bytes.fromhex("A0007F802000CB200C7F" + "FF" * 16 + "C0")
 RADIO = bytes.fromhex("18034000000000080031280620")
-EXAMPLES = os.path.join(os.path.dirname(os.path.abspath(__file__)), "..", "..", "..", "examples")
+EXAMPLES = os.path.join(TOP, "examples")
 
 
 def example(name):
@@ -40,6 +46,11 @@ def refused(data, kind):
             yield bytes(turned), fault
         except etcs.Truncated:
             pass
+
+
+def parts_of(fault):
+    """What a fault has of where JSON is wrong."""
+    return fault.path, fault.column, fault.expected, fault.found
 
 
 def all_items():
@@ -222,7 +233,7 @@ class Tests(unittest.TestCase):
         read = list(etcs.read_log(log, "short"))
         self.assertEqual([(it.number, it.kind, it.item and it.item["NID_BG"]) for it in read], [(1, "short", 511), (4, "short", 511), (5, None, None), (6, None, None), (7, None, None), (8, None, None)])
         self.assertEqual((read[0].front, read[1].front), ("12:00:03", '{"time":"12:00:03","data":"'))
-        notes = ["", "", "no hexadecimal digits at its end", "1 byte, but a short telegram has 27", "refused at bit 72, L_PACKET: L_PACKET 153 would leave 7 bits in the telegram, and packet 255 needs 8",
+        notes = ["", "", "no hexadecimal digits at its end", "1 byte, but a short telegram has 27", "refused at bit 72, L_PACKET: L_PACKET 153 doesn't fit into the 160 bits that are left, of which packet 255 needs 8; 152 is the greatest that fits",
                  "other: 13 bytes, as a radio message whose L_MESSAGE says so"]
         self.assertEqual([it.note for it in read], notes)
         self.assertEqual([type(it.fault) for it in read[2:]], [etcs.BadLine, etcs.BadLine, etcs.Refused, etcs.OtherKind])
@@ -537,6 +548,63 @@ class Tests(unittest.TestCase):
         # a fault that somebody made has nothing to say
         self.assertEqual((etcs.Refused(3, "FILL").fields, etcs.Refused(3, "FILL").reason), ([], ""))
 
+    def refused_as(self, digits, kind):
+        """Why bytes are refused, as numbers."""
+        with self.assertRaises(etcs.Refused) as caught:
+            etcs.check(bytes.fromhex(digits), kind)
+        fault = caught.exception
+        self.assertEqual(pickle.loads(pickle.dumps(fault)).above, fault.above)
+        return fault.cause, fault.number, fault.below, fault.above, fault.room, fault.packet
+
+    def test_numbers_of_reasons(self):
+        self.assertEqual(self.refused_as("0602C0", "radio"), ("spare", 11, 10, 13, None, None))
+        self.assertEqual(self.refused_as("9F00", "train"), ("spare", None, None, 10, None, None))
+        self.assertEqual(self.refused_as("A2", "short"), ("spare", 34, 33, None, None, None))
+        # packet 12 has 73 bits, 89 with an entry; the first 12 bits of L_PACKET are those of 74 and 75
+        self.assertEqual(self.refused_as("A0007F802000C32025", "short"), ("spare", None, 73, 89, 160, 12))
+        # a packet 44 that leaves 7 of the 160 bits, where packet 255 needs 8
+        self.assertEqual(self.refused_as("A100040C412C4B104CACACACACACACACACACACACACACACACACAC80", "short"), ("unfit", 153, 152, None, 160, 44))
+        # in 37 bits: packet 135 would leave 14, 137 13, 136 has at least 38; 134 and 138 have any bits
+        self.assertEqual(self.refused_as("1803800000000008003128062000", "radio"), ("unfit", 137, 134, 138, 37, None))
+        # N_ITER 8 of packet 46, whose 45 bits after it are 7 or 15 entries
+        self.assertEqual(self.refused_as("A0007F802000CB902604", "short"), ("unfit", None, 7, 15, 50, 46))
+        none = ("Q_SCALE", "", b""), ("Q_SCALE", "short", SHORT), ("Q_SCALE", "short", b"", b"{}")
+        for fault in (etcs.Refused(3, *each) for each in none):
+            self.assertEqual((fault.cause, fault.number, fault.below, fault.above, fault.room, fault.packet), (None,) * 6)
+
+    def test_numbers_by_the_tables(self):
+        """Why bits are refused follows from share/etcs.tables.json alone (tests/tables_refusals.py)."""
+        with open(os.path.join(TOP, "share", "etcs.tables.json"), encoding="utf-8") as file:
+            tables = json.load(file)
+        readers = {kind: tables_refusals.Reader(tables, kind) for kind in etcs.KINDS}
+        for data, kind in all_items():
+            for turned, fault in refused(data, kind):
+                # also with the bytes up to the refused bit alone
+                for given in (turned, turned[:fault.bit // 8 + 1]):
+                    one, found = etcs.Refused(fault.bit, fault.variable, kind, given), readers[kind].refusal(given)
+                    self.assertEqual((one.bit, one.variable), (found.bit, found.name))
+                    self.assertEqual((one.cause, one.number, one.below, one.above, one.room, one.packet),
+                                     (found.cause, found.number, found.below, found.above, found.room, found.packet))
+                    self.assertEqual(one.reason, readers[kind].words(found))
+                    self.compare_struct(given, kind, found)
+
+    def compare_struct(self, data, kind, found):
+        """What `etcs_refusal` writes is what follows from the tables."""
+        reason, answer = _library._Reason(), _library._Answer()
+        self.assertEqual(_library._lib.etcs_refusal(_library.KINDS[kind], data, len(data), reason, answer), 2)
+        rest = (found.high - found.low).bit_length()
+        width = dict(zip(VARIABLES, WIDTHS))[found.name]
+        self.assertEqual((reason.bits, reason.count), (found.low >> rest, width - rest))
+        here = (tables_refusals.ANY, tables_refusals.MESSAGE_LENGTH, tables_refusals.PACKET_NUMBER, tables_refusals.PACKET_LENGTH, tables_refusals.ROW)
+        self.assertEqual(here[reason.here], found.here)
+        numbers = [found.number, found.below, found.above, found.room, found.nid]
+        self.assertEqual([reason.number, reason.below, reason.above, reason.room, reason.nid], [it or 0 for it in numbers])
+        self.assertEqual(reason.has, sum(1 << place for place, it in enumerate(numbers) if it is not None))
+        if found.cause == "unfit":
+            self.assertTrue(found.low <= reason.unfit <= found.high)
+        else:
+            self.assertEqual(reason.unfit, 0)
+
     def test_reasons_of_trees(self):
         item = etcs.decode(RADIO, "radio")
         item.packets[0]["Q_SRSTOP"] = 2
@@ -555,6 +623,42 @@ class Tests(unittest.TestCase):
             etcs.encode(tree)
         self.assertEqual(caught.exception.fields, [])
         self.assertIn(f"refused at bit {caught.exception.bit} of the item, {caught.exception.variable}", caught.exception.reason)
+        self.assertEqual(parts_of(caught.exception), (".packets[0].data", None, None, None))
+
+    def wrong_as(self, call, value):
+        """The path, the column, what is expected and what is found, by the exception for JSON or a tree."""
+        with self.assertRaises(etcs.NotAnItem) as caught:
+            call(value)
+        fault = caught.exception
+        parts = path, column, expected, found = parts_of(fault)
+        self.assertEqual(parts_of(pickle.loads(pickle.dumps(fault))), parts)
+        # the reason has the same parts
+        self.assertTrue(path is None or fault.reason.startswith(f"{path}: {'' if expected is None else 'expected ' + expected}"), fault.reason)
+        self.assertTrue(found is None or fault.reason.endswith(f", found {found}"), fault.reason)
+        return parts
+
+    def test_parts_of_reasons(self):
+        line = json.dumps(etcs.decode(SHORT, "short").to_dict())
+        tree = json.loads(line)
+        tree["header"][9][0] = "Q_LIMK"
+        self.assertEqual(self.wrong_as(etcs.encode, tree), (".header[9]", None, "Q_LINK", '"Q_LIMK"'))
+        self.assertEqual(self.wrong_as(etcs.from_json, json.dumps(tree)), (".header[9]", None, "Q_LINK", '"Q_LIMK"'))
+        tree["header"][9] = ["Q_LINK", 2]
+        self.assertEqual(self.wrong_as(etcs.encode, tree), (".header[9]", None, None, None))
+        tree["header"] = 7
+        self.assertEqual(self.wrong_as(etcs.from_dict, tree), (".header", None, "a list of pairs", "7"))
+        self.assertEqual(self.wrong_as(etcs.from_json, '{"kind":"short"}'), (".header", None, None, None))
+        self.assertEqual(self.wrong_as(etcs.from_json, '{"kind":"radio","nid":256}'), (".nid", None, "a whole number from 0 to 255", "256"))
+        self.assertEqual(self.wrong_as(etcs.from_json, '{"kind":"short","\u00e9":?}'), (None, 21, None, None))
+        self.assertEqual(self.wrong_as(etcs.from_json, line[:40]), (None, 41, None, None))
+        self.assertEqual(self.wrong_as(etcs.from_json, "[0,?]"), (None, 4, None, None))
+        # without a kind there is no item to compare it with; nor is there for what is no JSON
+        for call, value in ((etcs.from_json, '{"kind":"tram"}'), (etcs.from_json, "\ud800"), (etcs.from_dict, 7), (etcs.encode, {"kind": "tram"})):
+            self.assertEqual(self.wrong_as(call, value), (None,) * 4)
+        for fault in (etcs.NotAnItem("wrong"), etcs.Refused(3, "FILL"), etcs.Refused(3, "FILL", "short", SHORT)):
+            self.assertEqual(parts_of(fault), (None,) * 4)
+        # an item has nothing wrong
+        self.assertEqual(parts_of(etcs.NotAnItem("", "short", line.encode())), (None,) * 4)
 
     def test_pieces(self):
         data = RADIO * 3

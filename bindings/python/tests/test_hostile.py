@@ -29,11 +29,12 @@ CALLS = {
     "feed": lambda data: etcs.Reader("short").feed(data),
     "reason": lambda data: etcs.Refused(3, "FILL", "short", data).reason,
     "before": lambda data: etcs.Refused(3, "FILL", "short", data).fields,
+    "room": lambda data: etcs.Refused(3, "FILL", "short", data).room,
 }
 #: the same for the calls below them, which each user of the module may call too
 LOW = {
     name: lambda data, call=getattr(_library, name): call(data, "short")
-    for name in ("check", "is_item", "to_json", "fields", "if_fields", "explain", "fields_before", "if_item")
+    for name in ("check", "is_item", "to_json", "fields", "if_fields", "explain", "refusal", "fields_before", "if_item")
 }
 
 

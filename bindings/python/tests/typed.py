@@ -30,6 +30,12 @@ inner: List[int] = [link["D_LINK"] for group in tree.groups for link in group]
 places: List[Tuple[int, ...]] = [it.entry for it in etcs.variables(telegram)]
 reasons: List[str] = [it.why for group in etcs.passages(lines) for it in group.clashed if it.telegram["N_PIG"] or it.line]
 called: str = etcs.meaning("NID_PACKET", 5, kind="train")
+fault = etcs.Refused(3, "FILL", "short", SHORT)
+cause: Optional[etcs.Cause] = fault.cause
+limits: List[Optional[int]] = [fault.number, fault.below, fault.above, fault.packet, fault.room]
+misfit = etcs.NotAnItem("no item has these values")
+where: Tuple[Optional[str], Optional[int]] = (misfit.path, misfit.column)
+what: List[Optional[str]] = [misfit.expected, misfit.found, fault.path]
 
 
 def text(data: bytes, kind: etcs.Kind) -> str:
@@ -50,6 +56,9 @@ def of_file(path: Path) -> Iterator[etcs.LogLine]:
 def wrong() -> None:
     """What mypy has to refuse: for a line without a fault it says that the comment isn't needed."""
     telegram.nid  # type: ignore[attr-defined]
+    fault.below + 1  # type: ignore[operator]
+    misfit.path + "."  # type: ignore[operator]
+    assert fault.cause != "none"  # type: ignore[comparison-overlap]
     message.header["T_TRAIN"] = "0"  # type: ignore[call-overload]
     etcs.decode(SHORT, "tram")  # type: ignore[call-overload]
     etcs.check(3, "short")  # type: ignore[arg-type]

@@ -25,7 +25,9 @@ An item prints as a tree, and a refusal has a reason, computed when it is read:
     ...     etcs.decode(bytes.fromhex("0602C0"), "radio")
     ... except etcs.Refused as fault:
     ...     print(fault.reason)
+    ...     print(fault.cause, fault.number, fault.below, fault.above)
     message 6 has 10 or 13 to 1023 bytes, not 11
+    spare 11 10 13
 
 `decode` and `encode` convert between bytes and values, `check` finds where an item ends, `items` and `Reader` read many,
 `show` returns the program's text, `fields` each variable with its bit; `read_log`, `groups`, `passages` and `frame` are for
@@ -56,7 +58,7 @@ from ._explained import Variable, explained
 from ._fields import encode, item_of
 from ._frame import frame
 from ._groups import Clash, Group, groups, passages
-from ._library import BadArgument, Data, EtcsError, Field, NoMember, NotAnItem, NoVariable, Refused, Truncated, bytes_of
+from ._library import BadArgument, Cause, Data, EtcsError, Field, NoMember, NotAnItem, NoVariable, Refused, Truncated, bytes_of
 from ._log import BadLine, LogLine, OtherKind, read_log
 from ._meanings import meaning
 from ._page import program, written_page
@@ -65,8 +67,8 @@ from ._values import KINDS, Item, Kind, Message, MessageKind, Packet, Telegram, 
 from ._variables import VARIABLES
 
 __all__ = [
-    "BadArgument", "BadLine", "Clash", "Entry", "EtcsError", "Field", "Group", "Item", "KINDS", "Kind", "LogLine", "Message",
-    "NoMember", "NoVariable", "NotAnItem", "OtherKind", "Packet", "Reader", "Refused", "Telegram", "Truncated", "VARIABLES",
+    "BadArgument", "BadLine", "Cause", "Clash", "Entry", "EtcsError", "Field", "Group", "Item", "KINDS", "Kind", "LogLine",
+    "Message", "NoMember", "NoVariable", "NotAnItem", "OtherKind", "Packet", "Reader", "Refused", "Telegram", "Truncated", "VARIABLES",
     "Variable", "Variables", "blank", "check", "decode", "encode", "fields", "frame", "from_dict", "from_fields", "from_json",
     "groups", "items", "meaning", "page", "passages", "read_log", "show", "variables",
 ]
@@ -104,7 +106,7 @@ def from_json(line: Union[str, Data]) -> Item:
             return item
         except NotAnItem as fault:
             faults.append(fault)
-    raise faults[0] if first in KINDS else NotAnItem(f"not JSON, or its member kind is none of {', '.join(KINDS)}")
+    raise faults[0] if first in KINDS else NotAnItem(f"not JSON, or its member kind is none of {', '.join(KINDS)}", line=line)
 
 
 def check(data: Data, kind: Kind) -> int:

@@ -3,15 +3,19 @@
 from __future__ import annotations
 
 import ctypes
+import json
 import os
 import threading
 from array import array
 from functools import lru_cache
 from itertools import accumulate, repeat
 from operator import attrgetter, index
-from typing import Any, List, Mapping, NamedTuple, NoReturn, Optional, Tuple, Union
+from typing import Any, List, Literal, Mapping, NamedTuple, NoReturn, Optional, Tuple, Union
 
 from ._variables import VARIABLES, WIDTHS
+
+#: why no number of a refused variable may come
+Cause = Literal["spare", "unfit"]
 
 #: the kinds by their numbers in the library
 KINDS = {"long": 1, "short": 2, "radio": 3, "train": 4}
@@ -29,6 +33,9 @@ CLASHES = {
     16: "another telegram is held at this position",
 }
 _SENT = attrgetter("number", "var", "width")
+_CAUSES: Tuple[Cause, ...] = ("spare", "unfit")
+#: by which bits of `has` a refusal has its numbers
+_HAS = {"number": 1, "below": 2, "above": 4, "room": 8}
 
 #: how many bits a variable takes, by its name
 WIDTHS_BY_NAME = dict(zip(VARIABLES, WIDTHS))
@@ -53,6 +60,25 @@ class Field(NamedTuple):
     var: int
 
 
+class Refusal(NamedTuple):
+    """Why a bit is refused; all members are None if none is."""
+
+    cause: Optional[Cause] = None
+    number: Optional[int] = None
+    below: Optional[int] = None
+    above: Optional[int] = None
+    room: Optional[int] = None
+
+
+class Misfit(NamedTuple):
+    """Where JSON isn't that of an item, and what is wrong there; a member is None if the reason doesn't have it."""
+
+    path: Optional[str] = None
+    column: Optional[int] = None
+    expected: Optional[str] = None
+    found: Optional[str] = None
+
+
 class EtcsError(ValueError):
     """Bytes or values that aren't an item, or a wrong argument."""
 
@@ -65,10 +91,46 @@ class NoVariable(EtcsError, KeyError):
     """There is no variable of this name, or one is set by a name that occurs several times."""
 
 
-class Refused(EtcsError):
+class _OfJson:
+    """What is wrong with a line of JSON, or a tree. Each member is computed when it is read, and None if there is none."""
+
+    _kind = ""
+    _line: Optional[bytes] = None
+
+    @property
+    def path(self) -> Optional[str]:
+        """The first part that is wrong, as jq writes it: `.packets[0].fields[3]`."""
+        return self._misfit().path
+
+    @property
+    def column(self) -> Optional[int]:
+        """The character of a line, from 1, at which it stops being JSON, or is nested too deep; one more than it has if it
+        ends inside a value."""
+        return self._misfit().column
+
+    @property
+    def expected(self) -> Optional[str]:
+        """What has to be at the path, if that is one thing: `D_LINK`, `an object`, `a whole number from 0 to 255`. The
+        wording may change between versions."""
+        return self._misfit().expected
+
+    @property
+    def found(self) -> Optional[str]:
+        """What is there in its place: `"D_LIMK"`, a number, `a list`. The wording may change between versions."""
+        return self._misfit().found
+
+    def _misfit(self) -> Misfit:
+        if self._line is None:
+            return Misfit()
+        # where a line without a kind stops being JSON is the same for each kind
+        return misfit(self._line, self._kind) if self._kind else Misfit(column=misfit(self._line, "long").column)
+
+
+class Refused(_OfJson, EtcsError):
     """No item of the kind continues with the bit `bit` (from 0), which the variable `variable` holds.
 
-    `fields` and `reason` are computed when they are read, so a refusal costs nothing that isn't used.
+    All members but these two are computed when they are read, so a refusal costs nothing that isn't used. A number is None if
+    there is none, and all are for JSON in which stored bits are refused; `path` is then where they are.
 
         >>> import etcs
         >>> try:
@@ -76,15 +138,16 @@ class Refused(EtcsError):
         ... except etcs.Refused as fault:
         ...     print(fault.bit, fault.variable, fault.fields[0].name, fault.fields[0].number)
         ...     print(fault.reason)
+        ...     print(fault.cause, fault.number, fault.below, fault.above)
         17 L_MESSAGE NID_MESSAGE 6
         message 6 has 10 or 13 to 1023 bytes, not 11
+        spare 11 10 13
     """
 
     #: from a Reader: the items before it, and which item this one is
     items: Optional[List[Any]] = None
     item: Optional[int] = None
-    _kind, _data = "", b""
-    _line: Optional[bytes] = None
+    _data = b""
 
     def __init__(self, bit: int, variable: str, kind: str = "", data: bytes = b"", line: Optional[bytes] = None) -> None:
         super().__init__(bit, variable)
@@ -104,6 +167,43 @@ class Refused(EtcsError):
             return ""
         return explain(self._data, self._kind) if self._line is None else explain_json(self._line, self._kind)
 
+    @property
+    def cause(self) -> Optional[Cause]:
+        """Why no number of the variable may come that begins with its bits up to `bit`: "spare", the tables have none, or
+        "unfit", they have one or more, but none fits into what is left."""
+        return self._refusal().cause
+
+    @property
+    def number(self) -> Optional[int]:
+        """The number of the variable, if the bytes, up to 1,023, have all its bits."""
+        return self._refusal().number
+
+    @property
+    def below(self) -> Optional[int]:
+        """The greatest number that the variable may have here of those below all that begin with its bits up to `bit`."""
+        return self._refusal().below
+
+    @property
+    def above(self) -> Optional[int]:
+        """The least number that the variable may have here of those above all that begin with its bits up to `bit`."""
+        return self._refusal().above
+
+    @property
+    def room(self) -> Optional[int]:
+        """For a variable of a packet's row, how many bits of the packet are left, with the variable; for NID_PACKET and
+        L_PACKET, how many bits are left of the telegram's user bits or the message, from the packet's first bit on."""
+        return self._refusal().room
+
+    @property
+    def packet(self) -> Optional[int]:
+        """The number of the packet that the variable is in, if its NID_PACKET comes before the bit."""
+        if self.variable in ("NID_PACKET", "PAD"):
+            return None
+        return next((each.number for each in reversed(self.fields) if each.name == "NID_PACKET"), None)
+
+    def _refusal(self) -> Refusal:
+        return refusal(self._data, self._kind) if self._kind and self._line is None else Refusal()
+
     def __str__(self) -> str:
         return f"refused at bit {self.bit}, {self.variable}"
 
@@ -119,11 +219,11 @@ class Truncated(EtcsError):
         return f"truncated after {self.bits} bits"
 
 
-class NotAnItem(EtcsError):
+class NotAnItem(_OfJson, EtcsError):
     """No item of the kind has these values.
 
     `reason` is the reason, for a tree or JSON with the path of the first part that is wrong. It is computed when it is read,
-    or when the exception is printed.
+    or when the exception is printed, and so are its parts: `path`, `column`, `expected` and `found`.
 
         >>> import etcs
         >>> message = etcs.decode(bytes.fromhex("18034000000000080031280620"), "radio")
@@ -133,10 +233,14 @@ class NotAnItem(EtcsError):
         ... except etcs.NotAnItem as fault:
         ...     print(fault.reason)
         .packets[0].fields[0]: Q_SRSTOP admits 0 and 1, not 2
+        >>> try:
+        ...     etcs.from_json('{"kind":"short","header":7}')
+        ... except etcs.NotAnItem as fault:
+        ...     print(fault.path, "|", fault.expected, "|", fault.found)
+        .header | a list of pairs | 7
     """
 
-    _text, _kind = "", ""
-    _line: Optional[bytes] = None
+    _text = ""
 
     def __init__(self, text: str, kind: str = "", line: Optional[bytes] = None) -> None:
         super().__init__(text)
@@ -145,10 +249,10 @@ class NotAnItem(EtcsError):
     @property
     def reason(self) -> str:
         """The reason, a sentence without a capital or a full stop. The wording may change between versions."""
-        return self._text if self._line is None else explain_json(self._line, self._kind)
+        return explain_json(self._line, self._kind) if self._line is not None and self._kind else self._text
 
     def __str__(self) -> str:
-        return self._text if self._line is None else f"{self._text}: {self.reason}"
+        return f"{self._text}: {self.reason}" if self._kind else self._text
 
 
 class NoMember(NotAnItem, AttributeError):
@@ -157,6 +261,13 @@ class NoMember(NotAnItem, AttributeError):
 
 class _Answer(ctypes.Structure):
     _fields_ = [("taken", ctypes.c_size_t), ("written", ctypes.c_size_t), ("bit", ctypes.c_size_t), ("var", ctypes.c_char * 32)]
+
+
+class _Reason(ctypes.Structure):
+    _fields_ = [
+        *((name, ctypes.c_uint64) for name in ("bits", "count", "number", "below", "above", "unfit", "room")),
+        *((name, ctypes.c_uint32) for name in ("cause", "here", "nid", "has")),
+    ]
 
 
 class _Telegram(ctypes.Structure):
@@ -185,8 +296,10 @@ for _name, _types in {
     "etcs_fields": [_number, _bytes, _size, _out, _size, _answer],
     "etcs_from_fields": [_number, _bytes, _size, _out, _size, _answer],
     "etcs_explain": [_number, _bytes, _size, _out, _size, _answer],
+    "etcs_refusal": [_number, _bytes, _size, ctypes.POINTER(_Reason), _answer],
     "etcs_fields_before": [_number, _bytes, _size, _out, _size, _answer],
     "etcs_explain_json": [_number, _bytes, _size, _out, _size, _answer],
+    "etcs_json_reason": [_number, _bytes, _size, _out, _size, _answer],
     "etcs_meaning": [_number, _number, ctypes.c_uint64, _number, _out, _size, _answer],
     "etcs_line_bytes": [_bytes, _size, _out, _size, _answer],
     "etcs_line_front": [_bytes, _size],
@@ -429,6 +542,19 @@ def explain(data: Data, kind: str) -> str:
     return text.decode()
 
 
+def refusal(data: Data, kind: str) -> Refusal:
+    """Why a bit of the bytes is refused, as numbers."""
+    data = bytes_of(data)
+    reason, answer = _Reason(), _Answer()
+    status = _lib.etcs_refusal(kind_number(kind), data, len(data), reason, answer)
+    if status not in (_OK, _MORE, _REFUSED):
+        _raise(status, answer, kind, data)
+    if status != _REFUSED:
+        return Refusal()
+    numbers = {name: getattr(reason, name) for name, bit in _HAS.items() if reason.has & bit}
+    return Refusal(_CAUSES[reason.cause], **numbers)
+
+
 def fields_before(data: Data, kind: str) -> List[Field]:
     """The fields before a refused bit; none if no bit is refused."""
     data = bytes_of(data)
@@ -445,6 +571,18 @@ def explain_json(line: Data, kind: str) -> str:
     if status not in (_OK, _REFUSED, _BAD_JSON):
         _raise(status, answer, kind, b"", line)
     return text.decode()
+
+
+def misfit(line: Data, kind: str) -> Misfit:
+    """Where a line isn't the JSON of an item, and what is wrong there."""
+    line = bytes_of(line)
+    status, answer, text = _call(_lib.etcs_json_reason, kind_number(kind), line, len(line), done=(_REFUSED, _BAD_JSON))
+    if status not in (_OK, _REFUSED, _BAD_JSON):
+        _raise(status, answer, kind, b"", line)
+    if not text:
+        return Misfit()
+    members = json.loads(text)
+    return Misfit(*(members[name] for name in Misfit._fields))
 
 
 def assemble(telegrams: List[Tuple[bytes, str]]) -> Tuple[int, List[int], bool]:

@@ -53,6 +53,13 @@ def start(room, python):
     return ran + [subprocess.Popen(words, **quiet) for _ in range(3)], address, env
 
 
+def words_of(note):
+    """What is reported of a line without JSON, from its object."""
+    if "bit" in note:
+        return f"line {note['line']}: refused at bit {note['bit']}, {note['variable']}: {note['reason']}"
+    return f"line {note['line']}: {'other: ' if note['cause'] == 'other' else ''}{note['reason']}"
+
+
 def one_run(program, path):
     """Returns what PROGRAM says about the log: items, what it says about bad lines, counts and groups."""
     words = [program, "log", "--kind", ",".join(KINDS), "--to", "json", "--summary", "--groups"]
@@ -60,9 +67,9 @@ def one_run(program, path):
         ran = subprocess.run(words, stdin=given, stdout=subprocess.PIPE, stderr=subprocess.PIPE, check=False)
     items = [json.loads(it) for it in ran.stdout.splitlines()]
     said = ran.stderr.decode().splitlines()
-    bad = [it for it in said if it.startswith("line ")]
+    bad = [words_of(json.loads(it)) for it in said if it.startswith("{")]
     groups = [it for it in said if it.startswith("group ")]
-    counts = {it for it in said if it not in bad and it not in groups and it.split()[0] not in ("message", "kept", "refused")}
+    counts = {it for it in said if it not in groups and not it.startswith(("{", "message", "kept", "refused"))}
     return items, bad, counts, groups
 
 

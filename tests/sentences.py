@@ -4,8 +4,8 @@
     tests/sentences.py [--list] PROGRAM [WORD ..]
 
 PROGRAM is `etcs`; the WORDs go before those of each vector, as for tests/vectors.py. The sentences are the string literals of
-crates/etcs_reasons, crates/etcs_explain and crates/etcs_log that have a word and no markup: what `explain` and `log` say, except
-for a few that are listed below, each with the reason. The vectors of crates/etcs_vectors/stdin that run these commands are
+crates/etcs_reasons, crates/etcs_explain and crates/etcs_log, and of words.rt of crates/etcs_rows, that have a word and no markup:
+what `explain` and `log` say, except for a few that are listed below, each with the reason. The vectors of crates/etcs_vectors/stdin that run these commands are
 answered once. Then a word of each sentence is changed in what the program wrote, wherever the sentence's fixed words are; what is
 between them, such as a number, may be any text of a line. Words that are part of a longer sentence in this place belong to that
 one alone.
@@ -27,6 +27,7 @@ import vectors
 from sources import TOP, source
 
 CRATES = ("etcs_reasons", "etcs_explain", "etcs_log")
+WORDS = "etcs_rows/src/words.rt"
 COMMANDS = ("explain", "log")
 
 # Literals that need no vector, and why.
@@ -34,8 +35,13 @@ PAGES = "is in pages alone, of which tests/stream_test.py has the words"
 LONG = "is written for a longer line than the vectors have, and tests/stream_test.py gives one"
 BYTES = "is written for bytes that aren't UTF-8, and the vector that has them expects digits"
 NEVER = "isn't written, since rows and tests have no such case"
+SOME = "isn't written, since before a refused bit some number may come"
+CALL = "is written by a call of the library that the program doesn't make"
+READ = "is read, and not written"
 PART = "is a part of a longer sentence that has its place"
 EXCEPTIONS = {
+    "long telegram": PAGES,
+    "short telegram": PAGES,
     "header of a telegram": PAGES,
     "header of a message to the train": PAGES,
     "header of a message to the track": PAGES,
@@ -45,16 +51,30 @@ EXCEPTIONS = {
     ", 1 packet": PAGES,
     ", {packets} packets": PAGES,
     "line longer than 1,048,576 characters": LONG,
+    r',\"cause\":\"too long\"': LONG,
     "line longer than 1,048,576 bytes": LONG,
     " bytes: the reason is only looked for in up to 65,536": LONG,
-    "byte {byte:02X}": BYTES,
-    "no length": NEVER,
-    "this number doesn't fit": NEVER,
+    "not JSON: unexpected byte {:02X}": BYTES,
     "no item of the kind has this JSON": NEVER,
-    "number out of range": NEVER,
+    ", and none of them begins with these bits": NEVER,
+    "; none fits": SOME,
+    "a message has no packet": "isn't written, since of the numbers next to 0 and 255 there are packets",
+    "null": CALL,
+    r'{\"column\":': CALL,
+    r',\"expected\":{}': CALL,
+    r',\"found\":{}': CALL,
+    r',\"path\":{}': CALL,
+    "0123456789abcdefABCDEF": READ,
+    "dD": READ,
+    "cdefCDEF": READ,
+    "89abAB": READ,
+    "rue": READ,
+    "alse": READ,
+    "ull": READ,
+    r'\"\\/bfnrt': READ,
+    "{count} byte{}": PART,
     "packet": PART,
     "message": PART,
-    "byte": PART,
 }
 # What pages are made of: tests/page.py opens them.
 MARKUP_FILE = "page.rt"
@@ -87,16 +107,15 @@ def unescaped(text):
 def sentences():
     """Yields the sentences of the sources."""
     seen = set()
-    for crate in CRATES:
-        for name in sorted({*os.listdir(f"{TOP}/crates/{crate}/src")} - {MARKUP_FILE}):
-            path = f"{crate}/src/{name}"
-            for token in TOKEN.finditer(source(path)):
-                text = token[1] or ""
-                parts = tuple(unescaped(it).replace("{{", "{").replace("}}", "}") for it in HOLE.split(text))
-                if parts in seen or text in EXCEPTIONS or MARKUP.search(text) or not any(map(WORD.search, parts)):
-                    continue
-                seen.add(parts)
-                yield Sentence(f"crates/{path}:{source(path)[: token.start()].count(chr(10)) + 1}", parts)
+    names = [f"{crate}/src/{it}" for crate in CRATES for it in sorted(os.listdir(f"{TOP}/crates/{crate}/src")) if it != MARKUP_FILE]
+    for path in [*names, WORDS]:
+        for token in TOKEN.finditer(source(path)):
+            text = token[1] or ""
+            parts = tuple(unescaped(it).replace("{{", "{").replace("}}", "}") for it in HOLE.split(text))
+            if parts in seen or text in EXCEPTIONS or MARKUP.search(text) or not any(map(WORD.search, parts)):
+                continue
+            seen.add(parts)
+            yield Sentence(f"crates/{path}:{source(path)[: token.start()].count(chr(10)) + 1}", parts)
 
 
 def pattern_of(sentence):

@@ -238,6 +238,9 @@ def check_long_lines(program):
         lines = output.decode().split("\n")
         found = status, lines[0], lines[1].split(":")[0], faults
         program.check(f"{words}, {count} bytes", found, (1, f"line 1: {said}", "line 2", fault))
+    note = b'{"line":1,"cause":"too long","reason":"line longer than 1,048,576 characters"}'
+    status, output, notes = program.call("log --kind radio --to json", b" " * (MOST + 1) + b"\n!\n")
+    program.check("log --to json of a long line", (status, output, notes.split(b"\n")[0]), (1, b"", note))
 
 
 def check_fronts(program):

@@ -10,6 +10,8 @@ changed (tools/unproved.py): in about a minute and a half on 4 cores. Then all p
     commands       the vectors that a command line can answer, by `etcs` (tests/vectors.py)
     stack          the same with 64 KB of stack, or 160 if the program is unproved, since its functions are inlined otherwise
     decoder        whether a decoder over share/etcs.tables.json reads what the vectors accept as `show` does (tests/tables_test.py)
+    reasons        the reasons of refused items against share/etcs.tables.json (tests/reasons_test.py)
+    nearest        which lengths are named where an L_PACKET is refused (tests/nearest_test.py)
     sentences      whether each sentence of `explain` and `log` is in a vector (tests/sentences.py)
     schema         docs/etcs.schema.json against the tables, the vectors and what the program writes (tools/schema.py)
     documents      the commands and the quoted files of all documents (tools/doc_examples.py)
@@ -69,6 +71,7 @@ FREE_SPACE = 16_000_000  # that temporary files of the parts take at most
 STACKS = {"unproved": 160, "proved": 64}  # in KB
 # The longest first, since as many run at a time as there are cores.
 PROGRAM_SCRIPTS = {
+    "reasons": ["tests/reasons_test.py"],
     "fuzz": ["tests/fuzz.py", "--seconds", "10"],
     "fuzz-selftest": ["tests/fuzz_test.py"],
     "commands": ["tests/vectors.py"],
@@ -80,6 +83,7 @@ PROGRAM_SCRIPTS = {
     "schema": ["tools/schema.py", "--check"],
     "decoder": ["tests/tables_test.py"],
     "sentences": ["tests/sentences.py"],
+    "nearest": ["tests/nearest_test.py"],
 }
 SCRIPTS = {
     "audit-selftest": ["tests/definitions_test.py"],

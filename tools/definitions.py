@@ -15,9 +15,9 @@ counts. The status is 1 if a name isn't found, if a contract rests on a lemma (i
 neither `abbrev` nor `unfoldable` nor a type), or if there are more than N definitions.
 
 --page writes the parts of docs/AUDIT.md between `<!-- definitions: FILE .. -->`, `<!-- quoted: FILE .. -->`,
-`<!-- clauses: CALL .. -->` or `<!-- counts: CALL .. -->` and `<!-- end -->`: where the headline's definitions in these files
-of crates/ are, or their text too, the clauses of these calls, and how many definitions each rests on. Each definition has
-to be in one part, the clauses of each call of the headline in another, and no type of it may be the caller's to give. With
+`<!-- clauses: CALL .. -->`, `<!-- counts: CALL .. -->` or `<!-- beyond: CALL .. -->` and `<!-- end -->`: where the
+headline's definitions in these files of crates/ are, or their text too, the clauses of these calls, how many definitions
+each rests on, and the text of those that are not the headline's. Each definition of the headline has to be in one part, the clauses of each call of the headline in another, and no type of it may be the caller's to give. With
 --check nothing is written, and the status is 1 if the page no longer matches the sources.
 """
 
@@ -379,7 +379,7 @@ class Reached:
 # ---- The page.
 
 PAGE = f"{TOP}/docs/AUDIT.md"
-PART = re.compile(r"(<!-- (definitions|quoted|clauses|counts): ([^>]*?) -->\n)(.*?)(<!-- end -->)", re.S)
+PART = re.compile(r"(<!-- (definitions|quoted|clauses|counts|beyond): ([^>]*?) -->\n)(.*?)(<!-- end -->)", re.S)
 
 
 def link(path, line):
@@ -443,11 +443,20 @@ def count_lines(names):
         yield f"| {said.get(name, f'`{name}`')} | {len(found)} | {lines:,} | {len(files)} |"
 
 
+def beyond_lines(calls):
+    """Yields the definitions that calls rest on and the headline doesn't, as `quoted_lines`, after how many they are."""
+    known = {*reached_by("headline").seen}
+    for call in calls:
+        found = [it for it in reached_by(call).in_order() if it not in known]
+        yield from [f"`{call}` rests on {len(found)} definitions more than the headline, {sum(it.size() for it in found)} lines:", ""]
+        yield from quoted_lines(found, dict.fromkeys(it.path.removeprefix("crates/") for it in found))
+
+
 def write_page(check):
     """Writes the page's parts, or compares them; returns the status."""
     reached = reached_by("headline")
     found, old = reached.in_order(), open(PAGE, encoding="utf-8").read()
-    makers = {"clauses": clause_lines, "counts": count_lines}
+    makers = {"clauses": clause_lines, "counts": count_lines, "beyond": beyond_lines}
     makers |= {"definitions": lambda it: definition_lines(found, it), "quoted": lambda it: quoted_lines(found, it)}
 
     def part(match):

@@ -53,7 +53,7 @@ static GOOD_HELP: &str =
     "Write the digits of good lines, each after its kind if there are several kinds, and report bad lines and those of other kinds on standard error";
 
 static SUMMARY_HELP: &str =
-    "Count items, bad lines, lines of other kinds, messages kept as bits, packets and messages by number and refusals by variable";
+    "Count items, bad lines, lines of other kinds, messages kept as bits, packets and messages by number, and refusals by variable and cause";
 
 static LOG_GROUPS_HELP: &str =
     "Write at the end one line for each balise group, in the order in which they began: complete, which N_PIG are missing, or empty; and how many telegrams clash";

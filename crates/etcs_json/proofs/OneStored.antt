@@ -14,7 +14,7 @@ use Rattle.etcs_vars.proofs.Walk.{Regular}
 use Rattle.etcs_tables.specs.declared.row.Way.{Way}
 use Rattle.etcs_packets.specs.PacketReadings.{readings_to}
 use Rattle.etcs_telegram.specs.Telegrams.{TelegramLanguage, TelegramReads}
-use Rattle.etcs_telegram.proofs.SameReadings.{owner_same}
+use Rattle.etcs_rows.proofs.SameReadings.{owner_same}
 use Rattle.etcs_telegram.proofs.Spellings as telegrams
 use Rattle.etcs_messages.specs.Messages.{MessageLanguage, MessageReads, MessageValue, typed_message, kept_message, head_reading}
 use Rattle.etcs_messages.proofs.Spelling as messages

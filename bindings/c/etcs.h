@@ -256,9 +256,9 @@ etcs_status etcs_explain(etcs_kind kind, const uint8_t *bytes, size_t len, uint8
  *     ETCS_REFUSED  bit, var; reason */
 etcs_status etcs_refusal(etcs_kind kind, const uint8_t *bytes, size_t len, etcs_reason *reason, etcs_answer *answer);
 
-/* As etcs_check, and for a refused bit the fields of variables before it, in the order of sending, as etcs_fields writes
- * them: an item of the kind begins with these fields, they are the first bits of the bytes, and from their end to bit are
- * fewer bits than the variable that holds it has. That no whole variable is left out there isn't proved.
+/* As etcs_check, and for a refused bit the fields of all variables before the one that holds it, in the order of sending, as
+ * etcs_fields writes them: they are the first bits of the bytes, from their end to bit are fewer bits than that variable has,
+ * and in an item of the kind it follows them.
  *     ETCS_OK                     taken; written, which is 0
  *     ETCS_MORE                   written, which is 0
  *     ETCS_REFUSED, ETCS_NO_ROOM  bit, var; written */

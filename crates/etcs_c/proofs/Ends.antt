@@ -3,16 +3,16 @@ use Rattle.std.proofs.Common.{◌≡◌, ℕ, ◌*◌, Bool, List, take, refl, i
 use Rattle.etcs_vars.specs.Reading.{Reading, done, refused, more, readings_of}
 use Rattle.etcs_text.specs.declared.entry.Kind.{Kind}
 use Rattle.etcs_text.specs.Entries.{EntryReads}
-use Rattle.etcs_reasons.specs.Accounts.{Accounts}
-use Rattle.etcs_reasons.specs.declared.account.End.{End}
-use Rattle.etcs_reasons.specs.declared.account.End.TheVariants as end
-use Rattle.etcs_reasons.specs.declared.account.Part.{Part}
+use Rattle.etcs_text.specs.Accounts.{Accounts}
+use Rattle.etcs_text.specs.declared.account.End.{End}
+use Rattle.etcs_text.specs.declared.account.End.TheVariants as end
+use Rattle.etcs_text.specs.declared.account.Part.{Part}
 use Rattle.etcs_c.specs.declared.answer.EtcsAnswer.{EtcsAnswer}
 use Rattle.etcs_c.specs.Answers.{SaysNone}
 use Rattle.etcs_c.specs.Explained.{SaysUnrefused}
 use Rattle.etcs_c.specs.ItemFields.{OfEnd}
 use Rattle.etcs_c.specs.Writes.{name_field}
-use Rattle.etcs_c.proofs.Firsts.{account_refused}
+use Rattle.etcs_text.proofs.AccountOutcomes.{account_refused}
 
 module _ (kind : Kind) (b : List Bool) (p : Reading) where
   -- an account of a refused bit, which is in the answer

@@ -2,7 +2,6 @@ pub mod Delivering
 pub mod Ends
 pub mod Firsts
 pub mod Fits
-pub mod Fronts
 pub mod Holding
 pub mod Packing
 pub mod Packs

@@ -8,9 +8,9 @@ use Rattle.etcs_bits.specs.Bits.{num}
 use Rattle.etcs_bits.proofs.Numbers.{length-num}
 use Rattle.etcs_text.specs.declared.entry.Kind.{Kind}
 use Rattle.etcs_text.specs.Entries.{EntryReads}
-use Rattle.etcs_reasons.specs.Accounts.{Shows, Accounts}
-use Rattle.etcs_reasons.specs.declared.account.Part.{Part}
-use Rattle.etcs_reasons.specs.declared.account.End.TheVariants as end
+use Rattle.etcs_text.specs.Accounts.{Shows, Accounts}
+use Rattle.etcs_text.specs.declared.account.Part.{Part}
+use Rattle.etcs_text.specs.declared.account.End.TheVariants as end
 use Rattle.etcs_c.specs.declared.answer.EtcsAnswer.{EtcsAnswer}
 use Rattle.etcs_c.specs.declared.fields.EtcsField.{EtcsField}
 use Rattle.etcs_c.specs.Writes.{Starves, WritesAs}
@@ -23,7 +23,7 @@ before kind b i part p fs (shows, refuses, short) is =
     let w = refuses.within in
     let front : take i (take 8184 b) ≡ take i b = take-take i 8184 b (omega (arith, w, length-take 8184 b)) in
     let less : length (num part.count part.bits) < width part.var = omega (arith, length-num part.count part.bits, short) in
-    (p, num part.count part.bits, subst (λ (t : List Bool). Shows (readings_of (EntryReads kind)) p (num part.count part.bits) t) front shows, less, is)
+    (p, num part.count part.bits, subst (λ (t : List Bool). Shows (readings_of (EntryReads kind)) p part.var (num part.count part.bits) t) front shows, less, is)
 
 -- ---- What is said where words or fields are delivered.
 

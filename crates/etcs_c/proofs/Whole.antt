@@ -16,8 +16,8 @@ use Rattle.etcs_c.specs.declared.answer.EtcsAnswer.{EtcsAnswer}
 use Rattle.etcs_c.specs.Writes.{Writes}
 use Rattle.etcs_c.specs.Answers.{SaysNone}
 use Rattle.etcs_c.specs.Built.{IsBuilt, NoneHas}
-use Rattle.etcs_c.proofs.Fronts.{outcome_front}
-use Rattle.etcs_reasons.proofs.ItemLengths.{item_length}
+use Rattle.etcs_text.proofs.Fronts.{outcome_front}
+use Rattle.etcs_text.proofs.ItemLengths.{item_length}
 use Rattle.etcs_bits.specs.Bits.{bits}
 use Rattle.std.specs.Prelude.{All}
 use Rattle.etcs_c.specs.Fields.{fields_of}

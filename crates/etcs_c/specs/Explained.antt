@@ -11,7 +11,7 @@ use Rattle.etcs_json.specs.TreeReading.{IsTreeOf}
 use Rattle.etcs_rows.specs.Refusals.{Explains}
 use Rattle.etcs_rows.specs.Words.{words}
 use Rattle.etcs_rows.specs.declared.refusal.Refusal.{Refusal}
-use Rattle.etcs_reasons.specs.Accounts.{Shows}
+use Rattle.etcs_text.specs.Accounts.{Shows}
 use Rattle.etcs_c.specs.declared.answer.EtcsAnswer.{EtcsAnswer}
 use Rattle.etcs_c.specs.declared.fields.EtcsField.{EtcsField}
 use Rattle.etcs_c.specs.declared.reason.EtcsReason.{EtcsReason}
@@ -48,12 +48,12 @@ SaysWhy kind b old new s a = SaysRefusal kind b (λ i x. (r : Refusal) × IsWhy 
 abbrev pub SaysReason : Kind → List Bool → EtcsReason → EtcsReason → ℕ → EtcsAnswer → Type 0
 SaysReason kind b old new s a = SaysRefusal kind b (λ i x. (s ≡ 2) × ((r : Refusal) × IsWhy kind b i x r × (new ≡ reason_of r))) old new s a × ((i : ℕ) (x : Var) → IsOutcome (EntryReads kind) b (refused i x) → s ≡ 2)
 
--- these are fields of variables with which an item of the kind begins, and the bits before bit i are theirs and then
--- fewer bits than the variable x has. No more ties these bits to x: whole narrower variables may be among them
+-- these are the fields of all whole variables before bit i: in an item of the kind the variable x follows them, and the bits
+-- before bit i are theirs and then fewer than x has
 abbrev pub AreBefore : Kind → List Bool → ℕ → Var → List EtcsField → Type 0
-AreBefore kind b i x fs = (p : Reading) × (part : List Bool) × Shows (readings_of (EntryReads kind)) p part (take i b) × (length part < width x) × (fs ≡ fields_of p)
+AreBefore kind b i x fs = (p : Reading) × (part : List Bool) × Shows (readings_of (EntryReads kind)) p x part (take i b) × (length part < width x) × (fs ≡ fields_of p)
 
--- `etcs_fields_before`: for a refused bit, fields before it
+-- `etcs_fields_before`: for a refused bit, the fields before the variable that holds it
 abbrev pub SaysBefore : Kind → List Bool → List EtcsField → List EtcsField → ℕ → EtcsAnswer → Type 0
 SaysBefore kind b old new s a = SaysRefusal kind b (λ i x. ((fs : List EtcsField) × AreBefore kind b i x fs × WritesAs 2 fs old new s a) ⊎ Starves old new s) old new s a
 

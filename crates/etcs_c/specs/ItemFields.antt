@@ -4,9 +4,9 @@ use Rattle.etcs_bits.specs.Bits.{num}
 use Rattle.etcs_vars.specs.Reading.{Reading, readings_of, IsOutcome, done, more}
 use Rattle.etcs_text.specs.declared.entry.Kind.{Kind}
 use Rattle.etcs_text.specs.Entries.{EntryReads, EntryValue, Spells}
-use Rattle.etcs_reasons.specs.Accounts.{Accounts}
-use Rattle.etcs_reasons.specs.declared.account.End.{End}
-use Rattle.etcs_reasons.specs.declared.account.End.TheVariants.{Whole, Open, Refused}
+use Rattle.etcs_text.specs.Accounts.{Accounts}
+use Rattle.etcs_text.specs.declared.account.End.{End}
+use Rattle.etcs_text.specs.declared.account.End.TheVariants.{Whole, Open, Refused}
 use Rattle.etcs_c.specs.declared.answer.EtcsAnswer.{EtcsAnswer}
 use Rattle.etcs_c.specs.declared.fields.EtcsField.{EtcsField}
 use Rattle.etcs_c.specs.Writes.{Starves, Writes, name_field}

@@ -12,8 +12,7 @@ use crate::answer::{BAD_FIELDS, EtcsAnswer, NO_MEMORY, WHOLE, write_out};
 use crate::fields::{EtcsField, fields_in};
 use crate::found::variables_of;
 use etcs_bits::inner::write;
-use etcs_reasons::Account;
-use etcs_text::Kind;
+use etcs_text::{Account, Kind};
 use std::alloc::{AllocError, Global};
 
 /// How many bytes the longest item has.

@@ -10,9 +10,8 @@ ghost use Rattle.etcs_c.specs.ItemFields.{IsWhole, OfEnd};
 
 use crate::answer::{EtcsAnswer, MORE, NO_MEMORY, WHOLE, accept, refuse};
 use etcs_reasons::inner::fed_unseen;
-use etcs_reasons::{Account, End};
 use etcs_text::inner::seen;
-use etcs_text::{Entry, EntryReader, Kind};
+use etcs_text::{Account, End, Entry, EntryReader, Kind};
 use etcs_vars::{Fed, ReadFault};
 use std::alloc::{AllocError, Global};
 

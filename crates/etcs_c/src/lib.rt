@@ -213,10 +213,10 @@ pub extern "C" fn etcs_refusal(
     }
 }
 
-/// As `etcs_check`, and if a bit is refused, writes the fields of variables before it: an item of the kind begins with
-/// these fields, their bits are the first of the bytes, and from their end to the refused bit are fewer bits than the
-/// variable that holds it has. That no whole variable is between isn't promised. The status is then still
-/// `ETCS_REFUSED`, or `ETCS_NO_ROOM`. In each other case nothing is written, and `written` is 0.
+/// As `etcs_check`, and if a bit is refused, writes the fields of all variables before the one that holds it: their bits are
+/// the first of the bytes, from their end to the refused bit are fewer bits than that variable has, and in an item of the
+/// kind it follows them. The status is then still `ETCS_REFUSED`, or `ETCS_NO_ROOM`. In each other case nothing is written,
+/// and `written` is 0.
 #[unsafe(no_mangle)]
 pub extern "C" fn etcs_fields_before(
     alloc: Global,

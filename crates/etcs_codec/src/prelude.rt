@@ -20,7 +20,7 @@ pub use etcs_telegram::{
 };
 pub use etcs_text::{
     Entry, EntryReader, Kind, SingleReader, Verdict, check_line, encoded, hex_line, json_line,
-    show_lines,
+    read_pairs, show_lines, write_pairs,
 };
 pub use etcs_track::{
     Located, PositionReport, PositionReportTwo, TrainFlat, TrainOther, TrainPacket,

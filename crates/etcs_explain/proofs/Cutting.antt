@@ -9,11 +9,11 @@ use Rattle.etcs_rows.specs.Refusals.{FindsRefusal}
 use Rattle.etcs_text.specs.declared.entry.Kind.{Kind}
 use Rattle.etcs_text.specs.Entries.{EntryReads}
 use Rattle.etcs_text.proofs.ItemKinds.{kind_regular}
-use Rattle.etcs_reasons.specs.declared.account.End.{End}
-use Rattle.etcs_reasons.specs.declared.account.End.TheVariants.{Whole, Open, Refused}
-use Rattle.etcs_reasons.specs.declared.account.Part.{Part}
-use Rattle.etcs_reasons.specs.Accounts.{Accounts}
-use Rattle.etcs_reasons.proofs.Accounting.{whole_unrefused, open_unrefused}
+use Rattle.etcs_text.specs.declared.account.End.{End}
+use Rattle.etcs_text.specs.declared.account.End.TheVariants.{Whole, Open, Refused}
+use Rattle.etcs_text.specs.declared.account.Part.{Part}
+use Rattle.etcs_text.specs.Accounts.{Accounts}
+use Rattle.etcs_text.proofs.Accounting.{whole_unrefused, open_unrefused}
 use Rattle.etcs_explain.specs.Cuts.{AreRefused}
 
 -- the account of the bytes ends so

@@ -1,8 +1,8 @@
 //! Where an item was cut short, and a line begins another.
 
 ghost use Rattle.std.specs.Prelude.{◌≡◌, ℕ, IfOk, IsTrue};
-ghost use Rattle.etcs_reasons.specs.declared.account.End.{End};
-ghost use Rattle.etcs_reasons.specs.declared.account.Part.{Part};
+ghost use Rattle.etcs_text.specs.declared.account.End.{End};
+ghost use Rattle.etcs_text.specs.declared.account.Part.{Part};
 ghost use Rattle.etcs_explain.specs.Cuts.{IsCut};
 
 use crate::titles::wanted;

@@ -1,3 +1,1 @@
-pub mod Accounting
 pub mod Feeding
-pub mod ItemLengths

@@ -1,5 +1,3 @@
-pub mod Accounts
 pub mod BitDigits
 pub mod Kinds
 pub mod Sentences
-pub mod Traces

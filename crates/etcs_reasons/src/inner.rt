@@ -1,7 +1,6 @@
 //! For the crates above: what bytes begin with, how an account is laid out, what numbers of variables mean, why an item is
 //! refused or a line has no bytes, what items of a kind have, and bits that are written as digits.
 
-pub use crate::account::MOST_BYTES;
 pub use crate::bits::{are_bits, byte_at, packed};
 pub use crate::first::{fed_unseen, is_item};
 pub use crate::kinds::{user_bits, wanted_bytes, way_of, way_of_message};
@@ -15,3 +14,4 @@ pub use crate::refusal::write_cause;
 pub use crate::sheet::Sheet;
 pub use crate::table::write_table;
 pub use crate::text::Text;
+pub use etcs_text::inner::MOST_BYTES;

@@ -3,7 +3,6 @@
 //! which `etcs_explain` writes.
 #![tactic(auto)]
 
-mod account;
 mod bits;
 mod first;
 pub mod inner;
@@ -19,6 +18,6 @@ mod sheet;
 mod table;
 mod text;
 
-pub use account::{Account, End, Part};
+pub use etcs_text::{Account, End, Part};
 pub use refusal::{Reason, why};
 pub use sheet::Layout;

@@ -1,8 +1,8 @@
 //! A page of HTML: the bytes of each item beside its variables. With a script an item is made when it is opened.
 //! tools/page.py puts the style and the script here, from share/page.css and share/page.js.
 
-use crate::account::End;
 use crate::text::Text;
+use etcs_text::End;
 
 /// What comes before the first item.
 pub static HEAD: &str = "<!doctype html>

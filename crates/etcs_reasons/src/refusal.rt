@@ -7,11 +7,10 @@ ghost use Rattle.etcs_vars.specs.Reading.{readings_of};
 ghost use Rattle.etcs_vars.specs.Walking.{Refuses};
 ghost use Rattle.etcs_rows.specs.Refusals.{Explains};
 ghost use Rattle.etcs_text.specs.Entries.{EntryReads};
-ghost use Rattle.etcs_reasons.specs.declared.account.End.{End};
-ghost use Rattle.etcs_reasons.specs.declared.account.Part.{Part};
+ghost use Rattle.etcs_text.specs.declared.account.End.{End};
+ghost use Rattle.etcs_text.specs.declared.account.Part.{Part};
 ghost use Rattle.etcs_reasons.specs.Sentences.{IsWritten};
 
-use crate::account::{Account, End};
 use crate::first::is_item;
 use crate::kinds::{wanted_bytes, way_of, way_of_message};
 use crate::numbers::is_or_are;
@@ -19,8 +18,8 @@ use crate::reasons::{often, write_meant};
 use crate::text::Text;
 use etcs_rows::{Cause, Here, Refusal};
 use etcs_tables::{Way, message_row};
-use etcs_text::Kind;
 use etcs_text::inner::refusal_at;
+use etcs_text::{Account, End, Kind};
 use etcs_vars::Var;
 use std::alloc::{AllocError, Global};
 

@@ -1,6 +1,5 @@
 //! The table of an item: a line for each variable, packets and entries with lines of their own.
 
-use crate::account::{Account, End};
 use crate::meanings::write_meaning;
 use crate::names::{message_name, packet_name};
 use crate::numbers::{low_byte, write_bits};
@@ -8,6 +7,7 @@ use crate::sheet::Sheet;
 use crate::text::Text;
 use etcs_bits::peek;
 use etcs_tables::{CLOSING_BITS, MARKER_BITS, RowItem, Way, row_of};
+use etcs_text::{Account, End};
 use etcs_vars::Var;
 
 /// Where the writer of a table is among the variables of an account.

@@ -1,6 +1,6 @@
 //! Tests of what no vector can express: the one reader over variables, rows and packets, from pieces; a packet and sinks
 //! used through their bounds; calls that take no memory or hand back what they were lent, which the program `etcs_refusals`
-//! doesn't test; what a group returns only to its caller; and texts of faults.
+//! doesn't test; what a group returns only to its caller; items as pairs; and texts of faults.
 #![tactic(auto)]
 
 #[cfg(test)]
@@ -19,6 +19,8 @@ mod item_tests;
 mod packet_tests;
 #[cfg(test)]
 mod packetlike_tests;
+#[cfg(test)]
+mod pair_tests;
 #[cfg(test)]
 mod pieces;
 #[cfg(test)]

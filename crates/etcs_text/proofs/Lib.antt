@@ -11,3 +11,8 @@ pub mod TreeTexts
 pub mod ItemFeeds
 pub mod Verdicts
 pub mod WrittenItems
+pub mod AccountOutcomes
+pub mod Accounting
+pub mod Fronts
+pub mod ItemLengths
+pub mod Written

@@ -8,3 +8,6 @@ pub mod Trees
 pub mod Kinds
 pub mod Readers
 pub mod Verdicts
+pub mod Accounts
+pub mod Pairs
+pub mod Traces

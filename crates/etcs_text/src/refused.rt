@@ -10,7 +10,7 @@ ghost use Rattle.etcs_text.specs.declared.entry.Kind.TheVariants.{Radio, Train};
 ghost use Rattle.etcs_text.specs.Entries.{EntryReads, kind_of};
 
 use crate::Kind;
-use crate::seen::MOST_SEEN;
+use crate::seen::MOST_BYTES;
 use etcs_messages::inner;
 use etcs_rows::{Refusal, refusal_in};
 use etcs_telegram::{Size, TelegramView, ViewFault, inner as telegrams};
@@ -62,11 +62,11 @@ fn train_refused_at(bytes: &[u8]) -> Option<(usize, Var)>
 }
 
 /// The first bytes, at most as many as an item may have.
-fn first(bytes: &[u8]) -> &[u8]
+pub(crate) fn first(bytes: &[u8]) -> &[u8]
     ensures short { length result.now ≤ 1023 }
     ensures bits { bits result.now ≡ take 8184 (bits bytes.now) }
 {
-    &bytes[..bytes.len().min(MOST_SEEN)]
+    &bytes[..bytes.len().min(MOST_BYTES)]
 }
 
 /// Returns the first bit of the first 1,023 bytes at most with which no item of the kind continues, and why; `None` if there

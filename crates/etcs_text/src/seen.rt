@@ -15,8 +15,8 @@ use etcs_messages::{Head, Own};
 use etcs_packets::inner::AnyPacket;
 use etcs_telegram::Size;
 
-/// The most bytes of an item, and so of one that is seen.
-pub(crate) const MOST_SEEN: usize = 1023;
+/// The most bytes that an item has.
+pub const MOST_BYTES: usize = 1023;
 
 /// The most bytes of a piece that is copied.
 const MOST_COPIED: usize = 56;
@@ -31,7 +31,7 @@ pub fn seen(kind: Kind, bytes: &[u8]) -> Option<usize>
     ensures item { IfSome result (λ n. (e : EntryValue) × IsOutcome (EntryReads kind) (bits bytes.now) (done e (8 * n)) × IsEncoded e (take n bytes.now)) }
 {
     are_bytes(bytes);
-    seen_first(kind, &bytes[..bytes.len().min(MOST_SEEN)])
+    seen_first(kind, &bytes[..bytes.len().min(MOST_BYTES)])
 }
 
 /// How many bits an item of the kind with this many bytes has; a telegram its user bits.

@@ -11,7 +11,7 @@ ghost use Rattle.etcs_text.specs.Entries.{EntryReads, EntryValue, entry_value, k
 
 use crate::entry::{Entry, Kind};
 use crate::messages::message_bytes;
-use crate::seen::MOST_SEEN;
+use crate::seen::MOST_BYTES;
 use etcs_bits::BitSlice;
 use etcs_messages::inner::{Outline, outline_of};
 use etcs_messages::{Head, MessageOf, Own};
@@ -309,7 +309,7 @@ pub(crate) fn write_seen<W: ItemWriter>(
     ensures err { OnErr result (page.new ≡ page.old) }
 {
     let place = page.place();
-    let piece = &bytes[..bytes.len().min(MOST_SEEN)];
+    let piece = &bytes[..bytes.len().min(MOST_BYTES)];
     match item_at(writer, kind, piece, page) {
         Ok(Some(count)) => Ok(Some(count)),
         Ok(None) => {

@@ -3,7 +3,7 @@ use Rattle.etcs_vars.specs.Reading.{IsOutcome, done}
 use Rattle.etcs_text.specs.Entries.{EntryReads}
 use Rattle.etcs_c.specs.Answers.{SaysNone}
 use Rattle.etcs_c.specs.ItemFields.{packed, whole_bytes}
-use Rattle.etcs_c.proofs.Fronts.{outcome_front}
+use Rattle.etcs_text.proofs.Fronts.{outcome_front}
 use Rattle.etcs_c.proofs.Whole.{built_said, missed_said, other_said, unfit_said}
 use Rattle.etcs_c.proofs.built.from_fields.Goals as goal
 

@@ -2,7 +2,7 @@ use Rattle.std.proofs.Common.{◌∙◌, inl}
 use Rattle.etcs_bits.specs.Bits.{bits}
 use Rattle.etcs_vars.specs.Reading as outcome
 use Rattle.etcs_c.proofs.Ends.{end_refused, end_unrefused}
-use Rattle.etcs_c.proofs.Firsts.{account_refused}
+use Rattle.etcs_text.proofs.AccountOutcomes.{account_refused}
 use Rattle.etcs_c.proofs.Refusals.{before_said}
 use Rattle.etcs_c.proofs.Saying.{unrefused_said}
 use Rattle.etcs_c.proofs.explained.write_before.Goals as goal

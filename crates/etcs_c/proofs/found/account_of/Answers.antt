@@ -1,8 +1,8 @@
 use Rattle.std.proofs.Common.{◌<◌, ◌^◌, length, refl, arith}
 use Rattle.etcs_bits.specs.Bits.{bits}
 use Rattle.etcs_vars.specs.Reading.{spelled}
-use Rattle.etcs_reasons.proofs.ItemLengths.{item_length}
-use Rattle.etcs_c.proofs.Firsts.{account_open, account_whole}
+use Rattle.etcs_text.proofs.ItemLengths.{item_length}
+use Rattle.etcs_text.proofs.AccountOutcomes.{account_open, account_whole}
 use Rattle.etcs_c.proofs.found.account_of.Goals as goal
 use Rattle.etcs_c.proofs.found.account_of.Goals.{in-Whole, in-Open, in-Refused}
 

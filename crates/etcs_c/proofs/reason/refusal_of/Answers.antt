@@ -3,7 +3,7 @@ use Rattle.etcs_bits.specs.Bits.{bits}
 use Rattle.etcs_vars.specs.declared.var.Var.{Var}
 use Rattle.etcs_vars.specs.Reading.{IsOutcome, refused}
 use Rattle.etcs_text.specs.Entries.{EntryReads}
-use Rattle.etcs_c.proofs.Fronts.{outcome_refused, refuses_front}
+use Rattle.etcs_text.proofs.Fronts.{outcome_refused, refuses_front}
 use Rattle.etcs_c.proofs.Saying.{none_refused_said}
 use Rattle.etcs_c.proofs.reason.refusal_of.Goals as goal
 

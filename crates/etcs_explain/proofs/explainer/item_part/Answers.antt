@@ -1,7 +1,7 @@
 use Rattle.std.proofs.Common.{◌<◌, ◌^◌, ◌*◌, ℕ, length, refl, ap, arith, inl, inr}
 use Rattle.etcs_vars.specs.Reading.{spelled}
 use Rattle.etcs_runs.specs.declared.fault.RunFault.TheVariants.{Truncated}
-use Rattle.etcs_reasons.proofs.ItemLengths.{item_length, whole_item}
+use Rattle.etcs_text.proofs.ItemLengths.{item_length, whole_item}
 use Rattle.etcs_explain.proofs.explainer.item_part.Goals as goal
 
 pub returns-in-Whole-clause-part : goal.returns-in-Whole-clause-part

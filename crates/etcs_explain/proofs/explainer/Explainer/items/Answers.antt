@@ -2,9 +2,9 @@ use Rattle.std.proofs.Common.{◌≡◌, ◌-◌, ◌<◌, inl, inr, ℕ, List, 
 use Rattle.std.proofs.lemmas.List.{length-drop, take_rest}
 use Rattle.std.proofs.lemmas.Result.{err_from_is_err_and}
 use Rattle.etcs_reasons.specs.declared.page.TheConstants.{HEAD}
-use Rattle.etcs_reasons.proofs.ItemLengths.{open_short}
-use Rattle.etcs_reasons.specs.declared.account.Part.{Part}
-use Rattle.etcs_reasons.specs.declared.account.End.TheVariants.{Open}
+use Rattle.etcs_text.proofs.ItemLengths.{open_short}
+use Rattle.etcs_text.specs.declared.account.Part.{Part}
+use Rattle.etcs_text.specs.declared.account.End.TheVariants.{Open}
 use Rattle.etcs_explain.specs.declared.task.Task.{Task}
 use Rattle.etcs_explain.specs.Inputs.{placed}
 use Rattle.etcs_explain.specs.Stands.{AddsOne, ExplainsSome}

@@ -6,9 +6,11 @@ ghost use Rattle.etcs_vars.specs.Reading.{Reading, readings_of, spelled};
 ghost use Rattle.etcs_reader.specs.Feeders.{Feeds, all_of};
 ghost use Rattle.etcs_reader.specs.Rests.{Goes};
 ghost use Rattle.etcs_text.specs.Entries.{EntryReads};
-ghost use Rattle.etcs_reasons.specs.Accounts.{Accounts};
-ghost use Rattle.etcs_reasons.specs.Traces.{Taken};
+ghost use Rattle.etcs_text.specs.Accounts.{Accounts};
+ghost use Rattle.etcs_text.specs.Traces.{Taken};
 
+use crate::Kind;
+use crate::refused::first;
 use etcs_messages::inner::MessageRest;
 use etcs_messages::{Head, Own};
 use etcs_radio::{Body, RadioHead};
@@ -16,7 +18,6 @@ use etcs_reader::{Feeder, Rest, Stop};
 use etcs_sequence::ItemRest;
 use etcs_telegram::Size;
 use etcs_telegram::inner::{TelegramRest, TelegramStore};
-use etcs_text::Kind;
 use etcs_train::{TrainBody, TrainHead};
 use etcs_vars::Var;
 use etcs_vars::inner::PairList;
@@ -29,10 +30,7 @@ type ToTrain = MessageRest<RadioHead, Body>;
 
 type ToTrack = MessageRest<TrainHead, TrainBody>;
 
-/// The most bytes that an item has.
-pub const MOST_BYTES: usize = 1023;
-
-/// The bits before the end of the bytes, or before the refused bit, that aren't of whole variables of the account.
+/// The bits of an unfinished variable before the end of the bytes, or before the refused bit.
 #[derive(Clone, Copy, Debug, PartialEq, Eq)]
 pub struct Part {
     /// The variable that holds the next bit, or the refused one.
@@ -157,8 +155,9 @@ impl Account {
     ///   refuses, and the part's variable holds it. The bits before it are those of the fields followed by those of the part,
     ///   and an item of the kind begins with the fields.
     ///
-    /// The part has fewer bits than its variable. No clause says that they are bits of that variable alone: whole variables
-    /// may be among them if together they have fewer bits.
+    /// In an item that begins with the fields the part's variable comes next, and it has more bits than the part: so the fields
+    /// are all whole variables before the end of the bytes, or before the refused bit, and the part's bits are the first ones of
+    /// that variable.
     ///
     /// # Errors
     ///
@@ -166,7 +165,7 @@ impl Account {
     pub fn read(alloc: Global, kind: Kind, bytes: &[u8]) -> Result<Account, AllocError>
         ensures { IfOk result (λ a. Accounts (readings_of (EntryReads kind)) a.fields.items a.end (take 8184 (bits bytes.now))) }
     {
-        let bytes = &bytes[..bytes.len().min(MOST_BYTES)];
+        let bytes = first(bytes);
         match kind {
             Kind::Long => account_of::<Telegrams>(alloc, Size::Long, bytes),
             Kind::Short => account_of::<Telegrams>(alloc, Size::Short, bytes),

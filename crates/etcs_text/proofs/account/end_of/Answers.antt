@@ -1,8 +1,8 @@
 use Rattle.std.proofs.Common.{◌≡◌, ◌∙◌, refl, sym, ap, arith}
 use Rattle.std.specs.Prelude.{Err}
 use Rattle.etcs_reader.specs.declared.feeder.Stop.TheVariants.{Refused}
-use Rattle.etcs_reasons.proofs.Accounting.{taken_whole, taken_open, taken_refused}
-use Rattle.etcs_reasons.proofs.account.end_of.Goals as goal
+use Rattle.etcs_text.proofs.Accounting.{taken_whole, taken_open, taken_refused}
+use Rattle.etcs_text.proofs.account.end_of.Goals as goal
 
 pub returns-in-None : goal.returns-in-None
 returns-in-None g c start xs feeds =
@@ -19,8 +19,9 @@ returns-in-Some g c start xs feeds =
     let (stop, count, takes) = rw c.in-Ok.is at feeds in
     let own = rw c.in-Some.is at (c.var.ensures.holds stop) in
     let short = rw c.in-Some.is at (c.var.ensures.short stop) in
-    let all = takes.more _ (sym c.var.ensures.next ∙ c.in-Some.is) in
-    taken_open R.left g.met.R.Rest.regular R.follows g.met.R.Rest.residual start xs v _ takes.passed all.0 (omega (arith, count)) _ own short c.unfinished-bits.result.1 c.unfinished-bits.result.0 c.unfinished-bits.ensures.bits
+    let next = sym c.var.ensures.next ∙ c.in-Some.is in
+    let all = takes.more _ next in
+    taken_open R.left g.met.R.Rest.regular R.follows g.met.R.Rest.residual start xs v _ takes.passed all.0 (omega (arith, count)) _ (g.met.R.Rest.begins_with v.rest _ next) own short c.unfinished-bits.result.1 c.unfinished-bits.result.0 c.unfinished-bits.ensures.bits
 
 pub returns-in-Err-Refused : goal.returns-in-Err-Refused
 returns-in-Err-Refused g c start xs feeds =
@@ -30,4 +31,4 @@ returns-in-Err-Refused g c start xs feeds =
     let field : w.field-0 ≡ Refused w.bit w.var = rw w.is at w.field-0-is in
     let fed : c.args.fed ≡ Err (Refused w.bit w.var) = w.is ∙ ap Err field in
     let (stop, count, n, place, h) = rw fed at feeds in
-    taken_refused R.left g.met.R.Rest.regular R.follows g.met.R.Rest.residual start xs v n _ _ h.passed h.goes _ (omega arith) h.refuses h.short (omega (arith, place)) (omega (arith, count, place)) c.unfinished-bits.result.1 c.unfinished-bits.result.0 c.unfinished-bits.ensures.bits
+    taken_refused R.left g.met.R.Rest.regular R.follows g.met.R.Rest.residual start xs v n _ _ (g.met.R.Rest.begins_with v.rest w.var h.here) h.passed h.goes _ (omega arith) h.refuses h.short (omega (arith, place)) (omega (arith, count, place)) c.unfinished-bits.result.1 c.unfinished-bits.result.0 c.unfinished-bits.ensures.bits

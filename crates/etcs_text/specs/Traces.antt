@@ -3,8 +3,8 @@ use Rattle.std.specs.Prelude.{◌≡◌, ◌+◌, Bool, List, length}
 use Rattle.etcs_vars.specs.Reading.{Reading, spelled}
 use Rattle.etcs_reader.specs.Rests.{Goes}
 use Rattle.etcs_reader.specs.Feeders.{FeederValue}
-use Rattle.etcs_reasons.specs.declared.account.End.{End}
-use Rattle.etcs_reasons.specs.Accounts.{Accounts}
+use Rattle.etcs_text.specs.declared.account.End.{End}
+use Rattle.etcs_text.specs.Accounts.{Accounts}
 
 -- a reader that began at start has taken whole variables and some bits after them; with these variables the bits xs are
 -- accounted for with this end

@@ -1,7 +1,7 @@
 use Rattle.std.proofs.Common.{◌++◌, ◌∙◌, length, ap, arith}
 use Rattle.etcs_bits.proofs.Numbers.{length-num}
 use Rattle.etcs_vars.specs.Reading.{Reading, spelled}
-use Rattle.etcs_reasons.proofs.account.fields_of.Goals as goal
+use Rattle.etcs_text.proofs.account.fields_of.Goals as goal
 
 pub overflow_sub-bits : goal.overflow_sub-bits
 overflow_sub-bits g c =

@@ -9,7 +9,7 @@ use Rattle.etcs_vars.proofs.Outcomes.{none_refused}
 use Rattle.etcs_text.specs.declared.entry.Kind.{Kind}
 use Rattle.etcs_text.specs.Entries.{EntryReads, EntryValue}
 use Rattle.etcs_text.proofs.ItemKinds.{kind_regular}
-use Rattle.etcs_reasons.proofs.ItemLengths.{item_length}
+use Rattle.etcs_text.proofs.ItemLengths.{item_length}
 
 abbrev Items : Kind → Reading → Type 0
 Items kind = readings_of (EntryReads kind)
@@ -50,7 +50,7 @@ outcome_front kind b more (none, viable) =
 -- ---- A refused bit.
 
 -- it is one of as many as an item may have
-before_end : (kind : Kind) (b : List Bool) → (InLanguage (Items kind) b → ⊥) → Viable (Items kind) b → length b + 1 ≤ 8184
+pub before_end : (kind : Kind) (b : List Bool) → (InLanguage (Items kind) b → ⊥) → Viable (Items kind) b → length b + 1 ≤ 8184
 before_end kind b open_end (r, [], l, e) = absurd (open_end (r, l, e ∙ append-nil b))
 before_end kind b open_end (r, x ∷ c, l, e) =
     let most = (item_length kind l.0 r l.1).1 in

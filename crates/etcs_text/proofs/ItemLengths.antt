@@ -18,8 +18,8 @@ use Rattle.etcs_messages.proofs.Bytes.{message_bytes, some_bits}
 use Rattle.etcs_text.specs.declared.entry.Kind.{Kind}
 use Rattle.etcs_text.specs.Entries.{EntryValue, EntryReads, of_telegram, of_message}
 use Rattle.etcs_text.specs.Verdicts.{IsItem}
-use Rattle.etcs_reasons.specs.Accounts.{Accounts}
-use Rattle.etcs_reasons.specs.declared.account.End.TheVariants as end
+use Rattle.etcs_text.specs.Accounts.{Accounts}
+use Rattle.etcs_text.specs.declared.account.End.TheVariants as end
 
 -- whole bytes, some and at most 1,023
 abbrev IsLength : ℕ → Type 0

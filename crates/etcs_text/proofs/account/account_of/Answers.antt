@@ -1,8 +1,8 @@
 use Rattle.etcs_bits.specs.Bits.{bits}
 use Rattle.etcs_vars.specs.Reading.{readings_of}
 use Rattle.etcs_reader.proofs.Leaping.{all_by}
-use Rattle.etcs_reasons.proofs.Accounting.{far_accounts, far_held, far_long}
-use Rattle.etcs_reasons.proofs.account.account_of.Goals as goal
+use Rattle.etcs_text.proofs.Accounting.{far_accounts, far_held, far_long}
+use Rattle.etcs_text.proofs.account.account_of.Goals as goal
 
 pub fields_of-requires : goal.fields_of-requires
 fields_of-requires g c =

@@ -1,7 +1,7 @@
 use Rattle.std.proofs.Common.{arith}
 use Rattle.etcs_vars.specs.declared.var.Var.TheVariants.{Q_UPDOWN}
-use Rattle.etcs_reasons.proofs.ItemLengths.{one_more}
-use Rattle.etcs_reasons.proofs.account.Account.bytes.Goals as goal
+use Rattle.etcs_text.proofs.ItemLengths.{one_more}
+use Rattle.etcs_text.proofs.account.Account.bytes.Goals as goal
 
 pub loop-field-preserved : goal.loop-field-preserved
 loop-field-preserved c small =

@@ -1,6 +1,6 @@
 #!/usr/bin/env python3
 """Compares etcs.h with the exports of crates/etcs_c/src (names, and types in order) and with the structs and the constants
-there; the names in the map of symbols, in Ada and in Python with the exports; the tables of variables for C, Python and
+there; the names in the map of symbols, in C++, Ada and Python with the exports; the tables of variables for C, Python and
 Ada, and the packets to begin with, with the specs; and the versions of the bindings with the program's.
 
     bindings/header.py            the status is 0 if they agree; nothing else compares them
@@ -20,7 +20,7 @@ from sources import variable
 
 VARS_H, VARS_PY, VARS_ADS = "bindings/c/etcs_vars.h", "bindings/python/src/etcs/_variables.py", "bindings/ada/etcs-variables.ads"
 BLANKS_PY = "bindings/python/src/etcs/_blanks.py"
-HEADER_H = "bindings/c/etcs.h"
+HEADER_H, HEADER_HPP = "bindings/c/etcs.h", "bindings/c/etcs.hpp"
 # Where else a version is given.
 VERSIONS = {
     "crates/etcs_c/src/lib.rt": r'^const VERSION: &\[u8\] = b"(.*)\\0";$',
@@ -44,7 +44,7 @@ C_TYPES = {
 
 def source(name):
     with open(os.path.join(TOP, name), encoding="utf-8") as file:
-        return re.sub(r"//.*|/\*.*?\*/", "", file.read(), flags=re.S if name.endswith(".h") else 0)
+        return re.sub(r"//.*|/\*.*?\*/", "", file.read(), flags=re.S if name.endswith((".h", ".hpp")) else 0)
 
 
 def exports(text):
@@ -175,6 +175,7 @@ def main():
         found = re.findall(pattern, source(path), re.M)
         if sorted(found) != sorted(ours):
             wrong.append(f"{path} has {', '.join(sorted(found))}")
+    wrong += [f"{HEADER_HPP} doesn't call {name}" for name in ours if f"::{name}(" not in source(HEADER_HPP)]
     groups, reason = source("crates/etcs_c/src/groups.rt"), source("crates/etcs_c/src/reason.rt")
     structs = [("etcs_answer", "EtcsAnswer", answer), ("etcs_field", "EtcsField", source("crates/etcs_c/src/fields.rt"))]
     structs += [("etcs_telegram", "EtcsTelegram", groups), ("etcs_group", "EtcsGroup", groups), ("etcs_reason", "EtcsReason", reason)]

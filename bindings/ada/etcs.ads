@@ -1,5 +1,5 @@
 --  The codec for Ada: the calls of etcs.h, which describes what each call does, returns and requires.
---  Etcs.Variables has the numbers of the variables.
+--  Etcs.Variables has the numbers of the variables, and Etcs.Items the same calls over arrays and strings.
 with Interfaces;   use Interfaces;
 with Interfaces.C; use Interfaces.C;
 

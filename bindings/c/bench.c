@@ -1,6 +1,7 @@
 /* bench CALL KIND FILE COUNT: nanoseconds of processor time for each item, over all items of the file COUNT times.
  * CALL is check, show, to_json, from_json, fields, pack (fields and from_fields), explain, refusal or before (of telegrams
- * whose last bit is turned, which is refused), or a number: the reader, fed pieces of that many bytes. */
+ * whose last bit is turned, which is refused), explain_json or json_reason (of lines of JSON without their last byte), or a
+ * number: the reader, fed pieces of that many bytes. */
 #include "etcs_help.h"
 #include <stdio.h>
 #include <stdlib.h>
@@ -27,7 +28,9 @@ int main(int argc, char **argv) {
     etcs_answer answer = {0};
     size_t items = 0, sum = 0, lines = 0;
     char **texts = 0; size_t *lens = 0;
-    if (!strcmp(call, "from_json")) {
+    etcs_status (*why)(etcs_kind, const uint8_t *, size_t, uint8_t *, size_t, etcs_answer *) =
+        !strcmp(call, "explain_json") ? etcs_explain_json : !strcmp(call, "json_reason") ? etcs_json_reason : NULL;
+    if (why || !strcmp(call, "from_json")) {
         texts = malloc(sizeof *texts * (len + 1)); lens = malloc(sizeof *lens * (len + 1)); /* an item has a byte */
         if (!texts || !lens) return 2;
         for (size_t at = 0; at < len; at += answer.taken) {
@@ -40,7 +43,8 @@ int main(int argc, char **argv) {
     for (int n = 0; n < count; n++) {
         if (lines) {
             for (size_t i = 0; i < lines; i++, items++) {
-                if (etcs_from_json(kind, (uint8_t *)texts[i], lens[i], out, sizeof out, &answer)) return 3;
+                if (why ? why(kind, (uint8_t *)texts[i], lens[i] - 1, out, sizeof out, &answer) != ETCS_BAD_JSON
+                    : etcs_from_json(kind, (uint8_t *)texts[i], lens[i], out, sizeof out, &answer) != ETCS_OK) return 3;
                 sum += answer.written;
             }
             continue;

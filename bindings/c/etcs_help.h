@@ -100,8 +100,10 @@ static inline size_t etcs_reader_due(const etcs_reader *reader)
     size_t all = etcs_reader_most(reader->kind), due = 6;
     if (reader->len < 3)
         return reader->len + 1;
-    if (all == ETCS_MOST_BYTES)
-        all = (size_t)reader->bytes[1] << 2 | reader->bytes[2] >> 6; /* L_MESSAGE: bits 8 to 17 */
+    if (all == ETCS_MOST_BYTES) {
+        all = reader->bytes[1]; /* L_MESSAGE: bits 8 to 17 */
+        all = all << 2 | reader->bytes[2] >> 6;
+    }
     while (due <= reader->len)
         due *= 2;
     return due < all ? due : all;

@@ -1,15 +1,18 @@
 #!/usr/bin/env python3
 """cluster_test.py PROGRAM [PYTHON]: reads a log by examples/log_cluster.py on a cluster of three workers on this machine, of
-which one is killed in the middle, and compares items, bad lines, counts and groups with those of PROGRAM's `log`.
+which one is killed in the middle, and compares items, bad lines, counts, groups and the table with those of one `PROGRAM log`.
 
-PYTHON (/usr/bin/python3) has Dask: `apt-get install python3-distributed`. The library for C is that of bindings/out, or the one
-that ETCS_LIBRARY names. A line says what was compared; the status is 0, or 1 if something differs, 2 without Dask.
+PYTHON (/usr/bin/python3) has Dask and pandas: `apt-get install python3-distributed python3-pandas`. The table is Parquet if
+PYTHON has pyarrow or fastparquet, otherwise CSV. A line says what was compared; the status is 0, or 1 if something differs, 2
+without Dask.
 """
 
+import csv
 import json
 import os
 import pathlib
 import random
+import re
 import subprocess
 import sys
 import tempfile
@@ -17,7 +20,10 @@ import time
 
 TOP = pathlib.Path(__file__).resolve().parent.parent
 KINDS = ("long", "short", "radio", "train")
-ITEMS, BLOCK, BUSY = 4000, "30kB", 0.5
+ITEMS, BLOCK = 4000, "30kB"
+FIRST = 10  # parts that are written before a worker is killed
+PAUSE = 0.2  # seconds that a part takes at least
+PARQUET = "import pandas, sys; pandas.read_parquet(sys.argv[1]).to_csv(sys.stdout, index=False)"
 
 
 def log(room):
@@ -35,9 +41,17 @@ def log(room):
     return path
 
 
-def start(room, python):
+def slow(room, program):
+    """Writes a script that runs the program after a pause, so that the workers are at work for some seconds."""
+    path = room / "etcs"
+    path.write_text(f'#!/bin/sh\nsleep {PAUSE}\nexec "{pathlib.Path(program).resolve()}" "$@"\n')
+    path.chmod(0o755)
+    return path
+
+
+def start(room, python, program):
     """Starts a scheduler and three workers, and returns them with the scheduler's address."""
-    env = {**os.environ, "PYTHONPATH": f"{TOP}/bindings/python/src", "PYTHONDONTWRITEBYTECODE": "1"}
+    env = {**os.environ, "ETCS_PROGRAM": str(program), "PYTHONDONTWRITEBYTECODE": "1"}
     quiet = {"stdout": subprocess.DEVNULL, "stderr": subprocess.DEVNULL, "env": env, "cwd": room}
     found = room / "scheduler.json"
     words = [python, "-m", "distributed.cli.dask_scheduler", "--host", "127.0.0.1", "--port", "0", "--no-dashboard", "--scheduler-file", found]
@@ -53,24 +67,49 @@ def start(room, python):
     return ran + [subprocess.Popen(words, **quiet) for _ in range(3)], address, env
 
 
-def words_of(note):
-    """What is reported of a line without JSON, from its object."""
-    if "bit" in note:
-        return f"line {note['line']}: refused at bit {note['bit']}, {note['variable']}: {note['reason']}"
-    return f"line {note['line']}: {'other: ' if note['cause'] == 'other' else ''}{note['reason']}"
+def counts_of(line):
+    """What the recipe prints for a line of counts: of a refused variable a line for each cause."""
+    name, number, note = re.fullmatch(r"(.*?) (\d+)( \(.*\))?", line).groups("")
+    causes = re.findall(r"(\d+) (\w+)", note) if name.startswith("refused ") else []
+    return [f"{name} {cause} {part}" for part, cause in causes] or [f"{name}{note} {number}"]
 
 
 def one_run(program, path):
-    """Returns what PROGRAM says about the log: items, what it says about bad lines, counts and groups."""
+    """Returns what PROGRAM says about the log: items, bad lines, counts and groups."""
     words = [program, "log", "--kind", ",".join(KINDS), "--to", "json", "--summary", "--groups"]
     with open(path, "rb") as given:
         ran = subprocess.run(words, stdin=given, stdout=subprocess.PIPE, stderr=subprocess.PIPE, check=False)
-    items = [json.loads(it) for it in ran.stdout.splitlines()]
     said = ran.stderr.decode().splitlines()
-    bad = [words_of(json.loads(it)) for it in said if it.startswith("{")]
+    bad = [it for it in said if it.startswith("{")]
     groups = [it for it in said if it.startswith("group ")]
-    counts = {it for it in said if it not in groups and not it.startswith(("{", "message", "kept", "refused"))}
-    return items, bad, counts, groups
+    counts = {name for it in said if it not in groups and it[0] != "{" for name in counts_of(it)}
+    return ran.stdout.decode().splitlines(), bad, counts, groups
+
+
+def numbers_of(items):
+    """Yields a line of the table for each variable of the items."""
+    for line in map(json.loads, items):
+        item = line["item"]
+        own = [("", "", it) for it in item.get("header", []) + item.get("fields", [])]
+        own += [(str(place), str(packet["nid"]), it) for place, packet in enumerate(item.get("packets", [])) for it in packet.get("fields", [])]
+        for place, nid, (name, number) in own:
+            sent = int(number, 16) if name == "NID_RADIO" else number & 0xFFFF if name == "D_REF" else number
+            yield [str(line["line"]), line["front"], item["kind"], place, nid, name, str(sent)]
+
+
+def table_of(python, out):
+    """Returns what the table is, and its lines without the head."""
+    if (out / "table").exists():
+        texts = [subprocess.run([python, "-c", PARQUET, out / "table"], stdout=subprocess.PIPE, text=True, check=True).stdout]
+    else:
+        texts = [it.read_text() for it in sorted(out.glob("table-*.csv"), key=lambda it: int(it.stem.partition("-")[2]))]
+    what = "Parquet" if (out / "table").exists() else "CSV"
+    return what, [row for text in texts for row in list(csv.reader(text.splitlines()))[1:]]
+
+
+def texts_of(out, name):
+    """Returns the lines of the files of all parts."""
+    return [it for part in sorted(out.glob(f"{name}-*.json")) for it in part.read_text().splitlines()]
 
 
 def main():
@@ -78,53 +117,46 @@ def main():
         print(__doc__)
         return 2
     program, python = sys.argv[1], sys.argv[2] if sys.argv[2:] else "/usr/bin/python3"
-    if subprocess.run([python, "-c", "import distributed"], stderr=subprocess.DEVNULL, check=False).returncode:
-        print("cluster_test: no Dask: apt-get install python3-distributed")
+    if subprocess.run([python, "-c", "import distributed, pandas"], stderr=subprocess.DEVNULL, check=False).returncode:
+        print("cluster_test: no Dask: apt-get install python3-distributed python3-pandas")
         return 2
     with tempfile.TemporaryDirectory(prefix="cluster-") as name:
         room = pathlib.Path(name)
-        path = log(room)
-        ran, address, env = start(room, python)
+        path, out = log(room), room / "out"
+        ran, address, env = start(room, python, slow(room, program))
         try:
-            words = [python, TOP / "examples/log_cluster.py", address, path, room / "out", BLOCK]
+            words = [python, TOP / "examples/log_cluster.py", address, path, out, BLOCK, "--table"]
             wait = f"from dask.distributed import Client; Client({address!r}).wait_for_workers(3)"
             subprocess.run([python, "-c", wait], env=env, cwd=room, check=True)
             reader = subprocess.Popen(words, stdout=subprocess.PIPE, env=env, cwd=room, text=True)
-            killed = kill_one(ran, reader)
+            killed = kill_one(ran, reader, out)
             printed = reader.communicate(timeout=1200)[0].splitlines()
         finally:
             for it in ran:
                 it.kill()
                 it.wait()
         items, bad, counts, groups = one_run(program, path)
-        parts, others = (sorted((room / "out").glob(it)) for it in ("items-*.json", "bad-*.txt"))
-        found = [json.loads(it) for part in parts for it in part.read_text().splitlines()]
-        said = [it for part in others for it in part.read_text().splitlines()]
-        differ = [what for what, one, other in (
-            ("items", items, found), ("bad lines", bad, said),
-            ("counts", counts, {it for it in printed if not it.startswith("group ")}), ("groups", groups, [it for it in printed if it.startswith("group ")]),
+        what, table = table_of(python, out)
+        differ = [name for name, one, other in (
+            ("items", items, texts_of(out, "items")), ("bad lines", bad, texts_of(out, "bad")),
+            ("counts", counts, {it for it in printed if not it.startswith("group ")}),
+            ("groups", groups, [it for it in printed if it.startswith("group ")]), ("table", list(numbers_of(items)), table),
         ) if one != other]
-    print(f"cluster: {len(found)} items in {len(parts)} parts, {len(bad)} bad lines, {len(groups)} groups; {killed}; "
-          + (f"differ: {', '.join(differ)}" if differ else "all as in one run"))
+        parts = len(list(out.glob("items-*.json")))
+    print(f"cluster: {len(items)} items in {parts} parts, {len(bad)} bad lines, {len(groups)} groups, {len(table)} numbers as {what}; "
+          + f"{killed}; " + (f"differ: {', '.join(differ)}" if differ else "all as in one run"))
     return 1 if differ or killed == "none was killed" else 0
 
 
-def kill_one(ran, reader):
-    """Kills a worker once two of them work, and says so."""
-    begun = {it: seconds_of(it.pid) for it in ran[1:]}
+def kill_one(ran, reader, out):
+    """Kills a worker that runs the program once some parts are written, and says so."""
     while reader.poll() is None:
-        busy = [it for it in ran[1:] if seconds_of(it.pid) > begun[it] + BUSY]
-        if len(busy) > 1:
+        busy = [it for it in ran[1:] if any(each.read_text() for each in pathlib.Path(f"/proc/{it.pid}/task").glob("*/children"))]
+        if busy and len(list(out.glob("items-*.json"))) >= FIRST:
             busy[0].kill()
-            return f"a worker was killed after {BUSY} seconds of its work"
+            return f"a worker was killed after {FIRST} parts"
         time.sleep(0.02)
     return "none was killed"
-
-
-def seconds_of(pid):
-    """Returns the seconds of processor time that a process has taken."""
-    fields = pathlib.Path(f"/proc/{pid}/stat").read_text().rsplit(")", 1)[1].split()
-    return (int(fields[11]) + int(fields[12])) / os.sysconf("SC_CLK_TCK")
 
 
 if __name__ == "__main__":

@@ -1,6 +1,6 @@
 #!/usr/bin/env python3
-"""Writes the tables of docs/FORMAT.md, docs/SUPPORTED.md, docs/USING.md and docs/ARCHITECTURE.md that come from the sources,
-and the files of tables for other tools (tools/machine_tables.py).
+"""Writes the tables of docs/FORMAT.md, docs/SUPPORTED.md, docs/USING.md, docs/ARCHITECTURE.md and docs/ASSESSMENT.md that come from
+the sources (those of the last one: tools/assessment.py), and the files of tables for other tools (tools/machine_tables.py).
 
     tools/format_tables.py [--check]
 
@@ -16,13 +16,14 @@ import sys
 import textwrap
 
 sys.dont_write_bytecode = True
+import assessment
 import machine_tables
 import sources
 from guarantees import intro
 from sources import FRAMES, MOST_LENGTH, TESTS, TOP, Many, One, When, crates, crates_below, message_names, messages, packet_names, packets, variable, variables
 
 KEPT = "\u00a0"  # a blank at which no line is broken
-DOCUMENTS = ["docs/FORMAT.md", "docs/SUPPORTED.md", "docs/USING.md", "docs/ARCHITECTURE.md"]
+DOCUMENTS = ["docs/FORMAT.md", "docs/SUPPORTED.md", "docs/USING.md", "docs/ARCHITECTURE.md", "docs/ASSESSMENT.md"]
 PART = re.compile(r"(<!-- made by tools/format_tables.py: ([\w ]+) -->\n)(.*?)(<!-- end -->)", re.S)
 
 # What the line of a variable says about its unit.
@@ -277,6 +278,7 @@ PARTS = {
     "skeletons of packets to the track": lambda: skeletons("track"),
     "crates": table_of_crates,
     "what crates are": what_crates_are,
+    **assessment.PARTS,
 }
 
 

@@ -1,14 +1,11 @@
 -- What is said where an encoding is delivered.
-use Rattle.std.proofs.Common.{◌≡◌, ℕ, List, Result, Ok, Err, inl, inr, ap, subst, ◌∙◌}
+use Rattle.std.proofs.Common.{ℕ, List, Result, Ok, Err, inl, inr}
 use Rattle.std.specs.Prelude.{◌⊎◌, IfOk, MatchResult}
 use Rattle.etcs_text.specs.declared.entry.Kind.{Kind}
 use Rattle.etcs_text.specs.Encodings.{IsEncoded}
-use Rattle.etcs_vars.specs.Reading.{Reading}
-use Rattle.etcs_text.specs.Entries.{EntryValue, Spells}
+use Rattle.etcs_text.specs.Entries.{EntryValue}
 use Rattle.etcs_json.specs.JsonLines.{SaysItem}
 use Rattle.etcs_c.specs.declared.answer.EtcsAnswer.{EtcsAnswer}
-use Rattle.etcs_c.specs.declared.fields.EtcsField.{EtcsField}
-use Rattle.etcs_c.specs.Fields.{fields_of}
 use Rattle.etcs_c.specs.Writes.{Starves, Writes}
 use Rattle.etcs_c.specs.Answers.{SaysLine}
 
@@ -16,11 +13,6 @@ use Rattle.etcs_c.specs.Answers.{SaysLine}
 pub text_said : {V E : Type 0} (P : List ℕ → Type 0) (items : V → List ℕ) (old new : List ℕ) (s : ℕ) (a : EtcsAnswer) (made : Result V E) → IfOk made (λ v. P (items v)) → MatchResult made (λ v. Writes (items v) old new s a) (λ x. Starves old new s) → ((text : List ℕ) × P text × Writes text old new s a) ⊎ Starves old new s
 text_said P items old new s a (Ok v) is writes = inl (items v, is, writes)
 text_said P items old new s a (Err x) is starves = inr starves
-
--- the fields of an item's variables
-pub fields_said : {V E : Type 0} (items : V → List EtcsField) (e : EntryValue) (r : Reading) → Spells e r → (sent : Reading) → sent ≡ r → (old new : List EtcsField) (s : ℕ) (a : EtcsAnswer) (made : Result V E) → IfOk made (λ v. items v ≡ fields_of sent) → MatchResult made (λ v. Writes (items v) old new s a) (λ x. Starves old new s) → ((q : Reading) × Spells e q × Writes (fields_of q) old new s a) ⊎ Starves old new s
-fields_said items e r reads sent same old new s a (Ok v) is writes = inl (r, reads, subst (λ (fs : List EtcsField). Writes fs old new s a) (is ∙ ap fields_of same) writes)
-fields_said items e r reads sent same old new s a (Err x) is starves = inr starves
 
 module _ {V E : Type 0} (items : V → List ℕ) (e : EntryValue) (old new : List ℕ) (s : ℕ) (a : EtcsAnswer) where
   pub line_said : (kind : Kind) (line : List ℕ) → SaysItem kind line e → (made : Result V E) → IfOk made (λ v. IsEncoded e (items v)) → MatchResult made (λ v. Writes (items v) old new s a) (λ x. Starves old new s) → SaysLine kind line old new s a

@@ -7,6 +7,7 @@ use Rattle.etcs_telegram.specs.Telegrams.{TelegramContent}
 use Rattle.etcs_bits.specs.Bits.{bits}
 use Rattle.etcs_vars.specs.Reading.{done, refused, more}
 use Rattle.etcs_text.specs.declared.entry.Kind.{Kind}
+use Rattle.etcs_text.specs.Entries.{EntryReads}
 use Rattle.etcs_group.specs.Groups.{HeldOf, HoldsNone, IsHeldOf, Joins, JoinsSet}
 use Rattle.etcs_c.specs.declared.answer.EtcsAnswer.{EtcsAnswer}
 use Rattle.etcs_c.specs.declared.groups.EtcsTelegram.{EtcsTelegram}
@@ -25,14 +26,14 @@ one_more rs i d t old new lt is (good, fits) adds (ts, are, none, held) =
     (t ∷ ts, rw last (is, are), (joins, none), adds ts held)
 
 -- the status for bytes that begin with no telegram isn't 0
-pub none_fails : (kind : Kind) (b : List Bool) (s : ℕ) (a : EtcsAnswer) → SaysNone kind b s a → s ≡ 0 → ⊥
+pub none_fails : (kind : Kind) (b : List Bool) (s : ℕ) (a : EtcsAnswer) → SaysNone (EntryReads kind) b s a → s ≡ 0 → ⊥
 none_fails kind b s a (inl (done e n, o, (taken, none))) z = none
 none_fails kind b s a (inl (refused i x, o, (bit, var, is))) z = omega (arith, z, is)
 none_fails kind b s a (inl (more, o, (is, t))) z = omega (arith, z, is)
 none_fails kind b s a (inr (is, t)) z = omega (arith, z, is)
 
 -- it says nothing of how many are held
-none_same : (kind : Kind) (b : List Bool) (s : ℕ) (a a' : EtcsAnswer) → SaysNone kind b s a → a'.bit ≡ a.bit → a'.var ≡ a.var → SaysNone kind b s a'
+none_same : (kind : Kind) (b : List Bool) (s : ℕ) (a a' : EtcsAnswer) → SaysNone (EntryReads kind) b s a → a'.bit ≡ a.bit → a'.var ≡ a.var → SaysNone (EntryReads kind) b s a'
 none_same kind b s a a' (inl (done e n, o, (taken, none))) bit var = absurd none
 none_same kind b s a a' (inl (refused i x, o, (at, held, is))) bit var = inl (refused i x, o, (bit ∙ at, var ∙ held, is))
 none_same kind b s a a' (inl (more, o, says)) bit var = inl (more, o, says)

@@ -1,10 +1,10 @@
 pub mod Delivering
-pub mod Ends
 pub mod Firsts
 pub mod Fits
 pub mod Holding
 pub mod Packing
 pub mod Packs
+pub mod Readings
 pub mod Refusals
 pub mod Rooms
 pub mod Saying

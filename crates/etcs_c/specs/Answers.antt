@@ -3,7 +3,7 @@
 use Rattle.std.specs.Prelude.{◌≡◌, ℕ, ◌*◌, ◌⊎◌, Bool, List}
 use Rattle.serde_json.specs.Written.{compact_text}
 use Rattle.etcs_vars.specs.declared.var.Var.{Var}
-use Rattle.etcs_vars.specs.Reading.{IsOutcome, Outcome, done, refused, more}
+use Rattle.etcs_vars.specs.Reading.{Reading, IsOutcome, Outcome, done, refused, more}
 use Rattle.etcs_text.specs.declared.entry.Kind.{Kind}
 use Rattle.etcs_text.specs.declared.entry.Kind.TheVariants.{Long, Short, Radio, Train}
 use Rattle.etcs_text.specs.Entries.{EntryReads, EntryValue, entry_text}
@@ -30,22 +30,22 @@ OfKind n Says Rest s = ((kind : Kind) × (kind_number kind ≡ n) × Says kind) 
 
 -- what is returned for an outcome: for an item how many bytes it has, and Whole of it; for a refused bit which it is, its
 -- variable, and Refused of both; for the beginning of an item 1, and Rest
-abbrev pub OfOutcome : (EntryValue → Type 0) → (ℕ → Var → Type 0) → Type 0 → Outcome EntryValue → ℕ → EtcsAnswer → Type 0
-OfOutcome Whole Refused Rest (done e n) s a = (n ≡ 8 * a.taken) × Whole e
+abbrev pub OfOutcome : {V : Type 0} → (V → Type 0) → (ℕ → Var → Type 0) → Type 0 → Outcome V → ℕ → EtcsAnswer → Type 0
+OfOutcome Whole Refused Rest (done v n) s a = (n ≡ 8 * a.taken) × Whole v
 OfOutcome Whole Refused Rest (refused i x) s a = (a.bit ≡ i) × (a.var ≡ name_field x) × Refused i x
 OfOutcome Whole Refused Rest more s a = (s ≡ 1) × Rest
 
--- that for what the bits begin with, of items of the kind (`IsOutcome`); or it is out of memory, with 4 and Rest
-abbrev pub OfBits : Kind → List Bool → (EntryValue → Type 0) → (ℕ → Var → Type 0) → Type 0 → ℕ → EtcsAnswer → Type 0
-OfBits kind b Whole Refused Rest s a = ((o : Outcome EntryValue) × IsOutcome (EntryReads kind) b o × OfOutcome Whole Refused Rest o s a) ⊎ ((s ≡ 4) × Rest)
+-- that for what the bits begin with (`IsOutcome`): a reading of a value; or it is out of memory, with 4 and Rest
+abbrev pub OfBits : {V : Type 0} → (V → Reading → Type 0) → List Bool → (V → Type 0) → (ℕ → Var → Type 0) → Type 0 → ℕ → EtcsAnswer → Type 0
+OfBits {V} Reads b Whole Refused Rest s a = ((o : Outcome V) × IsOutcome Reads b o × OfOutcome Whole Refused Rest o s a) ⊎ ((s ≡ 4) × Rest)
 
 -- `etcs_check`: the status and the numbers of what the bits begin with
-abbrev pub SaysBits : Kind → List Bool → ℕ → EtcsAnswer → Type 0
-SaysBits kind b s a = OfBits kind b (λ e. s ≡ 0) (λ i x. s ≡ 2) (Unit {0}) s a
+abbrev pub SaysBits : {V : Type 0} → (V → Reading → Type 0) → List Bool → ℕ → EtcsAnswer → Type 0
+SaysBits Reads b s a = OfBits Reads b (λ v. s ≡ 0) (λ i x. s ≡ 2) (Unit {0}) s a
 
--- they begin with no item, or it is out of memory
-abbrev pub SaysNone : Kind → List Bool → ℕ → EtcsAnswer → Type 0
-SaysNone kind b s a = OfBits kind b (λ e. ⊥) (λ i x. s ≡ 2) (Unit {0}) s a
+-- they begin with no reading of a value, or it is out of memory
+abbrev pub SaysNone : {V : Type 0} → (V → Reading → Type 0) → List Bool → ℕ → EtcsAnswer → Type 0
+SaysNone Reads b s a = OfBits Reads b (λ v. ⊥) (λ i x. s ≡ 2) (Unit {0}) s a
 
 -- the text is what is written of the item: its lines of text, or its JSON
 abbrev pub IsText : Wanted → EntryValue → List ℕ → Type 0
@@ -59,7 +59,7 @@ OutputsOf wanted e old new s a = ((text : List ℕ) × IsText wanted e text × W
 -- `etcs_show` and `etcs_to_json`: for an item, how many bytes it has, and what is written of it; else as for a check, and
 -- nothing is written
 abbrev pub SaysText : Wanted → Kind → List Bool → List ℕ → List ℕ → ℕ → EtcsAnswer → Type 0
-SaysText wanted kind b old new s a = OfBits kind b (λ e. OutputsOf wanted e old new s a) (λ i x. (s ≡ 2) × (new ≡ old)) (new ≡ old) s a
+SaysText wanted kind b old new s a = OfBits (EntryReads kind) b (λ e. OutputsOf wanted e old new s a) (λ i x. (s ≡ 2) × (new ≡ old)) (new ≡ old) s a
 
 -- `etcs_from_json`: the encoding of the item whose JSON the line is is written; or it is the JSON of none: the bits of its
 -- older form are refused, or it has no tree of an item, nor one of this form

@@ -56,7 +56,7 @@ IsState slots g = ((m : List Bool) × (g.missing ≡ map flag m) × ((p : ℕ) �
 abbrev pub SaysUnheld : EtcsTelegram → List (Option TelegramContent) → ℕ → EtcsAnswer → Type 0
 SaysUnheld r slots s a =
     ((t : TelegramContent) × (c : Clash) × IsOf r t × IsFirstClash c slots t × (s ≡ clash_status c))
-    ⊎ (((kind : Kind) × (kind_number kind ≡ r.kind) × IsOfTelegrams kind × SaysNone kind (bits r.bytes) s a)
+    ⊎ (((kind : Kind) × (kind_number kind ≡ r.kind) × IsOfTelegrams kind × SaysNone (EntryReads kind) (bits r.bytes) s a)
     ⊎ ((s ≡ 5) × ((kind : Kind) → IsOfTelegrams kind → kind_number kind ≡ r.kind → ⊥)))
 
 -- the index of the first telegram that isn't held beside those before it, and why

@@ -166,57 +166,33 @@ static OF_REASONS: &[OfReasons] = &[
 
 /// The calls over lines of JSON.
 #[derive(Clone, Copy)]
-enum LineCall {
-    FromJson,
-    ExplainJson,
-    JsonReason,
+enum Json {
+    From,
+    Explain,
+    Reason,
 }
 
 /// A call over a line, of which kind, and how much room there is for 200 bytes at most.
-type OfLines = (LineCall, u32, &'static [u8], usize, Wanted);
+type OfLines = (Json, u32, &'static [u8], usize, Wanted);
 
 static OF_LINES: &[OfLines] = &[
-    (LineCall::FromJson, 3, LINE, 10, (0, ANY, 10, ANY, NONE)),
-    (LineCall::FromJson, 3, LINE, 9, (3, ANY, 10, ANY, NONE)),
-    (LineCall::FromJson, 3, b"{}", 10, (6, ANY, ANY, ANY, NONE)),
-    (LineCall::FromJson, 2, SPARE, 27, (2, ANY, ANY, 74, SCALE)),
-    (LineCall::FromJson, 9, LINE, 10, (5, ANY, ANY, ANY, NONE)),
-    (LineCall::ExplainJson, 3, LINE, 200, (0, ANY, 0, ANY, NONE)),
-    (LineCall::ExplainJson, 3, b"{}", 29, (6, ANY, 29, ANY, NONE)),
-    (LineCall::ExplainJson, 3, b"{}", 28, (3, ANY, 29, ANY, NONE)),
-    (LineCall::ExplainJson, 2, SPARE, 69, (2, ANY, 69, 74, SCALE)),
-    (LineCall::ExplainJson, 2, SPARE, 68, (3, ANY, 69, 74, SCALE)),
-    (
-        LineCall::ExplainJson,
-        9,
-        LINE,
-        160,
-        (5, ANY, ANY, ANY, NONE),
-    ),
-    (LineCall::JsonReason, 3, LINE, 200, (0, ANY, 0, ANY, NONE)),
-    (
-        LineCall::JsonReason,
-        3,
-        b"{}",
-        100,
-        (6, ANY, 100, ANY, NONE),
-    ),
-    (LineCall::JsonReason, 3, b"{}", 99, (3, ANY, 100, ANY, NONE)),
-    (
-        LineCall::JsonReason,
-        2,
-        SPARE,
-        151,
-        (2, ANY, 151, 74, SCALE),
-    ),
-    (
-        LineCall::JsonReason,
-        2,
-        SPARE,
-        150,
-        (3, ANY, 151, 74, SCALE),
-    ),
-    (LineCall::JsonReason, 9, LINE, 200, (5, ANY, ANY, ANY, NONE)),
+    (Json::From, 3, LINE, 10, (0, ANY, 10, ANY, NONE)),
+    (Json::From, 3, LINE, 9, (3, ANY, 10, ANY, NONE)),
+    (Json::From, 3, b"{}", 10, (6, ANY, ANY, ANY, NONE)),
+    (Json::From, 2, SPARE, 27, (2, ANY, ANY, 74, SCALE)),
+    (Json::From, 9, LINE, 10, (5, ANY, ANY, ANY, NONE)),
+    (Json::Explain, 3, LINE, 200, (0, ANY, 0, ANY, NONE)),
+    (Json::Explain, 3, b"{}", 29, (6, ANY, 29, ANY, NONE)),
+    (Json::Explain, 3, b"{}", 28, (3, ANY, 29, ANY, NONE)),
+    (Json::Explain, 2, SPARE, 69, (2, ANY, 69, 74, SCALE)),
+    (Json::Explain, 2, SPARE, 68, (3, ANY, 69, 74, SCALE)),
+    (Json::Explain, 9, LINE, 160, (5, ANY, ANY, ANY, NONE)),
+    (Json::Reason, 3, LINE, 200, (0, ANY, 0, ANY, NONE)),
+    (Json::Reason, 3, b"{}", 100, (6, ANY, 100, ANY, NONE)),
+    (Json::Reason, 3, b"{}", 99, (3, ANY, 100, ANY, NONE)),
+    (Json::Reason, 2, SPARE, 151, (2, ANY, 151, 74, SCALE)),
+    (Json::Reason, 2, SPARE, 150, (3, ANY, 151, 74, SCALE)),
+    (Json::Reason, 9, LINE, 200, (5, ANY, ANY, ANY, NONE)),
 ];
 
 /// The number, variable and width of each field.
@@ -449,9 +425,9 @@ fn ask_line(alloc: Global, case: &OfLines, answer: &mut EtcsAnswer) -> u32 {
     let mut text = [0; 200];
     let out = &mut text[..room.min(200)];
     match call {
-        LineCall::FromJson => etcs_from_json(alloc, kind, line, out, answer),
-        LineCall::ExplainJson => etcs_explain_json(alloc, kind, line, out, answer),
-        LineCall::JsonReason => etcs_json_reason(alloc, kind, line, out, answer),
+        Json::From => etcs_from_json(alloc, kind, line, out, answer),
+        Json::Explain => etcs_explain_json(alloc, kind, line, out, answer),
+        Json::Reason => etcs_json_reason(alloc, kind, line, out, answer),
     }
 }
 
@@ -672,9 +648,9 @@ static STARVED_REASONS: &[OfReasons] = &[
 ];
 
 static STARVED_LINES: &[OfLines] = &[
-    (LineCall::FromJson, 3, LINE, 10, STARVED),
-    (LineCall::ExplainJson, 3, b"{}", 29, STARVED),
-    (LineCall::JsonReason, 3, b"{}", 100, STARVED),
+    (Json::From, 3, LINE, 10, STARVED),
+    (Json::Explain, 3, b"{}", 29, STARVED),
+    (Json::Reason, 3, b"{}", 100, STARVED),
 ];
 
 static STARVED_FIELDS: &[OfFields] = &[(3, OWN, 6, 10, STARVED)];
@@ -715,7 +691,7 @@ fn refused_memory(rt: HostRuntime) -> Result<(), Fail> {
 const HOLLOW: &[u8] = b"{\"header\":[],\"kind\":\"short\"}";
 
 /// The status for it from a call, and how many bytes were written.
-fn why_hollow(alloc: Global, call: LineCall) -> (u32, usize) {
+fn why_hollow(alloc: Global, call: Json) -> (u32, usize) {
     let answer = &mut unanswered();
     let status = ask_line(alloc, &(call, 2, HOLLOW, 200, STARVED), answer);
     (status, answer.written)
@@ -734,8 +710,8 @@ fn are_whole(
     let mut are_whole = true;
     for step in 0..128usize {
         let kept: Vec<u8> = Vec::with_capacity(alloc, 8192 - step * 16)?;
-        let (code, written) = why_hollow(alloc, LineCall::ExplainJson);
-        let (status, count) = why_hollow(alloc, LineCall::JsonReason);
+        let (code, written) = why_hollow(alloc, Json::Explain);
+        let (status, count) = why_hollow(alloc, Json::Reason);
         drop(kept);
         are_whole &= code == 4 || (code == sentence.0 && written == sentence.1);
         are_whole &= status == 4 || (status == object.0 && count == object.1);
@@ -748,8 +724,8 @@ fn are_whole(
 #[test]
 fn whole_sentences(rt: HostRuntime) -> Result<(), Fail> {
     let alloc = rt.alloc();
-    let sentence = why_hollow(alloc, LineCall::ExplainJson);
-    let object = why_hollow(alloc, LineCall::JsonReason);
+    let sentence = why_hollow(alloc, Json::Explain);
+    let object = why_hollow(alloc, Json::Reason);
     assert_eq!(rt; sentence.0, 6);
     assert_eq!(rt; object.0, 6);
     assert!(rt; are_whole(alloc, sentence, object)?);

@@ -5,14 +5,15 @@ ghost use Rattle.etcs_bits.specs.Bits.{bits};
 ghost use Rattle.etcs_rows.specs.Words.{words};
 ghost use Rattle.etcs_c.specs.Explained.{SaysBefore, SaysLineWhy, SaysWhy};
 
-use crate::answer::{BAD_JSON, EtcsAnswer, NO_MEMORY, REFUSED, WHOLE, deliver, refuse};
+use crate::answer::{
+    BAD_JSON, EtcsAnswer, MORE, NO_MEMORY, REFUSED, WHOLE, accept, deliver, refuse,
+};
 use crate::fields::{EtcsField, fields_in};
-use crate::found::account_of;
 use crate::reason::refusal_of;
 use etcs_explain::JsonReason;
 use etcs_json::{JsonFault, from_line};
 use etcs_rows::Refusal;
-use etcs_text::Kind;
+use etcs_text::{End, Kind, read_pairs};
 use std::alloc::{AllocError, Global};
 
 /// A refusal in words.
@@ -52,14 +53,16 @@ pub(crate) fn write_before(
     ensures { SaysBefore kind (bits bytes.now) out.old out.new result answer.new }
 {
     answer.written = 0;
-    match account_of(alloc, kind, bytes, answer) {
-        Ok((account, status)) => {
-            if status != REFUSED {
-                return status;
+    match read_pairs(alloc, kind, bytes) {
+        Ok(account) => match account.end {
+            End::Whole => accept(account.bytes(), answer),
+            End::Open(_) => MORE,
+            End::Refused(bit, part) => {
+                refuse(bit, part.var, answer);
+                let fields = fields_in(alloc, account.fields.as_slice());
+                deliver(REFUSED, fields, out, answer)
             }
-            let fields = fields_in(alloc, account.fields.as_slice());
-            deliver(REFUSED, fields, out, answer)
-        }
+        },
         Err(AllocError) => NO_MEMORY,
     }
 }

@@ -1,17 +1,17 @@
 //! What bytes begin with.
 
-ghost use Rattle.std.specs.Prelude.{◌≡◌, ◌*◌, [], IfOk, MatchResult};
+ghost use Rattle.std.specs.Prelude.{◌≡◌, ◌*◌, [], MatchResult};
 ghost use Rattle.etcs_bits.specs.Bits.{bits};
 ghost use Rattle.etcs_vars.specs.Reading.{IsOutcome, done};
 ghost use Rattle.etcs_text.specs.Entries.{EntryReads, entry_value};
+ghost use Rattle.etcs_text.specs.Pairs.{PairsRead};
 ghost use Rattle.etcs_text.specs.Readers.{reading};
 ghost use Rattle.etcs_c.specs.Answers.{SaysBits, SaysNone};
-ghost use Rattle.etcs_c.specs.ItemFields.{IsWhole, OfEnd};
 
-use crate::answer::{EtcsAnswer, MORE, NO_MEMORY, WHOLE, accept, refuse};
+use crate::answer::{EtcsAnswer, MORE, NO_MEMORY, accept, refuse};
 use etcs_reasons::inner::fed_unseen;
 use etcs_text::inner::seen;
-use etcs_text::{Account, End, Entry, EntryReader, Kind};
+use etcs_text::{Account, End, Entry, EntryReader, Kind, read_pairs};
 use etcs_vars::{Fed, ReadFault};
 use std::alloc::{AllocError, Global};
 
@@ -19,7 +19,7 @@ use std::alloc::{AllocError, Global};
 /// items are accepted or refused without making a value of them.
 #[inline(always)]
 pub(crate) fn check(alloc: Global, kind: Kind, bytes: &[u8], answer: &mut EtcsAnswer) -> u32
-    ensures { SaysBits kind (bits bytes.now) result answer.new }
+    ensures { SaysBits (EntryReads kind) (bits bytes.now) result answer.new }
 {
     match seen(kind, bytes) {
         Some(taken) => accept(taken, answer),
@@ -30,7 +30,7 @@ pub(crate) fn check(alloc: Global, kind: Kind, bytes: &[u8], answer: &mut EtcsAn
 /// As [`check`], where no item is seen.
 #[inline(never)]
 fn check_unseen(alloc: Global, kind: Kind, bytes: &[u8], answer: &mut EtcsAnswer) -> u32
-    ensures { SaysBits kind (bits bytes.now) result answer.new }
+    ensures { SaysBits (EntryReads kind) (bits bytes.now) result answer.new }
 {
     match fed_unseen(alloc, kind, bytes) {
         Ok(Fed::Done { taken }) => accept(taken, answer),
@@ -48,7 +48,7 @@ pub(crate) fn item_of(
     bytes: &[u8],
     answer: &mut EtcsAnswer,
 ) -> Result<(Entry, usize), u32>
-    ensures { MatchResult result (λ m. IsOutcome (EntryReads kind) (bits bytes.now) (done (entry_value m.0) (8 * m.1))) (λ s. SaysNone kind (bits bytes.now) s answer.new) }
+    ensures { MatchResult result (λ m. IsOutcome (EntryReads kind) (bits bytes.now) (done (entry_value m.0) (8 * m.1))) (λ s. SaysNone (EntryReads kind) (bits bytes.now) s answer.new) }
 {
     let mut reader = EntryReader::new(alloc, kind);
     let item = first_item(&mut reader, bytes, answer);
@@ -63,7 +63,7 @@ fn first_item(
     answer: &mut EtcsAnswer,
 ) -> Result<(Entry, usize), u32>
     requires { reader.old.progress ≡ reading [] }
-    ensures { MatchResult result (λ m. IsOutcome (EntryReads reader.old.kind) (bits bytes.now) (done (entry_value m.0) (8 * m.1))) (λ s. SaysNone reader.old.kind (bits bytes.now) s answer.new) }
+    ensures { MatchResult result (λ m. IsOutcome (EntryReads reader.old.kind) (bits bytes.now) (done (entry_value m.0) (8 * m.1))) (λ s. SaysNone (EntryReads reader.old.kind) (bits bytes.now) s answer.new) }
 {
     match reader.feed(bytes) {
         Ok(Fed::Done { taken }) => match reader.next() {
@@ -77,25 +77,6 @@ fn first_item(
     }
 }
 
-/// The account of the bytes, and the status of what they begin with; the numbers of it are put into the answer.
-pub(crate) fn account_of(
-    alloc: Global,
-    kind: Kind,
-    bytes: &[u8],
-    answer: &mut EtcsAnswer,
-) -> Result<(Account, u32), AllocError>
-    ensures account { IfOk result (λ t. OfEnd kind (bits bytes.now) t.0.fields.items t.0.end t.1 answer.new) }
-    ensures written { answer.new.written ≡ answer.old.written }
-{
-    let account = Account::read(alloc, kind, bytes)?;
-    let status = match account.end {
-        End::Whole => accept(account.bytes(), answer),
-        End::Open(_) => MORE,
-        End::Refused(bit, part) => refuse(bit, part.var, answer),
-    };
-    Ok((account, status))
-}
-
 /// The account of the item that the bytes begin with, and how many bytes it has in the answer; or the status of what they
 /// begin with in its place.
 pub(crate) fn variables_of(
@@ -104,15 +85,17 @@ pub(crate) fn variables_of(
     bytes: &[u8],
     answer: &mut EtcsAnswer,
 ) -> Result<Account, u32>
-    ensures { MatchResult result (λ a. IsWhole kind (bits bytes.now) a.fields.items answer.new) (λ s. SaysNone kind (bits bytes.now) s answer.new) }
+    ensures { MatchResult result (λ a. IsOutcome (PairsRead kind) (bits bytes.now) (done a.fields.items (8 * answer.new.taken))) (λ s. SaysNone (PairsRead kind) (bits bytes.now) s answer.new) }
 {
-    match account_of(alloc, kind, bytes, answer) {
-        Ok((account, status)) => {
-            if status != WHOLE {
-                return Err(status);
+    match read_pairs(alloc, kind, bytes) {
+        Ok(account) => match account.end {
+            End::Whole => {
+                accept(account.bytes(), answer);
+                Ok(account)
             }
-            Ok(account)
-        }
+            End::Open(_) => Err(MORE),
+            End::Refused(bit, part) => Err(refuse(bit, part.var, answer)),
+        },
         Err(AllocError) => Err(NO_MEMORY),
     }
 }

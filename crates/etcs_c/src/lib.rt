@@ -30,6 +30,7 @@ mod vars;
 ghost use Rattle.std.specs.Prelude.{◌≡◌, ◌++◌, ◌∷◌, [], ⊤, codes, length};
 ghost use Rattle.etcs_bits.specs.Bits.{bits};
 ghost use Rattle.etcs_runs.specs.Digits.{line_front};
+ghost use Rattle.etcs_text.specs.Pairs.{PairsRead};
 ghost use Rattle.etcs_c.specs.Answers.{OfKind, SaysBits, SaysLine, SaysText};
 ghost use Rattle.etcs_c.specs.Built.{IsBuilt};
 ghost use Rattle.etcs_c.specs.Explained.{SaysBefore, SaysLineWhy, SaysReason, SaysWhy};
@@ -68,7 +69,7 @@ const VERSION: &[u8] = b"0.2.0\0";
 /// holds unless the status is `ETCS_NO_MEMORY` or `ETCS_UNKNOWN_KIND`.
 #[unsafe(no_mangle)]
 pub extern "C" fn etcs_check(alloc: Global, kind: u32, bytes: &[u8], answer: &mut EtcsAnswer) -> u32
-    ensures { OfKind kind (λ k. SaysBits k (bits bytes.now) result answer.new) ⊤ result }
+    ensures { OfKind kind (λ k. SaysBits (PairsRead k) (bits bytes.now) result answer.new) ⊤ result }
 {
     match kind_of(kind) {
         Some(kind) => check(alloc, kind, bytes, answer),

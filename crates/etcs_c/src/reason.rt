@@ -172,7 +172,7 @@ pub(crate) fn refusal_of(
     bytes: &[u8],
     answer: &mut EtcsAnswer,
 ) -> Result<Refusal, u32>
-    ensures { MatchResult result (λ r. IsFound kind (bits bytes.now) r answer.new) (λ s. SaysUnrefused kind (bits bytes.now) s answer.new × ((i : ℕ) (x : Var) → IsOutcome (EntryReads kind) (bits bytes.now) (refused i x) → ⊥)) }
+    ensures { MatchResult result (λ r. IsFound kind (bits bytes.now) r answer.new) (λ s. SaysUnrefused (EntryReads kind) (bits bytes.now) s answer.new × ((i : ℕ) (x : Var) → IsOutcome (EntryReads kind) (bits bytes.now) (refused i x) → ⊥)) }
 {
     match refusal_at(kind, bytes) {
         Some(refusal) => {

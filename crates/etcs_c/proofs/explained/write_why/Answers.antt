@@ -2,6 +2,7 @@ use Rattle.std.proofs.Common.{◌∙◌, inl, refl}
 use Rattle.etcs_bits.specs.Bits.{bits}
 use Rattle.etcs_vars.specs.Reading as outcome
 use Rattle.etcs_rows.specs.Words.{words}
+use Rattle.etcs_text.specs.Entries.{EntryReads}
 use Rattle.etcs_c.proofs.Refusals.{exactly_said}
 use Rattle.etcs_c.proofs.Saying.{unrefused_said}
 use Rattle.etcs_c.proofs.explained.write_why.Goals as goal
@@ -14,4 +15,4 @@ returns-in-Ok c =
     inl (outcome.refused r.bit r.var, refused, (c.deliver.ensures.bit ∙ bit, c.deliver.ensures.var ∙ var, (r, (refl, refl, explains), said)))
 
 pub returns-in-Err : goal.returns-in-Err
-returns-in-Err c = unrefused_said c.args.kind (bits c.args.bytes.now) c.in-Err.status c.refusal_of.new.answer _ c.args.out.now c.in-Err.ensures.0
+returns-in-Err c = unrefused_said (EntryReads c.args.kind) (bits c.args.bytes.now) c.in-Err.status c.refusal_of.new.answer _ c.args.out.now c.in-Err.ensures.0

@@ -15,4 +15,4 @@ pub returns : goal.returns
 returns c =
     let b = bits c.args.bytes.now in
     let i = c.first_item-item in
-    subst (λ (k : Kind). MatchResult i.result (λ m. IsOutcome (EntryReads k) b (done (entry_value m.0) (8 * m.1))) (λ s. SaysNone k b s i.new.answer)) (ap (λ (r : ReaderValue). r.kind) c.new-reader.ensures) i.ensures
+    subst (λ (k : Kind). MatchResult i.result (λ m. IsOutcome (EntryReads k) b (done (entry_value m.0) (8 * m.1))) (λ s. SaysNone (EntryReads k) b s i.new.answer)) (ap (λ (r : ReaderValue). r.kind) c.new-reader.ensures) i.ensures

@@ -1,6 +1,7 @@
 use Rattle.std.proofs.Common.{inl, refl}
 use Rattle.etcs_bits.specs.Bits.{bits}
 use Rattle.etcs_vars.specs.Reading as outcome
+use Rattle.etcs_text.specs.Entries.{EntryReads}
 use Rattle.etcs_c.proofs.Saying.{unrefused_said}
 use Rattle.etcs_c.proofs.reason.write_reason.Goals as goal
 
@@ -13,4 +14,4 @@ returns-in-Ok c =
 pub returns-in-Err : goal.returns-in-Err
 returns-in-Err c =
     let (said, not) = c.in-Err.ensures in
-    (unrefused_said c.args.kind (bits c.args.bytes.now) c.in-Err.status c.refusal_of.new.answer _ c.args.out.now said, λ i x o. absurd (not i x o))
+    (unrefused_said (EntryReads c.args.kind) (bits c.args.bytes.now) c.in-Err.status c.refusal_of.new.answer _ c.args.out.now said, λ i x o. absurd (not i x o))

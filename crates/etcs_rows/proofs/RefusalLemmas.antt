@@ -1,4 +1,4 @@
--- What is said of what is left holds of the whole, and of the same readings.
+-- What holds of what is left holds of the whole, and of the same readings.
 use Rattle.std.proofs.Common.{◌≡◌, ℕ, ◌+◌, ◌-◌, ◌<◌, ◌≤◌, Bool, List, [], ◌∷◌, ◌++◌, length, take, None, Some, refl, sym, ap, subst, ◌∙◌, arith}
 use Rattle.std.specs.Prelude.{Option}
 use Rattle.std.proofs.lemmas.List.{length-append, length-take, take_all}

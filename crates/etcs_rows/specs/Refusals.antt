@@ -1,4 +1,4 @@
--- What is said of a refused bit.
+-- Why a bit is refused.
 use Rattle.std.specs.Prelude.{◌≡◌, ℕ, ◌+◌, ◌-◌, Bool, List, ◌++◌, length, take, Option, Some, None, Err}
 use Rattle.etcs_bits.specs.Bits.{num, number_at}
 use Rattle.etcs_vars.specs.Vars.{width}

@@ -73,7 +73,7 @@ fn one_number(carrier: Carrier, rest: usize, bits: u64) -> Option<u64>
     }
 }
 
-/// The least number of bits, at least so many, that a packet of this number may have after its frame.
+/// The least number of bits, at least `from`, that a packet of this number may have after its frame.
 fn least_body(way: Way, nid: u8, from: usize) -> Option<usize>
     requires { from ≤ 8191 }
     ensures { IsFirst (λ m. BodyLength way nid m × (m ≤ 8191) × (from ≤ m)) result }

@@ -184,7 +184,7 @@ fn fits(carrier: Carrier, room: usize, len: usize) -> bool
     }
 }
 
-/// NID_PACKET of a static speed profile, and the bits above which one is long: so many that a message has only one.
+/// NID_PACKET of a static speed profile, and the bits above which one is long: no message has two that are longer.
 const PROFILE: u8 = 27;
 
 const LONG_PROFILE: usize = 4096;

@@ -27,12 +27,6 @@ use Rattle.etcs_text.proofs.ItemLengths.{item_length}
 -- ---- By values.
 
 module _ (kind : Kind) (b : List Bool) (p : Reading) where
-  pub account_whole : (n : ℕ) → n ≡ length (spelled p) / 8 → Accounts (Language kind) p end.Whole (take 8184 b) → (e : EntryValue) × IsOutcome (EntryReads kind) b (done e (8 * n)) × EntryReads kind e p
-  account_whole n n_is ((e, reads), k, within, is) =
-      let long : length (spelled p) ≡ k = ap length is ∙ length-take-le k (take 8184 b) within in
-      let eight : k ≡ 8 * n = omega (arith, (item_length kind e p reads).0, n_is, long) in
-      (e, subst (λ (m : ℕ). IsOutcome (EntryReads kind) b (done e m)) eight (outcome_front kind b (done e k) (within, p, reads, is)), reads)
-
   pub account_open : (part : Part) → Accounts (Language kind) p (end.Open part) (take 8184 b) → IsOutcome (EntryReads kind) b more
   account_open part (shows, owner, short) = outcome_front kind b more (more_wanted (Language kind) (kind_regular kind) (take 8184 b) owner)
 

@@ -6,15 +6,10 @@ use Rattle.etcs_vars.specs.declared.fault.BuildFault.TheVariants.{NotAdmitted, T
 use Rattle.etcs_vars.specs.Faults.{◌or_else◌}
 use Rattle.etcs_tables.specs.declared.row.Way.{Way}
 use Rattle.etcs_tables.specs.Frames.{is_kept, is_direction, kept_limit}
-
--- a packet that isn't typed: its number, its direction and the bits after L_PACKET
-pub record OtherValue : Type 0 where
-  pub nid : ℕ
-  pub dir : ℕ
-  pub body : List Bool
+pub use Rattle.etcs_flat.specs.declared.other.Other.TheInside.{Inside as Other}
 
 -- the kept packet of this number, direction and bits
-abbrev pub other_value : ℕ → ℕ → List Bool → OtherValue
+abbrev pub other_value : ℕ → ℕ → List Bool → Other
 other_value nid dir body = record { nid = nid; dir = dir; body = body }
 
 -- Q_DIR, if a packet of this way may not have the direction

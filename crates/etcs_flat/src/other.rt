@@ -23,15 +23,15 @@ pub struct Other {
 impl Model for Other {
     ghost use Rattle.std.specs.Prelude.{◌≡◌, ◌≤◌, length, None};
     ghost use Rattle.etcs_tables.specs.declared.row.Way.TheVariants.{ToTrain};
-    ghost use Rattle.etcs_flat.specs.Others.{OtherValue, other_fault};
+    ghost use Rattle.etcs_flat.specs.Others.{Other, other_fault};
 
-    ghost Value = { OtherValue };
+    ghost Value = { Other };
 
-    ghost view = { λ p. record { nid = p.nid; dir = p.dir; body = p.body } };
+    ghost view = { λ s. s };
 
     ghost invariant = { λ p. other_fault ToTrain p.nid p.dir (length p.body) ≡ None };
 
-    ghost inverse = { λ v. record { nid = v.nid; dir = v.dir; body = v.body } };
+    ghost inverse = { λ s. s };
 }
 
 impl Other {

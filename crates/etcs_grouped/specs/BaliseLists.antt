@@ -5,24 +5,24 @@ use Rattle.etcs_vars.specs.declared.var.Var.TheVariants.{NID_PACKET, N_ITER}
 use Rattle.etcs_vars.specs.declared.fault.BuildFault.{BuildFault}
 use Rattle.etcs_vars.specs.declared.fault.BuildFault.TheVariants.{NotAdmitted}
 use Rattle.etcs_vars.specs.Faults.{◌or_else◌}
-use Rattle.etcs_vars.specs.Reading.{Reading}
 use Rattle.etcs_bodies.specs.Formats.{listed}
-use Rattle.etcs_bodies.specs.PacketFormats.{PacketFormat, packet_of, packet_fault, IsPacketOf, packet_reading}
-use Rattle.etcs_parts.specs.BalisesAt.{BaliseAtValue, balise_at_format}
+use Rattle.etcs_bodies.specs.PacketFormats.{PacketFormat, packet_of, packet_fault, IsPacketOf}
+use Rattle.etcs_parts.specs.declared.balise_at.BaliseAt.{BaliseAt}
+use Rattle.etcs_parts.specs.BalisesAt.{balise_at_format}
 
 -- a list of balise groups: its direction and its numbers and parts
 pub record BaliseListValue : Type 0 where
   pub dir : ℕ
-  pub balises : List BaliseAtValue
+  pub balises : List BaliseAt
 
 -- a list of balise groups, of this direction and these numbers and parts, in the order of the constructor's
-abbrev pub balise_list_value : ℕ → List BaliseAtValue → BaliseListValue
+abbrev pub balise_list_value : ℕ → List BaliseAt → BaliseListValue
 balise_list_value dir balises = record { dir = dir; balises = balises }
 
 -- the format of a list of balise groups: its direction, and its variables after L_PACKET in the order of sending
-abbrev pub balise_list_packet : PacketFormat (List BaliseAtValue) BaliseListValue
+abbrev pub balise_list_packet : PacketFormat (List BaliseAt) BaliseListValue
 balise_list_packet =
-    packet_of (λ p. p.dir) (λ p. p.balises) (λ dir b. balise_list_value dir b) (
+    packet_of (λ p. p.dir) (λ p. p.balises) (λ dir b. record { dir = dir; balises = b }) (
     listed N_ITER balise_at_format)
 
 -- NID_PACKET, if the number is neither 49 nor 63
@@ -37,7 +37,3 @@ balise_list_fault nid p = nid_fault nid or_else packet_fault balise_list_packet 
 -- nothing is wrong with a list of balise groups, nor with any part inside it
 abbrev pub IsBaliseList : ℕ → BaliseListValue → Type 0
 IsBaliseList nid p = (nid_fault nid ≡ None) × IsPacketOf balise_list_packet p
-
--- the variables of a list of balise groups after L_PACKET, in the order of sending
-abbrev pub balise_list_reading : BaliseListValue → Reading
-balise_list_reading = packet_reading balise_list_packet

@@ -9,15 +9,19 @@ use Rattle.etcs_tables.specs.Layouts.{Layout}
 use Rattle.etcs_tables.specs.Rows.{◌▸◌}
 use Rattle.etcs_bodies.specs.Faults.{count_fault}
 use Rattle.etcs_bodies.specs.Taking.{Left, next_number}
-use Rattle.etcs_bodies.specs.Formats.{Is, reading}
+use Rattle.etcs_bodies.specs.Formats.{reading}
 use Rattle.etcs_bodies.specs.Codecs.{both_from, IsBoth}
 use Rattle.etcs_bodies.specs.Entries.{AreEntries, entries_reading, entries_from, entries_row}
 use Rattle.etcs_bodies.specs.Packets.{length_fault}
 use Rattle.etcs_bodies.specs.PacketCodes.{directed_from}
-use Rattle.etcs_parts.specs.Links.{LinkValue, link_format}
-use Rattle.etcs_parts.specs.Slopes.{SlopeValue, slope_format}
-use Rattle.etcs_parts.specs.Speeds.{SpeedValue, speed_format}
-use Rattle.etcs_parts.specs.ModeSections.{ModeSectionValue, mode_section_format}
+use Rattle.etcs_parts.specs.declared.link.Link.{Link}
+use Rattle.etcs_parts.specs.Links.{link_format}
+use Rattle.etcs_parts.specs.declared.slope.Slope.{Slope}
+use Rattle.etcs_parts.specs.Slopes.{slope_format}
+use Rattle.etcs_parts.specs.declared.speed.Speed.{Speed}
+use Rattle.etcs_parts.specs.Speeds.{speed_format}
+use Rattle.etcs_parts.specs.declared.mode_section.ModeSection.{ModeSection}
+use Rattle.etcs_parts.specs.ModeSections.{mode_section_format}
 
 -- such a packet of entries `V`: its direction, its scale, its first entry and its further ones
 pub record ChainValue (V : Type 0) : Type 0 where
@@ -76,54 +80,22 @@ chain_from most reading from = directed_from (both_from (next_number Q_SCALE) (e
 
 -- ---- Of links, slopes, speeds and areas of modes.
 
--- the variables of packet 5 after L_PACKET, in the order of sending
-abbrev pub linking_reading : ChainValue LinkValue → Reading
-linking_reading = chain_reading (reading link_format)
-
 -- the first fault of packet 5: the direction, the scale, then the count of further entries; the entries aren't
 -- looked at again
-abbrev pub linking_fault : ChainValue LinkValue → Option BuildFault
+abbrev pub linking_fault : ChainValue Link → Option BuildFault
 linking_fault = chain_fault 49 (reading link_format)
-
--- nothing is wrong with packet 5, nor with any part inside it
-abbrev pub IsLinking : ChainValue LinkValue → Type 0
-IsLinking = IsChain (Is link_format) 49 (reading link_format)
-
--- the variables of packet 21 after L_PACKET, in the order of sending
-abbrev pub gradient_reading : ChainValue SlopeValue → Reading
-gradient_reading = chain_reading (reading slope_format)
 
 -- the first fault of packet 21: the direction, the scale, then the count of further entries; the entries aren't
 -- looked at again
-abbrev pub gradient_fault : ChainValue SlopeValue → Option BuildFault
+abbrev pub gradient_fault : ChainValue Slope → Option BuildFault
 gradient_fault = chain_fault 24 (reading slope_format)
-
--- nothing is wrong with packet 21, nor with any part inside it
-abbrev pub IsGradient : ChainValue SlopeValue → Type 0
-IsGradient = IsChain (Is slope_format) 24 (reading slope_format)
-
--- the variables of packet 27 after L_PACKET, in the order of sending
-abbrev pub speed_profile_reading : ChainValue SpeedValue → Reading
-speed_profile_reading = chain_reading (reading speed_format)
 
 -- the first fault of packet 27: the direction, the scale, the count of further entries, then a row of more than
 -- 8,168 bits; the entries aren't looked at again
-abbrev pub speed_profile_fault : ChainValue SpeedValue → Option BuildFault
+abbrev pub speed_profile_fault : ChainValue Speed → Option BuildFault
 speed_profile_fault = chain_fault 431 (reading speed_format)
-
--- nothing is wrong with packet 27, nor with any part inside it
-abbrev pub IsSpeedProfile : ChainValue SpeedValue → Type 0
-IsSpeedProfile = IsChain (Is speed_format) 431 (reading speed_format)
-
--- the variables of packet 80 after L_PACKET, in the order of sending
-abbrev pub mode_profile_reading : ChainValue ModeSectionValue → Reading
-mode_profile_reading = chain_reading (reading mode_section_format)
 
 -- the first fault of packet 80: the direction, the scale, then the count of further entries; the entries aren't
 -- looked at again
-abbrev pub mode_profile_fault : ChainValue ModeSectionValue → Option BuildFault
+abbrev pub mode_profile_fault : ChainValue ModeSection → Option BuildFault
 mode_profile_fault = chain_fault 55 (reading mode_section_format)
-
--- nothing is wrong with packet 80, nor with any part inside it
-abbrev pub IsModeProfile : ChainValue ModeSectionValue → Type 0
-IsModeProfile = IsChain (Is mode_section_format) 55 (reading mode_section_format)

@@ -2,10 +2,10 @@
 use Rattle.std.proofs.Common.{ℕ, List, Option, ◌⊎◌, inl, inr}
 use Rattle.etcs_vars.specs.declared.var.Var.TheVariants.{Q_SCALE, Q_TRACKINIT, D_TRACKINIT}
 use Rattle.etcs_vars.specs.declared.fault.BuildFault.{BuildFault}
-use Rattle.etcs_vars.specs.Reading.{Reading}
 use Rattle.etcs_bodies.specs.Formats.{Format, number, ◌⊗◌, either, entries}
-use Rattle.etcs_bodies.specs.PacketFormats.{PacketFormat, packet_of, packet_fault, IsPacketOf, packet_reading}
-use Rattle.etcs_parts.specs.Conditions.{ConditionValue, condition_format}
+use Rattle.etcs_bodies.specs.PacketFormats.{PacketFormat, packet_of, packet_fault}
+use Rattle.etcs_parts.specs.declared.condition.Condition.{Condition}
+use Rattle.etcs_parts.specs.Conditions.{condition_format}
 use Rattle.etcs_grouped.specs.declared.track_state.TrackState.{TrackState}
 use Rattle.etcs_grouped.specs.declared.track_state.TrackState.TheVariants.{Initial, Conditions}
 
@@ -13,7 +13,7 @@ use Rattle.etcs_grouped.specs.declared.track_state.TrackState.TheVariants.{Initi
 
 -- a distance, or a first condition and further ones
 abbrev pub StateValue : Type 0
-StateValue = ℕ ⊎ (ConditionValue × List ConditionValue)
+StateValue = ℕ ⊎ (Condition × List Condition)
 
 -- the state that packet 68 gives, without the memory that holds it: a distance, or a first condition and further ones
 abbrev pub state_of : TrackState → StateValue
@@ -39,18 +39,10 @@ track_condition_value dir q_scale state = record { dir = dir; q_scale = q_scale;
 -- the format of packet 68: its direction, and its variables after L_PACKET in the order of sending
 abbrev pub track_condition_packet : PacketFormat (ℕ × StateValue) TrackConditionValue
 track_condition_packet =
-    packet_of (λ p. p.dir) (λ p. (p.q_scale, p.state)) (λ dir b. track_condition_value dir b.0 b.1) (
+    packet_of (λ p. p.dir) (λ p. (p.q_scale, p.state)) (λ dir b. record { dir = dir; q_scale = b.0; state = b.1 }) (
     number Q_SCALE ⊗ state_format)
 
 -- the first fault of packet 68: the direction, the scale, then the distance or the count of further conditions;
 -- the conditions aren't looked at again
 abbrev pub track_condition_fault : TrackConditionValue → Option BuildFault
 track_condition_fault = packet_fault track_condition_packet
-
--- nothing is wrong with packet 68, nor with any part inside it
-abbrev pub IsTrackCondition : TrackConditionValue → Type 0
-IsTrackCondition = IsPacketOf track_condition_packet
-
--- the variables of packet 68 after L_PACKET, in the order of sending
-abbrev pub track_condition_reading : TrackConditionValue → Reading
-track_condition_reading = packet_reading track_condition_packet

@@ -122,9 +122,10 @@ impl ListNumber<63> for BaliseList<63> {
 }
 
 impl<const NID: u8> Variables for BaliseList<NID> {
-    ghost use Rattle.etcs_grouped.specs.BaliseLists.{balise_list_reading};
+    ghost use Rattle.etcs_bodies.specs.PacketFormats.{packet_reading};
+    ghost use Rattle.etcs_grouped.specs.BaliseLists.{balise_list_packet};
 
-    ghost reading_of = { λ p. balise_list_reading p };
+    ghost reading_of = { λ p. packet_reading balise_list_packet p };
 
     fn bits(&self) -> usize {
         self.balises.bits()

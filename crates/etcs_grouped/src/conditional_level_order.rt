@@ -21,13 +21,14 @@ pub struct ConditionalLevelOrder {
 }
 
 impl Model for ConditionalLevelOrder {
-    ghost use Rattle.etcs_grouped.specs.ConditionalLevelOrders.{ConditionalLevelOrderValue, conditional_level_order_value, IsConditionalLevelOrder};
+    ghost use Rattle.etcs_bodies.specs.PacketFormats.{IsPacketOf};
+    ghost use Rattle.etcs_grouped.specs.ConditionalLevelOrders.{conditional_level_order_packet, ConditionalLevelOrderValue, conditional_level_order_value};
 
     ghost Value = { ConditionalLevelOrderValue };
 
     ghost view = { λ s. conditional_level_order_value s.dir s.levels.0 s.levels.1 };
 
-    ghost invariant = { λ s. IsConditionalLevelOrder (conditional_level_order_value s.dir s.levels.0 s.levels.1) };
+    ghost invariant = { λ s. IsPacketOf conditional_level_order_packet (conditional_level_order_value s.dir s.levels.0 s.levels.1) };
 
     ghost inverse = { λ s. record { dir = s.dir; levels = (s.first, s.further) } };
 }
@@ -77,9 +78,10 @@ impl ConditionalLevelOrder {
 }
 
 impl Variables for ConditionalLevelOrder {
-    ghost use Rattle.etcs_grouped.specs.ConditionalLevelOrders.{conditional_level_order_reading};
+    ghost use Rattle.etcs_bodies.specs.PacketFormats.{packet_reading};
+    ghost use Rattle.etcs_grouped.specs.ConditionalLevelOrders.{conditional_level_order_packet};
 
-    ghost reading_of = { λ p. conditional_level_order_reading p };
+    ghost reading_of = { λ p. packet_reading conditional_level_order_packet p };
 
     fn bits(&self) -> usize {
         self.levels.bits()
@@ -92,8 +94,8 @@ impl Variables for ConditionalLevelOrder {
 
 impl Body for ConditionalLevelOrder {
     ghost use Rattle.etcs_tables.specs.declared.row.Way.TheVariants.{ToTrain};
-    ghost use Rattle.etcs_bodies.specs.PacketFormats.{packet_left};
-    ghost use Rattle.etcs_grouped.specs.ConditionalLevelOrders.{IsConditionalLevelOrder, conditional_level_order_packet};
+    ghost use Rattle.etcs_bodies.specs.PacketFormats.{IsPacketOf, packet_left};
+    ghost use Rattle.etcs_grouped.specs.ConditionalLevelOrders.{conditional_level_order_packet};
     ghost use Rattle.etcs_grouped.specs.laws.ConditionalLevelOrders.{conditional_level_order_codes};
 
     const NID: u8 = 46;
@@ -106,7 +108,7 @@ impl Body for ConditionalLevelOrder {
 
     ghost direction = { λ p. p.dir };
 
-    ghost is_value = { λ p. IsConditionalLevelOrder p };
+    ghost is_value = { λ p. IsPacketOf conditional_level_order_packet p };
 
     ghost read_from = { λ dir s. packet_left conditional_level_order_packet dir s };
 

@@ -1,7 +1,7 @@
 //! The fixed text message.
 
 ghost use Rattle.std.specs.Prelude.{◌≡◌, None, Some, IfOk, IfErr};
-ghost use Rattle.etcs_grouped.specs.FixedTexts.{fixed_text_value, fixed_text_fault, IsFixedText};
+ghost use Rattle.etcs_grouped.specs.FixedTexts.{fixed_text_value, fixed_text_fault};
 
 use etcs_bodies::laws::Exact;
 use etcs_bodies::{Body, Numbers, Part, Passing, build_packet, send_fields, take_fields};
@@ -27,15 +27,16 @@ pub struct FixedText {
 }
 
 impl Model for FixedText {
-    ghost use Rattle.etcs_grouped.specs.FixedTexts.{FixedTextValue, fixed_text_value, IsFixedText};
+    ghost use Rattle.etcs_bodies.specs.PacketFormats.{IsPacketOf};
+    ghost use Rattle.etcs_grouped.specs.FixedTexts.{fixed_text_packet, FixedText};
 
-    ghost Value = { FixedTextValue };
+    ghost Value = { FixedText };
 
-    ghost view = { λ s. fixed_text_value s.dir s.frame s.q_text };
+    ghost view = { λ s. s };
 
-    ghost invariant = { λ s. IsFixedText (fixed_text_value s.dir s.frame s.q_text) };
+    ghost invariant = { IsPacketOf fixed_text_packet };
 
-    ghost inverse = { λ s. record { dir = s.dir; q_text = s.q_text; frame = s.frame } };
+    ghost inverse = { λ s. s };
 }
 
 impl FixedText {
@@ -73,9 +74,10 @@ impl FixedText {
 }
 
 impl Variables for FixedText {
-    ghost use Rattle.etcs_grouped.specs.FixedTexts.{fixed_text_reading};
+    ghost use Rattle.etcs_bodies.specs.PacketFormats.{packet_reading};
+    ghost use Rattle.etcs_grouped.specs.FixedTexts.{fixed_text_packet};
 
-    ghost reading_of = { λ p. fixed_text_reading p };
+    ghost reading_of = { λ p. packet_reading fixed_text_packet p };
 
     #[tactic(auto, using(crate::specs::laws::FixedTexts::fixed_text_length, etcs_parts::specs::laws::TextFrames::text_frame_small))]
     fn bits(&self) -> usize {
@@ -89,8 +91,8 @@ impl Variables for FixedText {
 
 impl Body for FixedText {
     ghost use Rattle.etcs_tables.specs.declared.row.Way.TheVariants.{ToTrain};
-    ghost use Rattle.etcs_bodies.specs.PacketFormats.{packet_left};
-    ghost use Rattle.etcs_grouped.specs.FixedTexts.{IsFixedText, fixed_text_packet};
+    ghost use Rattle.etcs_bodies.specs.PacketFormats.{IsPacketOf, packet_left};
+    ghost use Rattle.etcs_grouped.specs.FixedTexts.{fixed_text_packet};
     ghost use Rattle.etcs_grouped.specs.laws.FixedTexts.{fixed_text_codes};
 
     const NID: u8 = 76;
@@ -103,7 +105,7 @@ impl Body for FixedText {
 
     ghost direction = { λ p. p.dir };
 
-    ghost is_value = { λ p. IsFixedText p };
+    ghost is_value = { λ p. IsPacketOf fixed_text_packet p };
 
     ghost read_from = { λ dir s. packet_left fixed_text_packet dir s };
 

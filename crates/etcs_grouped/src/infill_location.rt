@@ -21,16 +21,16 @@ pub struct InfillLocation {
 }
 
 impl Model for InfillLocation {
-    ghost use Rattle.etcs_grouped.specs.InfillLocations.{InfillLocationValue, infill_location_value, IsInfillLocation};
-    ghost use Rattle.etcs_parts.specs.BalisesAt.{balise_at_value};
+    ghost use Rattle.etcs_bodies.specs.PacketFormats.{IsPacketOf};
+    ghost use Rattle.etcs_grouped.specs.InfillLocations.{infill_location_packet, InfillLocation};
 
-    ghost Value = { InfillLocationValue };
+    ghost Value = { InfillLocation };
 
-    ghost view = { λ s. infill_location_value s.dir s.balise.nid_c s.balise.nid_bg };
+    ghost view = { λ s. s };
 
-    ghost invariant = { λ s. IsInfillLocation (infill_location_value s.dir s.balise.nid_c s.balise.nid_bg) };
+    ghost invariant = { IsPacketOf infill_location_packet };
 
-    ghost inverse = { λ s. record { dir = s.dir; balise = balise_at_value s.nid_c s.nid_bg } };
+    ghost inverse = { λ s. s };
 }
 
 impl InfillLocation {
@@ -55,23 +55,24 @@ impl InfillLocation {
 
     /// NID_C: the country or region of the group, if it isn't that of the group that sends the packet.
     pub fn nid_c(&self) -> Option<u16>
-        ensures { result ≡ self.now.nid_c }
+        ensures { result ≡ self.now.balise.nid_c }
     {
         self.balise.nid_c()
     }
 
     /// NID_BG: the number of the group.
     pub fn nid_bg(&self) -> u16
-        ensures { result ≡ self.now.nid_bg }
+        ensures { result ≡ self.now.balise.nid_bg }
     {
         self.balise.nid_bg()
     }
 }
 
 impl Variables for InfillLocation {
-    ghost use Rattle.etcs_grouped.specs.InfillLocations.{infill_location_reading};
+    ghost use Rattle.etcs_bodies.specs.PacketFormats.{packet_reading};
+    ghost use Rattle.etcs_grouped.specs.InfillLocations.{infill_location_packet};
 
-    ghost reading_of = { λ p. infill_location_reading p };
+    ghost reading_of = { λ p. packet_reading infill_location_packet p };
 
     fn bits(&self) -> usize {
         self.balise.bits()
@@ -84,8 +85,8 @@ impl Variables for InfillLocation {
 
 impl Body for InfillLocation {
     ghost use Rattle.etcs_tables.specs.declared.row.Way.TheVariants.{ToTrain};
-    ghost use Rattle.etcs_bodies.specs.PacketFormats.{packet_left};
-    ghost use Rattle.etcs_grouped.specs.InfillLocations.{IsInfillLocation, infill_location_packet};
+    ghost use Rattle.etcs_bodies.specs.PacketFormats.{IsPacketOf, packet_left};
+    ghost use Rattle.etcs_grouped.specs.InfillLocations.{infill_location_packet};
     ghost use Rattle.etcs_grouped.specs.laws.InfillLocations.{infill_location_codes};
 
     const NID: u8 = 136;
@@ -98,7 +99,7 @@ impl Body for InfillLocation {
 
     ghost direction = { λ p. p.dir };
 
-    ghost is_value = { λ p. IsInfillLocation p };
+    ghost is_value = { λ p. IsPacketOf infill_location_packet p };
 
     ghost read_from = { λ dir s. packet_left infill_location_packet dir s };
 

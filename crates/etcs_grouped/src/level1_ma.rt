@@ -33,15 +33,16 @@ pub struct Level1Ma {
 }
 
 impl Model for Level1Ma {
-    ghost use Rattle.etcs_grouped.specs.Level1Mas.{Level1MaValue, level1_ma_value, IsLevel1Ma};
+    ghost use Rattle.etcs_bodies.specs.PacketFormats.{IsPacketOf};
+    ghost use Rattle.etcs_grouped.specs.Level1Mas.{level1_ma_packet, Level1Ma};
 
-    ghost Value = { Level1MaValue };
+    ghost Value = { Level1Ma };
 
-    ghost view = { λ s. level1_ma_value s.dir s.q_scale s.v_main s.v_loa s.t_loa s.authority };
+    ghost view = { λ s. s };
 
-    ghost invariant = { λ s. IsLevel1Ma (level1_ma_value s.dir s.q_scale s.v_main s.v_loa s.t_loa s.authority) };
+    ghost invariant = { IsPacketOf level1_ma_packet };
 
-    ghost inverse = { λ s. record { dir = s.dir; q_scale = s.q_scale; v_main = s.v_main; v_loa = s.v_loa; t_loa = s.t_loa; authority = s.authority } };
+    ghost inverse = { λ s. s };
 }
 
 impl Level1Ma {
@@ -112,9 +113,10 @@ impl Level1Ma {
 }
 
 impl Variables for Level1Ma {
-    ghost use Rattle.etcs_grouped.specs.Level1Mas.{level1_ma_reading};
+    ghost use Rattle.etcs_bodies.specs.PacketFormats.{packet_reading};
+    ghost use Rattle.etcs_grouped.specs.Level1Mas.{level1_ma_packet};
 
-    ghost reading_of = { λ p. level1_ma_reading p };
+    ghost reading_of = { λ p. packet_reading level1_ma_packet p };
 
     #[tactic(auto, using(crate::specs::laws::Level1Mas::level1_ma_length, etcs_parts::specs::laws::Authorities::authority_small))]
     fn bits(&self) -> usize {
@@ -128,8 +130,8 @@ impl Variables for Level1Ma {
 
 impl Body for Level1Ma {
     ghost use Rattle.etcs_tables.specs.declared.row.Way.TheVariants.{ToTrain};
-    ghost use Rattle.etcs_bodies.specs.PacketFormats.{packet_left};
-    ghost use Rattle.etcs_grouped.specs.Level1Mas.{IsLevel1Ma, level1_ma_packet};
+    ghost use Rattle.etcs_bodies.specs.PacketFormats.{IsPacketOf, packet_left};
+    ghost use Rattle.etcs_grouped.specs.Level1Mas.{level1_ma_packet};
     ghost use Rattle.etcs_grouped.specs.laws.Level1Mas.{level1_ma_codes};
 
     const NID: u8 = 12;
@@ -142,7 +144,7 @@ impl Body for Level1Ma {
 
     ghost direction = { λ p. p.dir };
 
-    ghost is_value = { λ p. IsLevel1Ma p };
+    ghost is_value = { λ p. IsPacketOf level1_ma_packet p };
 
     ghost read_from = { λ dir s. packet_left level1_ma_packet dir s };
 

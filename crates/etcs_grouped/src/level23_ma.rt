@@ -32,15 +32,16 @@ pub struct Level23Ma {
 }
 
 impl Model for Level23Ma {
-    ghost use Rattle.etcs_grouped.specs.Level23Mas.{Level23MaValue, level23_ma_value, IsLevel23Ma};
+    ghost use Rattle.etcs_bodies.specs.PacketFormats.{IsPacketOf};
+    ghost use Rattle.etcs_grouped.specs.Level23Mas.{level23_ma_packet, Level23Ma};
 
-    ghost Value = { Level23MaValue };
+    ghost Value = { Level23Ma };
 
-    ghost view = { λ s. level23_ma_value s.dir s.q_scale s.v_loa s.t_loa s.authority };
+    ghost view = { λ s. s };
 
-    ghost invariant = { λ s. IsLevel23Ma (level23_ma_value s.dir s.q_scale s.v_loa s.t_loa s.authority) };
+    ghost invariant = { IsPacketOf level23_ma_packet };
 
-    ghost inverse = { λ s. record { dir = s.dir; q_scale = s.q_scale; v_loa = s.v_loa; t_loa = s.t_loa; authority = s.authority } };
+    ghost inverse = { λ s. s };
 }
 
 impl Level23Ma {
@@ -102,9 +103,10 @@ impl Level23Ma {
 }
 
 impl Variables for Level23Ma {
-    ghost use Rattle.etcs_grouped.specs.Level23Mas.{level23_ma_reading};
+    ghost use Rattle.etcs_bodies.specs.PacketFormats.{packet_reading};
+    ghost use Rattle.etcs_grouped.specs.Level23Mas.{level23_ma_packet};
 
-    ghost reading_of = { λ p. level23_ma_reading p };
+    ghost reading_of = { λ p. packet_reading level23_ma_packet p };
 
     #[tactic(auto, using(crate::specs::laws::Level23Mas::level23_ma_length, etcs_parts::specs::laws::Authorities::authority_small))]
     fn bits(&self) -> usize {
@@ -118,8 +120,8 @@ impl Variables for Level23Ma {
 
 impl Body for Level23Ma {
     ghost use Rattle.etcs_tables.specs.declared.row.Way.TheVariants.{ToTrain};
-    ghost use Rattle.etcs_bodies.specs.PacketFormats.{packet_left};
-    ghost use Rattle.etcs_grouped.specs.Level23Mas.{IsLevel23Ma, level23_ma_packet};
+    ghost use Rattle.etcs_bodies.specs.PacketFormats.{IsPacketOf, packet_left};
+    ghost use Rattle.etcs_grouped.specs.Level23Mas.{level23_ma_packet};
     ghost use Rattle.etcs_grouped.specs.laws.Level23Mas.{level23_ma_codes};
 
     const NID: u8 = 15;
@@ -132,7 +134,7 @@ impl Body for Level23Ma {
 
     ghost direction = { λ p. p.dir };
 
-    ghost is_value = { λ p. IsLevel23Ma p };
+    ghost is_value = { λ p. IsPacketOf level23_ma_packet p };
 
     ghost read_from = { λ dir s. packet_left level23_ma_packet dir s };
 

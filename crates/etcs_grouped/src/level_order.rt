@@ -29,13 +29,14 @@ pub struct LevelOrder {
 }
 
 impl Model for LevelOrder {
-    ghost use Rattle.etcs_grouped.specs.LevelOrders.{LevelOrderValue, level_order_value, IsLevelOrder};
+    ghost use Rattle.etcs_bodies.specs.PacketFormats.{IsPacketOf};
+    ghost use Rattle.etcs_grouped.specs.LevelOrders.{level_order_packet, LevelOrderValue, level_order_value};
 
     ghost Value = { LevelOrderValue };
 
     ghost view = { λ s. level_order_value s.dir s.q_scale s.d_leveltr s.levels.0 s.levels.1 };
 
-    ghost invariant = { λ s. IsLevelOrder (level_order_value s.dir s.q_scale s.d_leveltr s.levels.0 s.levels.1) };
+    ghost invariant = { λ s. IsPacketOf level_order_packet (level_order_value s.dir s.q_scale s.d_leveltr s.levels.0 s.levels.1) };
 
     ghost inverse = { λ s. record { dir = s.dir; q_scale = s.q_scale; d_leveltr = s.d_leveltr; levels = (s.first, s.further) } };
 }
@@ -105,9 +106,10 @@ impl LevelOrder {
 }
 
 impl Variables for LevelOrder {
-    ghost use Rattle.etcs_grouped.specs.LevelOrders.{level_order_reading};
+    ghost use Rattle.etcs_bodies.specs.PacketFormats.{packet_reading};
+    ghost use Rattle.etcs_grouped.specs.LevelOrders.{level_order_packet};
 
-    ghost reading_of = { λ p. level_order_reading p };
+    ghost reading_of = { λ p. packet_reading level_order_packet p };
 
     #[tactic(auto, using(crate::specs::laws::LevelOrders::level_order_length))]
     fn bits(&self) -> usize {
@@ -121,8 +123,8 @@ impl Variables for LevelOrder {
 
 impl Body for LevelOrder {
     ghost use Rattle.etcs_tables.specs.declared.row.Way.TheVariants.{ToTrain};
-    ghost use Rattle.etcs_bodies.specs.PacketFormats.{packet_left};
-    ghost use Rattle.etcs_grouped.specs.LevelOrders.{IsLevelOrder, level_order_packet};
+    ghost use Rattle.etcs_bodies.specs.PacketFormats.{IsPacketOf, packet_left};
+    ghost use Rattle.etcs_grouped.specs.LevelOrders.{level_order_packet};
     ghost use Rattle.etcs_grouped.specs.laws.LevelOrders.{level_order_codes};
 
     const NID: u8 = 41;
@@ -135,7 +137,7 @@ impl Body for LevelOrder {
 
     ghost direction = { λ p. p.dir };
 
-    ghost is_value = { λ p. IsLevelOrder p };
+    ghost is_value = { λ p. IsPacketOf level_order_packet p };
 
     ghost read_from = { λ dir s. packet_left level_order_packet dir s };
 

@@ -9,7 +9,8 @@ ghost use Rattle.etcs_bodies.specs.Formats.{number, Is, reading};
 ghost use Rattle.etcs_bodies.specs.Codecs.{list_from};
 ghost use Rattle.etcs_bodies.specs.Faults.{count_fault};
 ghost use Rattle.etcs_vars.specs.declared.var.Var.TheVariants.{L_TEXT, X_TEXT};
-ghost use Rattle.etcs_grouped.specs.PlainTexts.{plain_text_value, plain_text_fault, IsPlainText, text_format};
+ghost use Rattle.etcs_bodies.specs.PacketFormats.{IsPacketOf};
+ghost use Rattle.etcs_grouped.specs.PlainTexts.{plain_text_packet, plain_text_value, plain_text_fault, text_format};
 
 use etcs_bodies::laws::Exact;
 use etcs_bodies::{Body, ListOf, Numbers, Part, Passing, check, check_count, taken};
@@ -29,15 +30,16 @@ pub struct PlainText {
 }
 
 impl Model for PlainText {
-    ghost use Rattle.etcs_grouped.specs.PlainTexts.{PlainTextValue, plain_text_value, IsPlainText};
+    ghost use Rattle.etcs_bodies.specs.PacketFormats.{IsPacketOf};
+    ghost use Rattle.etcs_grouped.specs.PlainTexts.{plain_text_packet, PlainText};
 
-    ghost Value = { PlainTextValue };
+    ghost Value = { PlainText };
 
-    ghost view = { λ s. plain_text_value s.dir s.frame s.text };
+    ghost view = { λ s. s };
 
-    ghost invariant = { λ s. IsPlainText (plain_text_value s.dir s.frame s.text) };
+    ghost invariant = { IsPacketOf plain_text_packet };
 
-    ghost inverse = { λ s. record { dir = s.dir; text = s.text; frame = s.frame } };
+    ghost inverse = { λ s. s };
 }
 
 impl PlainText {
@@ -87,7 +89,7 @@ impl PlainText {
 
 /// Refuses what is no packet.
 fn faultless(dir: u8, frame: &TextFrame, text: &[u8]) -> Result<(), BuildFault>
-    ensures ok { OnOk result (IsPlainText (plain_text_value dir frame.now text.now)) }
+    ensures ok { OnOk result (IsPacketOf plain_text_packet (plain_text_value dir frame.now text.now)) }
     ensures fault { IfErr result (λ e. plain_text_fault (plain_text_value dir frame.now text.now) ≡ Some e) }
 {
     check(Var::Q_DIR, u64::from(dir))?;
@@ -183,9 +185,10 @@ fn send_text<S: VarSink>(text: &[u8], out: &mut S) -> Result<(), AllocError>
 }
 
 impl Variables for PlainText {
-    ghost use Rattle.etcs_grouped.specs.PlainTexts.{plain_text_reading};
+    ghost use Rattle.etcs_bodies.specs.PacketFormats.{packet_reading};
+    ghost use Rattle.etcs_grouped.specs.PlainTexts.{plain_text_packet};
 
-    ghost reading_of = { λ p. plain_text_reading p };
+    ghost reading_of = { λ p. packet_reading plain_text_packet p };
 
     #[tactic(auto, using(crate::specs::laws::PlainTexts::plain_text_length, crate::specs::laws::PlainTexts::few_bytes, etcs_parts::specs::laws::TextFrames::text_frame_small))]
     fn bits(&self) -> usize {
@@ -200,8 +203,8 @@ impl Variables for PlainText {
 
 impl Body for PlainText {
     ghost use Rattle.etcs_tables.specs.declared.row.Way.TheVariants.{ToTrain};
-    ghost use Rattle.etcs_bodies.specs.PacketFormats.{packet_left};
-    ghost use Rattle.etcs_grouped.specs.PlainTexts.{IsPlainText, plain_text_packet};
+    ghost use Rattle.etcs_bodies.specs.PacketFormats.{IsPacketOf, packet_left};
+    ghost use Rattle.etcs_grouped.specs.PlainTexts.{plain_text_packet};
     ghost use Rattle.etcs_grouped.specs.laws.PlainTexts.{plain_text_codes};
 
     const NID: u8 = 72;
@@ -214,7 +217,7 @@ impl Body for PlainText {
 
     ghost direction = { λ p. p.dir };
 
-    ghost is_value = { λ p. IsPlainText p };
+    ghost is_value = { λ p. IsPacketOf plain_text_packet p };
 
     ghost read_from = { λ dir s. packet_left plain_text_packet dir s };
 

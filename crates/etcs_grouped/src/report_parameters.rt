@@ -33,15 +33,16 @@ pub struct ReportParameters {
 }
 
 impl Model for ReportParameters {
-    ghost use Rattle.etcs_grouped.specs.ReportParameters.{ReportParametersValue, report_parameters_value, IsReportParameters};
+    ghost use Rattle.etcs_bodies.specs.PacketFormats.{IsPacketOf};
+    ghost use Rattle.etcs_grouped.specs.ReportParameters.{report_parameters_packet, ReportParameters};
 
-    ghost Value = { ReportParametersValue };
+    ghost Value = { ReportParameters };
 
-    ghost view = { λ s. report_parameters_value s.dir s.q_scale s.t_cycloc s.d_cycloc s.m_loc s.reports };
+    ghost view = { λ s. s };
 
-    ghost invariant = { λ s. IsReportParameters (report_parameters_value s.dir s.q_scale s.t_cycloc s.d_cycloc s.m_loc s.reports) };
+    ghost invariant = { IsPacketOf report_parameters_packet };
 
-    ghost inverse = { λ s. record { dir = s.dir; q_scale = s.q_scale; t_cycloc = s.t_cycloc; d_cycloc = s.d_cycloc; m_loc = s.m_loc; reports = s.reports } };
+    ghost inverse = { λ s. s };
 }
 
 impl ReportParameters {
@@ -115,9 +116,10 @@ impl ReportParameters {
 }
 
 impl Variables for ReportParameters {
-    ghost use Rattle.etcs_grouped.specs.ReportParameters.{report_parameters_reading};
+    ghost use Rattle.etcs_bodies.specs.PacketFormats.{packet_reading};
+    ghost use Rattle.etcs_grouped.specs.ReportParameters.{report_parameters_packet};
 
-    ghost reading_of = { λ p. report_parameters_reading p };
+    ghost reading_of = { λ p. packet_reading report_parameters_packet p };
 
     #[tactic(auto, using(crate::specs::laws::ReportParameters::report_parameters_length))]
     fn bits(&self) -> usize {
@@ -131,8 +133,8 @@ impl Variables for ReportParameters {
 
 impl Body for ReportParameters {
     ghost use Rattle.etcs_tables.specs.declared.row.Way.TheVariants.{ToTrain};
-    ghost use Rattle.etcs_bodies.specs.PacketFormats.{packet_left};
-    ghost use Rattle.etcs_grouped.specs.ReportParameters.{IsReportParameters, report_parameters_packet};
+    ghost use Rattle.etcs_bodies.specs.PacketFormats.{IsPacketOf, packet_left};
+    ghost use Rattle.etcs_grouped.specs.ReportParameters.{report_parameters_packet};
     ghost use Rattle.etcs_grouped.specs.laws.ReportParameters.{report_parameters_codes};
 
     const NID: u8 = 58;
@@ -145,7 +147,7 @@ impl Body for ReportParameters {
 
     ghost direction = { λ p. p.dir };
 
-    ghost is_value = { λ p. IsReportParameters p };
+    ghost is_value = { λ p. IsPacketOf report_parameters_packet p };
 
     ghost read_from = { λ dir s. packet_left report_parameters_packet dir s };
 

@@ -2,7 +2,7 @@
 
 ghost use Rattle.std.specs.Prelude.{◌≡◌, None, Some, IfOk, IfErr};
 ghost use Rattle.std.specs.Cmp.{decided, partial_equiv_from_equiv};
-ghost use Rattle.etcs_grouped.specs.TrackConditions.{state_of, track_condition_value, track_condition_fault, IsTrackCondition, track_condition_packet};
+ghost use Rattle.etcs_grouped.specs.TrackConditions.{state_of, track_condition_value, track_condition_fault, track_condition_packet};
 ghost use Rattle.etcs_bodies.specs.PacketFormats.{packet_equal};
 ghost use Rattle.etcs_grouped.specs.laws.TrackConditions.{track_condition_exact};
 
@@ -26,13 +26,14 @@ pub struct TrackCondition {
 }
 
 impl Model for TrackCondition {
-    ghost use Rattle.etcs_grouped.specs.TrackConditions.{TrackConditionValue, track_condition_value, state_of, IsTrackCondition};
+    ghost use Rattle.etcs_bodies.specs.PacketFormats.{IsPacketOf};
+    ghost use Rattle.etcs_grouped.specs.TrackConditions.{track_condition_packet, TrackConditionValue, track_condition_value, state_of};
 
     ghost Value = { TrackConditionValue };
 
     ghost view = { λ s. track_condition_value s.dir s.q_scale (state_of s.state) };
 
-    ghost invariant = { λ s. IsTrackCondition (track_condition_value s.dir s.q_scale (state_of s.state)) };
+    ghost invariant = { λ s. IsPacketOf track_condition_packet (track_condition_value s.dir s.q_scale (state_of s.state)) };
 }
 
 impl TrackCondition {
@@ -105,9 +106,10 @@ impl Eq for TrackCondition {
 }
 
 impl Variables for TrackCondition {
-    ghost use Rattle.etcs_grouped.specs.TrackConditions.{track_condition_reading};
+    ghost use Rattle.etcs_bodies.specs.PacketFormats.{packet_reading};
+    ghost use Rattle.etcs_grouped.specs.TrackConditions.{track_condition_packet};
 
-    ghost reading_of = { λ p. track_condition_reading p };
+    ghost reading_of = { λ p. packet_reading track_condition_packet p };
 
     #[tactic(auto, using(crate::specs::laws::TrackConditions::track_condition_length))]
     fn bits(&self) -> usize {
@@ -122,8 +124,8 @@ impl Variables for TrackCondition {
 
 impl Body for TrackCondition {
     ghost use Rattle.etcs_tables.specs.declared.row.Way.TheVariants.{ToTrain};
-    ghost use Rattle.etcs_bodies.specs.PacketFormats.{packet_left};
-    ghost use Rattle.etcs_grouped.specs.TrackConditions.{IsTrackCondition, track_condition_packet};
+    ghost use Rattle.etcs_bodies.specs.PacketFormats.{IsPacketOf, packet_left};
+    ghost use Rattle.etcs_grouped.specs.TrackConditions.{track_condition_packet};
     ghost use Rattle.etcs_grouped.specs.laws.TrackConditions.{track_condition_codes};
 
     const NID: u8 = 68;
@@ -136,7 +138,7 @@ impl Body for TrackCondition {
 
     ghost direction = { λ p. p.dir };
 
-    ghost is_value = { λ p. IsTrackCondition p };
+    ghost is_value = { λ p. IsPacketOf track_condition_packet p };
 
     ghost read_from = { λ dir s. packet_left track_condition_packet dir s };
 

@@ -6,7 +6,7 @@ use Rattle.etcs_vars.specs.Reading.{Reading, spelled}
 use Rattle.etcs_vars.specs.Reading as sent
 use Rattle.etcs_vars.proofs.Stepping.{next_number}
 use Rattle.etcs_vars.specs.laws.Spellings.{spelled-append}
-use Rattle.etcs_flat.specs.Others.{OtherValue}
+use Rattle.etcs_flat.specs.declared.other.Other.{Other as OtherValue}
 use Rattle.etcs_packets.specs.declared.packet.Packet.{Packet}
 use Rattle.etcs_packets.specs.declared.packet.Packet.TheVariants.{Other}
 use Rattle.etcs_packets.specs.PacketValues.{PacketValue, marker, typed, kept, packet_value, nid_of, dir_of, variables_of}

@@ -8,19 +8,25 @@ use Rattle.etcs_tables.specs.declared.row.Way.{Way}
 use Rattle.etcs_tables.specs.declared.row.Way.TheVariants.{ToTrain}
 use Rattle.etcs_tables.specs.Frames.{frame_bits, is_marker}
 use Rattle.etcs_tables.specs.Typed.{IsFramed}
+use Rattle.etcs_bodies.specs.Formats.{Format, Is, reading}
+use Rattle.etcs_bodies.specs.PacketFormats.{PacketFormat, IsPacketOf, packet_reading}
 use Rattle.etcs_flat.specs.Flats.{FlatValue, flat_fault, flat_reading}
 use Rattle.etcs_flat.specs.Others.{other_fault}
-use Rattle.etcs_grouped.specs.BaliseLists.{BaliseListValue, IsBaliseList, balise_list_reading}
-use Rattle.etcs_grouped.specs.Chains.{IsLinking, linking_reading, IsGradient, gradient_reading, IsSpeedProfile, speed_profile_reading, IsModeProfile, mode_profile_reading}
-use Rattle.etcs_grouped.specs.Level1Mas.{IsLevel1Ma, level1_ma_reading}
-use Rattle.etcs_grouped.specs.Level23Mas.{IsLevel23Ma, level23_ma_reading}
-use Rattle.etcs_grouped.specs.LevelOrders.{IsLevelOrder, level_order_reading}
-use Rattle.etcs_grouped.specs.ConditionalLevelOrders.{IsConditionalLevelOrder, conditional_level_order_reading}
-use Rattle.etcs_grouped.specs.PlainTexts.{IsPlainText, plain_text_reading}
-use Rattle.etcs_grouped.specs.FixedTexts.{IsFixedText, fixed_text_reading}
-use Rattle.etcs_grouped.specs.InfillLocations.{IsInfillLocation, infill_location_reading}
-use Rattle.etcs_grouped.specs.ReportParameters.{IsReportParameters, report_parameters_reading}
-use Rattle.etcs_grouped.specs.TrackConditions.{IsTrackCondition, track_condition_reading}
+use Rattle.etcs_parts.specs.Links.{link_format}
+use Rattle.etcs_parts.specs.Slopes.{slope_format}
+use Rattle.etcs_parts.specs.Speeds.{speed_format}
+use Rattle.etcs_parts.specs.ModeSections.{mode_section_format}
+use Rattle.etcs_grouped.specs.BaliseLists.{BaliseListValue, IsBaliseList, balise_list_packet}
+use Rattle.etcs_grouped.specs.Chains.{ChainValue, IsChain, chain_reading}
+use Rattle.etcs_grouped.specs.Level1Mas.{level1_ma_packet}
+use Rattle.etcs_grouped.specs.Level23Mas.{level23_ma_packet}
+use Rattle.etcs_grouped.specs.LevelOrders.{level_order_packet}
+use Rattle.etcs_grouped.specs.ConditionalLevelOrders.{conditional_level_order_packet}
+use Rattle.etcs_grouped.specs.PlainTexts.{plain_text_packet}
+use Rattle.etcs_grouped.specs.FixedTexts.{fixed_text_packet}
+use Rattle.etcs_grouped.specs.InfillLocations.{infill_location_packet}
+use Rattle.etcs_grouped.specs.ReportParameters.{report_parameters_packet}
+use Rattle.etcs_grouped.specs.TrackConditions.{track_condition_packet}
 use Rattle.etcs_packets.specs.declared.packet.Packet.{Packet}
 
 -- what a packet stands for: a marker's number; number, direction and variables of a typed packet; number, direction and
@@ -43,39 +49,47 @@ form_of v h = record { value = v; made = h }
 abbrev flat_form : ℕ → FlatValue → Form
 flat_form nid p = form_of (typed nid p.dir (flat_reading nid p.numbers)) (flat_fault nid p.dir p.numbers ≡ None)
 
+-- the form of a packet of this format
+abbrev packet_form : {B P : Type 0} → ℕ → PacketFormat B P → P → Form
+packet_form nid k p = form_of (typed nid (k.direction p) (packet_reading k p)) (IsPacketOf k p)
+
+-- the form of a packet of entries of this format, by the most bits of one
+abbrev chain_form : {V : Type 0} → ℕ → ℕ → Format V → ChainValue V → Form
+chain_form nid most f p = form_of (typed nid p.dir (chain_reading (reading f) p)) (IsChain (Is f) most (reading f) p)
+
 -- the form of a list of balise groups
 abbrev list_form : ℕ → BaliseListValue → Form
-list_form nid p = form_of (typed nid p.dir (balise_list_reading p)) (IsBaliseList nid p)
+list_form nid p = form_of (typed nid p.dir (packet_reading balise_list_packet p)) (IsBaliseList nid p)
 
 -- of a packet to the train what it stands for, and the clauses of the type of its own variant about it
 abbrev pub form : Packet → Form
 form (Packet.VbcMarker n) = form_of (marker n) (IsTrue (admits NID_VBCMK n))
 form (Packet.SystemVersion p) = flat_form 2 p
-form (Packet.Linking p) = form_of (typed 5 p.dir (linking_reading p)) (IsLinking p)
-form (Packet.Level1Ma p) = form_of (typed 12 p.dir (level1_ma_reading p)) (IsLevel1Ma p)
-form (Packet.Level23Ma p) = form_of (typed 15 p.dir (level23_ma_reading p)) (IsLevel23Ma p)
+form (Packet.Linking p) = chain_form 5 49 link_format p
+form (Packet.Level1Ma p) = packet_form 12 level1_ma_packet p
+form (Packet.Level23Ma p) = packet_form 15 level23_ma_packet p
 form (Packet.Repositioning p) = flat_form 16 p
-form (Packet.Gradient p) = form_of (typed 21 p.dir (gradient_reading p)) (IsGradient p)
-form (Packet.SpeedProfile p) = form_of (typed 27 p.dir (speed_profile_reading p)) (IsSpeedProfile p)
-form (Packet.LevelOrder p) = form_of (typed 41 p.dir (level_order_reading p)) (IsLevelOrder p)
+form (Packet.Gradient p) = chain_form 21 24 slope_format p
+form (Packet.SpeedProfile p) = chain_form 27 431 speed_format p
+form (Packet.LevelOrder p) = packet_form 41 level_order_packet p
 form (Packet.SessionManagement p) = flat_form 42 p
 form (Packet.RadioNetwork p) = flat_form 45 p
-form (Packet.ConditionalLevelOrder p) = form_of (typed 46 p.dir (conditional_level_order_reading p)) (IsConditionalLevelOrder p)
+form (Packet.ConditionalLevelOrder p) = packet_form 46 conditional_level_order_packet p
 form (Packet.ShuntingList p) = list_form 49 p
 form (Packet.MaRequest p) = flat_form 57 p
-form (Packet.ReportParameters p) = form_of (typed 58 p.dir (report_parameters_reading p)) (IsReportParameters p)
+form (Packet.ReportParameters p) = packet_form 58 report_parameters_packet p
 form (Packet.SrList p) = list_form 63 p
 form (Packet.InhibitTsr p) = flat_form 64 p
 form (Packet.Tsr p) = flat_form 65 p
 form (Packet.TsrRevocation p) = flat_form 66 p
-form (Packet.TrackCondition p) = form_of (typed 68 p.dir (track_condition_reading p)) (IsTrackCondition p)
-form (Packet.PlainText p) = form_of (typed 72 p.dir (plain_text_reading p)) (IsPlainText p)
-form (Packet.FixedText p) = form_of (typed 76 p.dir (fixed_text_reading p)) (IsFixedText p)
-form (Packet.ModeProfile p) = form_of (typed 80 p.dir (mode_profile_reading p)) (IsModeProfile p)
+form (Packet.TrackCondition p) = packet_form 68 track_condition_packet p
+form (Packet.PlainText p) = packet_form 72 plain_text_packet p
+form (Packet.FixedText p) = packet_form 76 fixed_text_packet p
+form (Packet.ModeProfile p) = chain_form 80 55 mode_section_format p
 form (Packet.RbcTransition p) = flat_form 131 p
 form (Packet.DangerForShunting p) = flat_form 132 p
 form (Packet.StopShunting p) = flat_form 135 p
-form (Packet.InfillLocation p) = form_of (typed 136 p.dir (infill_location_reading p)) (IsInfillLocation p)
+form (Packet.InfillLocation p) = packet_form 136 infill_location_packet p
 form (Packet.StopInSr p) = flat_form 137 p
 form (Packet.TrainRunningNumber p) = flat_form 140 p
 form (Packet.TsrGradient p) = flat_form 141 p

@@ -4,7 +4,8 @@ use Rattle.etcs_vars.specs.declared.var.Var.TheVariants.{N_ITER, Q_ENDTIMER, T_E
 use Rattle.etcs_vars.specs.declared.fault.BuildFault.{BuildFault}
 use Rattle.etcs_tables.specs.Layouts.{Layout}
 use Rattle.etcs_bodies.specs.Formats.{Format, number, ◌⊗◌, optional, part, listed, named, fault, row}
-use Rattle.etcs_parts.specs.Sections.{SectionValue, section_format, end_format}
+use Rattle.etcs_parts.specs.Sections.{Section, section_format, end_format}
+pub use Rattle.etcs_parts.specs.declared.authority.Authority.TheInside.{Inside as Authority}
 
 -- ---- What is after flags.
 
@@ -36,27 +37,21 @@ groups_format = end_timer_format ⊗ danger_format ⊗ overlap_format
 
 -- ---- An authority.
 
--- an authority: its sections, the end section and what follows it
-pub record AuthorityValue : Type 0 where
-  pub sections : List SectionValue
-  pub end : SectionValue
-  pub end_timer : Option (ℕ × ℕ)
-  pub danger_point : Option (ℕ × ℕ)
-  pub overlap : Option Overlap
-
 -- an authority of these parts, in the order of the constructor's
-abbrev pub authority_value : List SectionValue → SectionValue → Option (ℕ × ℕ) → Option (ℕ × ℕ) → Option Overlap → AuthorityValue
+abbrev pub authority_value : List Section → Section → Option (ℕ × ℕ) → Option (ℕ × ℕ) → Option Overlap → Authority
 authority_value sections end end_timer danger_point overlap =
     record { sections = sections; end = end; end_timer = end_timer; danger_point = danger_point; overlap = overlap }
 
 -- the format of an authority: its variables in the order of sending
-abbrev pub authority_format : Format AuthorityValue
+abbrev pub authority_format : Format Authority
 authority_format =
-    named (λ n. authority_value n.0 n.1.0 n.1.1.0 n.1.1.1.0 n.1.1.1.1) (λ p. (p.sections, (p.end, (p.end_timer, (p.danger_point, p.overlap))))) (
+    named
+    (λ n. record { sections = n.0; end = n.1.0; end_timer = n.1.1.0; danger_point = n.1.1.1.0; overlap = n.1.1.1.1 })
+    (λ p. (p.sections, (p.end, (p.end_timer, (p.danger_point, p.overlap))))) (
     listed N_ITER section_format ⊗ part end_format ⊗ groups_format)
 
 -- the first fault of an authority, in the order of the variables; its sections aren't looked at again
-abbrev pub authority_fault : AuthorityValue → Option BuildFault
+abbrev pub authority_fault : Authority → Option BuildFault
 authority_fault = fault authority_format
 
 -- the row of an authority before a rest

@@ -4,24 +4,21 @@ use Rattle.etcs_vars.specs.declared.var.Var.TheVariants.{M_MODETEXTDISPLAY, M_LE
 use Rattle.etcs_vars.specs.declared.fault.BuildFault.{BuildFault}
 use Rattle.etcs_tables.specs.declared.item.Test.TheVariants.{IsOne}
 use Rattle.etcs_bodies.specs.Formats.{Format, number, ◌⊗◌, guarded, named, fault}
-
--- the mode and level in which a text is shown: its numbers and parts
-pub record ShownValue : Type 0 where
-  pub m_modetextdisplay : ℕ
-  pub m_leveltextdisplay : ℕ
-  pub nid_ntc : Option ℕ
+pub use Rattle.etcs_parts.specs.declared.shown.Shown.TheInside.{Inside as Shown}
 
 -- the mode and level in which a text is shown of these numbers and parts, in the order of the constructor's
-abbrev pub shown_value : ℕ → ℕ → Option ℕ → ShownValue
+abbrev pub shown_value : ℕ → ℕ → Option ℕ → Shown
 shown_value m_modetextdisplay m_leveltextdisplay nid_ntc =
     record { m_modetextdisplay = m_modetextdisplay; m_leveltextdisplay = m_leveltextdisplay; nid_ntc = nid_ntc }
 
 -- the format of the mode and level in which a text is shown: its variables in the order of sending
-abbrev pub shown_format : Format ShownValue
+abbrev pub shown_format : Format Shown
 shown_format =
-    named (λ n. shown_value n.0 n.1.0 n.1.1) (λ s. (s.m_modetextdisplay, (s.m_leveltextdisplay, s.nid_ntc))) (
+    named
+    (λ n. record { m_modetextdisplay = n.0; m_leveltextdisplay = n.1.0; nid_ntc = n.1.1 })
+    (λ s. (s.m_modetextdisplay, (s.m_leveltextdisplay, s.nid_ntc))) (
     number M_MODETEXTDISPLAY ⊗ guarded M_LEVELTEXTDISPLAY IsOne (number NID_NTC))
 
 -- the first fault of the mode and level in which a text is shown, in the order of the variables
-abbrev pub shown_fault : ShownValue → Option BuildFault
+abbrev pub shown_fault : Shown → Option BuildFault
 shown_fault = fault shown_format

@@ -3,6 +3,7 @@ pub mod BalisesAt
 pub mod Conditions
 pub mod Differings
 pub mod Displays
+pub mod LevelAcks
 pub mod Levels
 pub mod Links
 pub mod ModeSections

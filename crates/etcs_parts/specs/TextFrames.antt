@@ -4,7 +4,8 @@ use Rattle.etcs_vars.specs.declared.var.Var.TheVariants.{Q_SCALE, Q_TEXTCLASS, Q
 use Rattle.etcs_vars.specs.declared.fault.BuildFault.{BuildFault}
 use Rattle.etcs_tables.specs.declared.item.Test.TheVariants.{IsNotZero}
 use Rattle.etcs_bodies.specs.Formats.{Format, number, flag, ◌⊗◌, optional, guarded, part, named, fault}
-use Rattle.etcs_parts.specs.Displays.{ShownValue, shown_format}
+use Rattle.etcs_parts.specs.Displays.{Shown, shown_format}
+pub use Rattle.etcs_parts.specs.declared.text_frame.TextFrame.TheInside.{Inside as TextFrame}
 
 -- to whom a confirmation is reported: NID_TEXTMESSAGE, NID_C and NID_RBC
 abbrev pub Report : Type 0
@@ -26,21 +27,8 @@ confirm_format = flag Q_CONFTEXTDISPLAY ⊗ optional Q_TEXTREPORT report_format
 abbrev pub confirmed_format : Format (ℕ × Option Confirm)
 confirmed_format = guarded Q_TEXTCONFIRM IsNotZero confirm_format
 
--- all of a text message but its text: its numbers and parts
-pub record TextFrameValue : Type 0 where
-  pub q_scale : ℕ
-  pub q_textclass : ℕ
-  pub q_textdisplay : Bool
-  pub d_textdisplay : ℕ
-  pub start : ShownValue
-  pub l_textdisplay : ℕ
-  pub t_textdisplay : ℕ
-  pub end : ShownValue
-  pub q_textconfirm : ℕ
-  pub confirm : Option Confirm
-
 -- all of a text message but its text of these numbers and parts, in the order of the constructor's
-abbrev pub text_frame_value : ℕ → ℕ → Bool → ℕ → ShownValue → ℕ → ℕ → ShownValue → ℕ → Option Confirm → TextFrameValue
+abbrev pub text_frame_value : ℕ → ℕ → Bool → ℕ → Shown → ℕ → ℕ → Shown → ℕ → Option Confirm → TextFrame
 text_frame_value q_scale q_textclass q_textdisplay d_textdisplay start l_textdisplay t_textdisplay end q_textconfirm confirm =
     record {
       q_scale = q_scale;
@@ -51,24 +39,21 @@ text_frame_value q_scale q_textclass q_textdisplay d_textdisplay start l_textdis
       l_textdisplay = l_textdisplay;
       t_textdisplay = t_textdisplay;
       end = end;
-      q_textconfirm = q_textconfirm;
-      confirm = confirm;
+      confirmed = record { q_textconfirm = q_textconfirm; confirm = confirm };
     }
 
--- all of a text message but its text, of these numbers and parts one inside the other
-abbrev pub text_frame_of : ℕ × (ℕ × (Bool × (ℕ × (ShownValue × (ℕ × (ℕ × (ShownValue × (ℕ × Option Confirm)))))))) → TextFrameValue
-text_frame_of n = text_frame_value n.0 n.1.0 n.1.1.0 n.1.1.1.0 n.1.1.1.1.0 n.1.1.1.1.1.0 n.1.1.1.1.1.1.0 n.1.1.1.1.1.1.1.0 n.1.1.1.1.1.1.1.1.0 n.1.1.1.1.1.1.1.1.1
-
 -- the format of all of a text message but its text: its variables in the order of sending
-abbrev pub text_frame_format : Format TextFrameValue
+abbrev pub text_frame_format : Format TextFrame
 text_frame_format =
-    named text_frame_of (λ t. (t.q_scale, (t.q_textclass, (t.q_textdisplay, (t.d_textdisplay, (t.start, (t.l_textdisplay, (t.t_textdisplay, (t.end, (t.q_textconfirm, t.confirm)))))))))) (
+    named
+    (λ n. text_frame_value n.0 n.1.0 n.1.1.0 n.1.1.1.0 n.1.1.1.1.0 n.1.1.1.1.1.0 n.1.1.1.1.1.1.0 n.1.1.1.1.1.1.1.0 n.1.1.1.1.1.1.1.1.0 n.1.1.1.1.1.1.1.1.1)
+    (λ t. (t.q_scale, (t.q_textclass, (t.q_textdisplay, (t.d_textdisplay, (t.start, (t.l_textdisplay, (t.t_textdisplay, (t.end, (t.confirmed.q_textconfirm, t.confirmed.confirm)))))))))) (
     number Q_SCALE ⊗ number Q_TEXTCLASS ⊗ flag Q_TEXTDISPLAY ⊗ number D_TEXTDISPLAY ⊗ part shown_format
     ⊗ number L_TEXTDISPLAY ⊗ number T_TEXTDISPLAY ⊗ part shown_format ⊗ confirmed_format)
 
 -- the first fault of all of a text message but its text, in the order of the variables; start and end aren't looked
 -- at again
-abbrev pub text_frame_fault : TextFrameValue → Option BuildFault
+abbrev pub text_frame_fault : TextFrame → Option BuildFault
 text_frame_fault = fault text_frame_format
 
 -- how many bits a confirmation takes with Q_TEXTCONFIRM

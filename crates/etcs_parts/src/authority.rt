@@ -35,15 +35,15 @@ pub struct Authority {
 
 impl Model for Authority {
     ghost use Rattle.etcs_bodies.specs.Formats.{Is};
-    ghost use Rattle.etcs_parts.specs.Authorities.{AuthorityValue, authority_value, authority_format};
+    ghost use Rattle.etcs_parts.specs.Authorities.{Authority, authority_format};
 
-    ghost Value = { AuthorityValue };
+    ghost Value = { Authority };
 
-    ghost view = { λ s. authority_value s.sections s.end s.end_timer s.danger_point s.overlap };
+    ghost view = { λ s. s };
 
-    ghost invariant = { λ s. Is authority_format (authority_value s.sections s.end s.end_timer s.danger_point s.overlap) };
+    ghost invariant = { Is authority_format };
 
-    ghost inverse = { λ s. record { end_timer = s.end_timer; danger_point = s.danger_point; overlap = s.overlap; end = s.end; sections = s.sections } };
+    ghost inverse = { λ s. s };
 }
 
 impl Authority {

@@ -18,15 +18,15 @@ pub struct BaliseAt {
 
 impl Model for BaliseAt {
     ghost use Rattle.etcs_bodies.specs.Formats.{Is};
-    ghost use Rattle.etcs_parts.specs.BalisesAt.{BaliseAtValue, balise_at_value, balise_at_format};
+    ghost use Rattle.etcs_parts.specs.BalisesAt.{BaliseAt, balise_at_format};
 
-    ghost Value = { BaliseAtValue };
+    ghost Value = { BaliseAt };
 
-    ghost view = { λ s. balise_at_value s.nid_c s.nid_bg };
+    ghost view = { λ s. s };
 
-    ghost invariant = { λ s. Is balise_at_format (balise_at_value s.nid_c s.nid_bg) };
+    ghost invariant = { Is balise_at_format };
 
-    ghost inverse = { λ s. record { nid_c = s.nid_c; nid_bg = s.nid_bg } };
+    ghost inverse = { λ s. s };
 }
 
 impl BaliseAt {

@@ -28,15 +28,15 @@ pub struct Condition {
 
 impl Model for Condition {
     ghost use Rattle.etcs_bodies.specs.Formats.{Is};
-    ghost use Rattle.etcs_parts.specs.Conditions.{ConditionValue, condition_value, condition_format};
+    ghost use Rattle.etcs_parts.specs.Conditions.{Condition, condition_format};
 
-    ghost Value = { ConditionValue };
+    ghost Value = { Condition };
 
-    ghost view = { λ s. condition_value s.d_trackcond s.l_trackcond s.m_trackcond };
+    ghost view = { λ s. s };
 
-    ghost invariant = { λ s. Is condition_format (condition_value s.d_trackcond s.l_trackcond s.m_trackcond) };
+    ghost invariant = { Is condition_format };
 
-    ghost inverse = { λ s. record { d_trackcond = s.d_trackcond; l_trackcond = s.l_trackcond; m_trackcond = s.m_trackcond } };
+    ghost inverse = { λ s. s };
 }
 
 impl Condition {

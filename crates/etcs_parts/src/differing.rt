@@ -20,15 +20,15 @@ pub struct Differing {
 
 impl Model for Differing {
     ghost use Rattle.etcs_bodies.specs.Formats.{Is};
-    ghost use Rattle.etcs_parts.specs.Differings.{DifferingValue, differing_value, differing_format};
+    ghost use Rattle.etcs_parts.specs.Differings.{Differing, differing_format};
 
-    ghost Value = { DifferingValue };
+    ghost Value = { Differing };
 
-    ghost view = { λ s. differing_value s.q_diff s.category s.v_diff };
+    ghost view = { λ s. s };
 
-    ghost invariant = { λ s. Is differing_format (differing_value s.q_diff s.category s.v_diff) };
+    ghost invariant = { Is differing_format };
 
-    ghost inverse = { λ s. record { q_diff = s.q_diff; category = s.category; v_diff = s.v_diff } };
+    ghost inverse = { λ s. s };
 }
 
 impl Differing {

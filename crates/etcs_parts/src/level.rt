@@ -18,15 +18,15 @@ pub struct Level {
 
 impl Model for Level {
     ghost use Rattle.etcs_bodies.specs.Formats.{Is};
-    ghost use Rattle.etcs_parts.specs.Levels.{LevelValue, level_value, level_format};
+    ghost use Rattle.etcs_parts.specs.Levels.{Level, level_format};
 
-    ghost Value = { LevelValue };
+    ghost Value = { Level };
 
-    ghost view = { λ s. level_value s.m_leveltr s.nid_ntc };
+    ghost view = { λ s. s };
 
-    ghost invariant = { λ s. Is level_format (level_value s.m_leveltr s.nid_ntc) };
+    ghost invariant = { Is level_format };
 
-    ghost inverse = { λ s. record { m_leveltr = s.m_leveltr; nid_ntc = s.nid_ntc } };
+    ghost inverse = { λ s. s };
 }
 
 impl Level {

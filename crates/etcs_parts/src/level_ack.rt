@@ -26,19 +26,19 @@ pub struct LevelAck {
 
 impl Model for LevelAck {
     ghost use Rattle.etcs_bodies.specs.Formats.{Is};
-    ghost use Rattle.etcs_parts.specs.Levels.{LevelAckValue, level_ack_of, level_ack_format};
+    ghost use Rattle.etcs_parts.specs.LevelAcks.{LevelAck, level_ack_format};
 
-    ghost Value = { LevelAckValue };
+    ghost Value = { LevelAck };
 
-    ghost view = { λ s. level_ack_of (s.level, s.l_ackleveltr) };
+    ghost view = { λ s. s };
 
-    ghost invariant = { λ s. Is level_ack_format (level_ack_of (s.level, s.l_ackleveltr)) };
+    ghost invariant = { Is level_ack_format };
 
-    ghost inverse = { λ s. record { l_ackleveltr = s.l_ackleveltr; level = s.level } };
+    ghost inverse = { λ s. s };
 }
 
 impl LevelAck {
-    ghost use Rattle.etcs_parts.specs.Levels.{level_ack_value, level_ack_fault};
+    ghost use Rattle.etcs_parts.specs.LevelAcks.{level_ack_value, level_ack_fault};
 
     /// A level and its length of acknowledgement, returned exactly if none of the errors below applies.
     ///
@@ -90,7 +90,7 @@ impl LevelAck {
 
 impl Variables for LevelAck {
     ghost use Rattle.etcs_bodies.specs.Formats.{reading};
-    ghost use Rattle.etcs_parts.specs.Levels.{level_ack_format};
+    ghost use Rattle.etcs_parts.specs.LevelAcks.{level_ack_format};
 
     ghost reading_of = { λ p. reading level_ack_format p };
 
@@ -108,7 +108,7 @@ impl Variables for LevelAck {
 impl Part for LevelAck {
     ghost use Rattle.etcs_tables.specs.Rows.{level_ack};
     ghost use Rattle.etcs_bodies.specs.Formats.{from, Is};
-    ghost use Rattle.etcs_parts.specs.Levels.{level_ack_format};
+    ghost use Rattle.etcs_parts.specs.LevelAcks.{level_ack_format};
     ghost use Rattle.etcs_bodies.specs.laws.Formats.{codes_of};
     ghost use Rattle.etcs_parts.specs.laws.Levels.{level_ack_ok};
 
@@ -144,7 +144,7 @@ impl Plain for LevelAck {
 impl Entry for LevelAck {
     ghost use Rattle.std.specs.Prelude.{refl};
     ghost use Rattle.etcs_bodies.specs.laws.Formats.{at_most};
-    ghost use Rattle.etcs_parts.specs.Levels.{level_ack_format};
+    ghost use Rattle.etcs_parts.specs.LevelAcks.{level_ack_format};
 
     const MOST: usize = 26;
 

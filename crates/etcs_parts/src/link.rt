@@ -31,16 +31,15 @@ pub struct Link {
 
 impl Model for Link {
     ghost use Rattle.etcs_bodies.specs.Formats.{Is};
-    ghost use Rattle.etcs_parts.specs.Links.{LinkValue, link_value, link_format};
-    ghost use Rattle.etcs_parts.specs.BalisesAt.{balise_at_value};
+    ghost use Rattle.etcs_parts.specs.Links.{Link, link_format};
 
-    ghost Value = { LinkValue };
+    ghost Value = { Link };
 
-    ghost view = { λ s. link_value s.d_link s.balise.nid_c s.balise.nid_bg s.q_linkorientation s.q_linkreaction s.q_locacc };
+    ghost view = { λ s. s };
 
-    ghost invariant = { λ s. Is link_format (link_value s.d_link s.balise.nid_c s.balise.nid_bg s.q_linkorientation s.q_linkreaction s.q_locacc) };
+    ghost invariant = { Is link_format };
 
-    ghost inverse = { λ s. record { d_link = s.d_link; balise = balise_at_value s.nid_c s.nid_bg; q_linkorientation = s.q_linkorientation; q_linkreaction = s.q_linkreaction; q_locacc = s.q_locacc } };
+    ghost inverse = { λ s. s };
 }
 
 impl Link {
@@ -79,14 +78,14 @@ impl Link {
 
     /// The group's country or region, if it isn't that of the group before.
     pub fn nid_c(&self) -> Option<u16>
-        ensures { result ≡ self.now.nid_c }
+        ensures { result ≡ self.now.balise.nid_c }
     {
         self.balise.nid_c()
     }
 
     /// The group within its country or region.
     pub fn nid_bg(&self) -> u16
-        ensures { result ≡ self.now.nid_bg }
+        ensures { result ≡ self.now.balise.nid_bg }
     {
         self.balise.nid_bg()
     }

@@ -33,15 +33,15 @@ pub struct ModeSection {
 
 impl Model for ModeSection {
     ghost use Rattle.etcs_bodies.specs.Formats.{Is};
-    ghost use Rattle.etcs_parts.specs.ModeSections.{ModeSectionValue, mode_section_value, mode_section_format};
+    ghost use Rattle.etcs_parts.specs.ModeSections.{ModeSection, mode_section_format};
 
-    ghost Value = { ModeSectionValue };
+    ghost Value = { ModeSection };
 
-    ghost view = { λ s. mode_section_value s.d_mamode s.m_mamode s.v_mamode s.l_mamode s.l_ackmamode s.q_mamode };
+    ghost view = { λ s. s };
 
-    ghost invariant = { λ s. Is mode_section_format (mode_section_value s.d_mamode s.m_mamode s.v_mamode s.l_mamode s.l_ackmamode s.q_mamode) };
+    ghost invariant = { Is mode_section_format };
 
-    ghost inverse = { λ s. record { d_mamode = s.d_mamode; m_mamode = s.m_mamode; v_mamode = s.v_mamode; l_mamode = s.l_mamode; l_ackmamode = s.l_ackmamode; q_mamode = s.q_mamode } };
+    ghost inverse = { λ s. s };
 }
 
 impl ModeSection {

@@ -23,15 +23,15 @@ pub struct ReportAt {
 
 impl Model for ReportAt {
     ghost use Rattle.etcs_bodies.specs.Formats.{Is};
-    ghost use Rattle.etcs_parts.specs.ReportsAt.{ReportAtValue, report_at_value, report_at_format};
+    ghost use Rattle.etcs_parts.specs.ReportsAt.{ReportAt, report_at_format};
 
-    ghost Value = { ReportAtValue };
+    ghost Value = { ReportAt };
 
-    ghost view = { λ s. report_at_value s.d_loc s.q_lgtloc };
+    ghost view = { λ s. s };
 
-    ghost invariant = { λ s. Is report_at_format (report_at_value s.d_loc s.q_lgtloc) };
+    ghost invariant = { Is report_at_format };
 
-    ghost inverse = { λ s. record { d_loc = s.d_loc; q_lgtloc = s.q_lgtloc } };
+    ghost inverse = { λ s. s };
 }
 
 impl ReportAt {

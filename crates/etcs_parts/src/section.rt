@@ -33,15 +33,15 @@ pub struct Section {
 
 impl Model for Section {
     ghost use Rattle.etcs_bodies.specs.Formats.{Is};
-    ghost use Rattle.etcs_parts.specs.Sections.{SectionValue, section_value, section_format};
+    ghost use Rattle.etcs_parts.specs.Sections.{Section, section_format};
 
-    ghost Value = { SectionValue };
+    ghost Value = { Section };
 
-    ghost view = { λ s. section_value s.length s.timer };
+    ghost view = { λ s. s };
 
-    ghost invariant = { λ s. Is section_format (section_value s.length s.timer) };
+    ghost invariant = { Is section_format };
 
-    ghost inverse = { λ s. record { length = s.length; timer = s.timer } };
+    ghost inverse = { λ s. s };
 }
 
 impl Section {

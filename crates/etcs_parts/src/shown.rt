@@ -19,15 +19,15 @@ pub struct Shown {
 
 impl Model for Shown {
     ghost use Rattle.etcs_bodies.specs.Formats.{Is};
-    ghost use Rattle.etcs_parts.specs.Displays.{ShownValue, shown_value, shown_format};
+    ghost use Rattle.etcs_parts.specs.Displays.{Shown, shown_format};
 
-    ghost Value = { ShownValue };
+    ghost Value = { Shown };
 
-    ghost view = { λ s. shown_value s.m_modetextdisplay s.m_leveltextdisplay s.nid_ntc };
+    ghost view = { λ s. s };
 
-    ghost invariant = { λ s. Is shown_format (shown_value s.m_modetextdisplay s.m_leveltextdisplay s.nid_ntc) };
+    ghost invariant = { Is shown_format };
 
-    ghost inverse = { λ s. record { m_modetextdisplay = s.m_modetextdisplay; m_leveltextdisplay = s.m_leveltextdisplay; nid_ntc = s.nid_ntc } };
+    ghost inverse = { λ s. s };
 }
 
 impl Shown {

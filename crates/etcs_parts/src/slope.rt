@@ -26,15 +26,15 @@ pub struct Slope {
 
 impl Model for Slope {
     ghost use Rattle.etcs_bodies.specs.Formats.{Is};
-    ghost use Rattle.etcs_parts.specs.Slopes.{SlopeValue, slope_value, slope_format};
+    ghost use Rattle.etcs_parts.specs.Slopes.{Slope, slope_format};
 
-    ghost Value = { SlopeValue };
+    ghost Value = { Slope };
 
-    ghost view = { λ s. slope_value s.d_gradient s.q_gdir s.g_a };
+    ghost view = { λ s. s };
 
-    ghost invariant = { λ s. Is slope_format (slope_value s.d_gradient s.q_gdir s.g_a) };
+    ghost invariant = { Is slope_format };
 
-    ghost inverse = { λ s. record { d_gradient = s.d_gradient; q_gdir = s.q_gdir; g_a = s.g_a } };
+    ghost inverse = { λ s. s };
 }
 
 impl Slope {

@@ -31,15 +31,15 @@ pub struct Speed {
 
 impl Model for Speed {
     ghost use Rattle.etcs_bodies.specs.Formats.{Is};
-    ghost use Rattle.etcs_parts.specs.Speeds.{SpeedValue, speed_value, speed_format};
+    ghost use Rattle.etcs_parts.specs.Speeds.{Speed, speed_format};
 
-    ghost Value = { SpeedValue };
+    ghost Value = { Speed };
 
-    ghost view = { λ s. speed_value s.d_static s.v_static s.q_front s.differing };
+    ghost view = { λ s. s };
 
-    ghost invariant = { λ s. Is speed_format (speed_value s.d_static s.v_static s.q_front s.differing) };
+    ghost invariant = { Is speed_format };
 
-    ghost inverse = { λ s. record { d_static = s.d_static; v_static = s.v_static; q_front = s.q_front; differing = s.differing } };
+    ghost inverse = { λ s. s };
 }
 
 impl Speed {

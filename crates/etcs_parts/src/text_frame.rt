@@ -37,15 +37,15 @@ pub struct TextFrame {
 
 impl Model for TextFrame {
     ghost use Rattle.etcs_bodies.specs.Formats.{Is};
-    ghost use Rattle.etcs_parts.specs.TextFrames.{TextFrameValue, text_frame_value, text_frame_format};
+    ghost use Rattle.etcs_parts.specs.TextFrames.{TextFrame, text_frame_format};
 
-    ghost Value = { TextFrameValue };
+    ghost Value = { TextFrame };
 
-    ghost view = { λ s. text_frame_value s.q_scale s.q_textclass s.q_textdisplay s.d_textdisplay s.start s.l_textdisplay s.t_textdisplay s.end s.confirmed.q_textconfirm s.confirmed.confirm };
+    ghost view = { λ s. s };
 
-    ghost invariant = { λ s. Is text_frame_format (text_frame_value s.q_scale s.q_textclass s.q_textdisplay s.d_textdisplay s.start s.l_textdisplay s.t_textdisplay s.end s.confirmed.q_textconfirm s.confirmed.confirm) };
+    ghost invariant = { Is text_frame_format };
 
-    ghost inverse = { λ s. record { q_scale = s.q_scale; q_textclass = s.q_textclass; q_textdisplay = s.q_textdisplay; d_textdisplay = s.d_textdisplay; l_textdisplay = s.l_textdisplay; t_textdisplay = s.t_textdisplay; confirmed = record { q_textconfirm = s.q_textconfirm; confirm = s.confirm }; start = s.start; end = s.end } };
+    ghost inverse = { λ s. s };
 }
 
 impl TextFrame {
@@ -154,14 +154,14 @@ impl TextFrame {
 
     /// Whether the driver must confirm: Q_TEXTCONFIRM.
     pub fn q_textconfirm(&self) -> u8
-        ensures { result ≡ self.now.q_textconfirm }
+        ensures { result ≡ self.now.confirmed.q_textconfirm }
     {
         self.confirmed.q_textconfirm
     }
 
     /// If he must, Q_CONFTEXTDISPLAY, and of a report NID_TEXTMESSAGE, NID_C and NID_RBC.
     pub fn confirm(&self) -> Option<(bool, Option<(u8, u16, u16)>)>
-        ensures { result ≡ self.now.confirm }
+        ensures { result ≡ self.now.confirmed.confirm }
     {
         self.confirmed.confirm
     }

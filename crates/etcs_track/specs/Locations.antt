@@ -4,6 +4,7 @@ use Rattle.etcs_vars.specs.declared.var.Var.TheVariants.{D_LRBG, Q_DIRLRBG, Q_DL
 use Rattle.etcs_vars.specs.declared.fault.BuildFault.{BuildFault}
 use Rattle.etcs_tables.specs.declared.item.Test.TheVariants.{IsOne, IsOneOrTwo}
 use Rattle.etcs_bodies.specs.Formats.{Format, number, ◌⊗◌, guarded, named, Is, fault}
+pub use Rattle.etcs_track.specs.declared.located.Located.TheInside.{Inside as Located}
 
 -- the format of Q_LENGTH, what is known of the train's integrity, and of the length for which it is confirmed, if it is
 -- 1 or 2
@@ -14,23 +15,8 @@ integrity_format = guarded Q_LENGTH IsOneOrTwo (number L_TRAININT)
 abbrev pub level_format : Format (ℕ × Option ℕ)
 level_format = guarded M_LEVEL IsOne (number NID_NTC)
 
--- where a train is, and what it does: its numbers
-pub record LocatedValue : Type 0 where
-  pub d_lrbg : ℕ
-  pub q_dirlrbg : ℕ
-  pub q_dlrbg : ℕ
-  pub l_doubtover : ℕ
-  pub l_doubtunder : ℕ
-  pub q_length : ℕ
-  pub l_trainint : Option ℕ
-  pub v_train : ℕ
-  pub q_dirtrain : ℕ
-  pub m_mode : ℕ
-  pub m_level : ℕ
-  pub nid_ntc : Option ℕ
-
 -- where a train is, and what it does, of these numbers in the order of the constructor's
-abbrev pub located_value : ℕ → ℕ → ℕ → ℕ → ℕ → ℕ → Option ℕ → ℕ → ℕ → ℕ → ℕ → Option ℕ → LocatedValue
+abbrev pub located_value : ℕ → ℕ → ℕ → ℕ → ℕ → ℕ → Option ℕ → ℕ → ℕ → ℕ → ℕ → Option ℕ → Located
 located_value d_lrbg q_dirlrbg q_dlrbg l_doubtover l_doubtunder q_length l_trainint v_train q_dirtrain m_mode m_level nid_ntc =
     record {
       d_lrbg = d_lrbg;
@@ -47,28 +33,20 @@ located_value d_lrbg q_dirlrbg q_dlrbg l_doubtover l_doubtunder q_length l_train
       nid_ntc = nid_ntc;
     }
 
--- the numbers one inside the other, as the format has them
-abbrev pub LocatedParts : Type 0
-LocatedParts = ℕ × (ℕ × (ℕ × (ℕ × (ℕ × ((ℕ × Option ℕ) × (ℕ × (ℕ × (ℕ × (ℕ × Option ℕ)))))))))
-
--- where a train is, of the numbers one inside the other
-abbrev pub located_of : LocatedParts → LocatedValue
-located_of n =
-    located_value n.0 n.1.0 n.1.1.0 n.1.1.1.0 n.1.1.1.1.0 n.1.1.1.1.1.0.0 n.1.1.1.1.1.0.1 n.1.1.1.1.1.1.0 n.1.1.1.1.1.1.1.0 n.1.1.1.1.1.1.1.1.0 n.1.1.1.1.1.1.1.1.1.0 n.1.1.1.1.1.1.1.1.1.1
-
 -- the format of where a train is: its variables in the order of sending
-abbrev pub located_format : Format LocatedValue
+abbrev pub located_format : Format Located
 located_format =
-    named located_of
+    named
+    (λ n. located_value n.0 n.1.0 n.1.1.0 n.1.1.1.0 n.1.1.1.1.0 n.1.1.1.1.1.0.0 n.1.1.1.1.1.0.1 n.1.1.1.1.1.1.0 n.1.1.1.1.1.1.1.0 n.1.1.1.1.1.1.1.1.0 n.1.1.1.1.1.1.1.1.1.0 n.1.1.1.1.1.1.1.1.1.1)
     (λ p. (p.d_lrbg, (p.q_dirlrbg, (p.q_dlrbg, (p.l_doubtover, (p.l_doubtunder, ((p.q_length, p.l_trainint), (p.v_train, (p.q_dirtrain, (p.m_mode, (p.m_level, p.nid_ntc))))))))))) (
     number D_LRBG ⊗ number Q_DIRLRBG ⊗ number Q_DLRBG ⊗ number L_DOUBTOVER ⊗ number L_DOUBTUNDER ⊗ integrity_format
     ⊗ number V_TRAIN ⊗ number Q_DIRTRAIN ⊗ number M_MODE ⊗ level_format)
 
 -- nothing is wrong with these numbers; kept folded, as the next one: twelve numbers are too many hypotheses when a
 -- location is compared
-unfoldable pub IsLocated : LocatedValue → Type 0
+unfoldable pub IsLocated : Located → Type 0
 IsLocated = Is located_format
 
 -- the first fault of these numbers, in the order of the variables
-unfoldable pub located_fault : LocatedValue → Option BuildFault
+unfoldable pub located_fault : Located → Option BuildFault
 located_fault = fault located_format

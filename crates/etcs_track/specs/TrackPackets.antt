@@ -3,11 +3,12 @@
 use Rattle.std.specs.Prelude.{◌≡◌, ℕ, List, length, None}
 use Rattle.etcs_vars.specs.Reading.{Reading}
 use Rattle.etcs_tables.specs.declared.row.Way.TheVariants.{ToTrack}
+use Rattle.etcs_bodies.specs.Formats.{Is, reading}
 use Rattle.etcs_flat.specs.Flats.{flat_fault_to, flat_reading_to}
 use Rattle.etcs_flat.specs.Others.{other_fault}
 use Rattle.etcs_packets.specs.PacketValues.{PacketValue, typed, kept, Form, form_of, bits_to}
 use Rattle.etcs_packets.specs.PacketReadings.{reading_to}
-use Rattle.etcs_track.specs.Reports.{IsPositionReport, position_report_reading, IsPositionReportTwo, position_report_two_reading}
+use Rattle.etcs_track.specs.Reports.{position_report_format, position_report_two_format}
 use Rattle.etcs_track.specs.declared.train_packet.TrainPacket.{TrainPacket}
 use Rattle.etcs_track.specs.declared.train_packet.TrainPacket.TheVariants.{Report, ReportTwo, Fault, RunningNumber, Other}
 
@@ -17,8 +18,8 @@ flat_form nid ns = form_of (typed nid 0 (flat_reading_to ToTrack nid ns)) (flat_
 
 -- of a packet to the track what it stands for, and the clauses of the type of its own variant about it
 abbrev pub track_form : TrainPacket → Form
-track_form (Report p) = form_of (typed 0 0 (position_report_reading p)) (IsPositionReport p)
-track_form (ReportTwo p) = form_of (typed 1 0 (position_report_two_reading p)) (IsPositionReportTwo p)
+track_form (Report p) = form_of (typed 0 0 (reading position_report_format p)) (Is position_report_format p)
+track_form (ReportTwo p) = form_of (typed 1 0 (reading position_report_two_format p)) (Is position_report_two_format p)
 track_form (Fault ns) = flat_form 4 ns
 track_form (RunningNumber ns) = flat_form 5 ns
 track_form (Other p) = form_of (kept p.nid 0 p.body) (other_fault ToTrack p.nid 0 (length p.body) ≡ None)

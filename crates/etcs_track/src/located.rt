@@ -30,15 +30,15 @@ pub struct Located {
 }
 
 impl Model for Located {
-    ghost use Rattle.etcs_track.specs.Locations.{LocatedValue, located_value, IsLocated};
+    ghost use Rattle.etcs_track.specs.Locations.{Located, IsLocated};
 
-    ghost Value = { LocatedValue };
+    ghost Value = { Located };
 
-    ghost view = { λ s. located_value s.d_lrbg s.q_dirlrbg s.q_dlrbg s.l_doubtover s.l_doubtunder s.q_length s.l_trainint s.v_train s.q_dirtrain s.m_mode s.m_level s.nid_ntc };
+    ghost view = { λ s. s };
 
-    ghost invariant = { λ s. IsLocated (located_value s.d_lrbg s.q_dirlrbg s.q_dlrbg s.l_doubtover s.l_doubtunder s.q_length s.l_trainint s.v_train s.q_dirtrain s.m_mode s.m_level s.nid_ntc) };
+    ghost invariant = { IsLocated };
 
-    ghost inverse = { λ s. record { d_lrbg = s.d_lrbg; q_dirlrbg = s.q_dirlrbg; q_dlrbg = s.q_dlrbg; l_doubtover = s.l_doubtover; l_doubtunder = s.l_doubtunder; q_length = s.q_length; l_trainint = s.l_trainint; v_train = s.v_train; q_dirtrain = s.q_dirtrain; m_mode = s.m_mode; m_level = s.m_level; nid_ntc = s.nid_ntc } };
+    ghost inverse = { λ s. s };
 }
 
 impl Located {

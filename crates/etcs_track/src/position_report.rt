@@ -27,15 +27,16 @@ pub struct PositionReport {
 }
 
 impl Model for PositionReport {
-    ghost use Rattle.etcs_track.specs.Reports.{PositionReportValue, position_report_value, IsPositionReport};
+    ghost use Rattle.etcs_bodies.specs.Formats.{Is};
+    ghost use Rattle.etcs_track.specs.Reports.{PositionReport, position_report_format};
 
-    ghost Value = { PositionReportValue };
+    ghost Value = { PositionReport };
 
-    ghost view = { λ s. position_report_value s.q_scale s.nid_lrbg s.located };
+    ghost view = { λ s. s };
 
-    ghost invariant = { λ s. IsPositionReport (position_report_value s.q_scale s.nid_lrbg s.located) };
+    ghost invariant = { Is position_report_format };
 
-    ghost inverse = { λ s. record { q_scale = s.q_scale; nid_lrbg = s.nid_lrbg; located = s.located } };
+    ghost inverse = { λ s. s };
 }
 
 impl PositionReport {
@@ -82,9 +83,10 @@ impl PositionReport {
 }
 
 impl Variables for PositionReport {
-    ghost use Rattle.etcs_track.specs.Reports.{position_report_reading};
+    ghost use Rattle.etcs_bodies.specs.Formats.{reading};
+    ghost use Rattle.etcs_track.specs.Reports.{position_report_format};
 
-    ghost reading_of = { λ p. position_report_reading p };
+    ghost reading_of = { λ p. reading position_report_format p };
 
     #[tactic(auto, using(crate::specs::laws::Reports::report_length, crate::specs::laws::Locations::located_small))]
     fn bits(&self) -> usize {
@@ -99,8 +101,8 @@ impl Variables for PositionReport {
 impl Body for PositionReport {
     ghost use Rattle.etcs_tables.specs.declared.row.Way.TheVariants.{ToTrack};
     ghost use Rattle.etcs_bodies.specs.PacketCodes.{directed_from, never};
-    ghost use Rattle.etcs_bodies.specs.Formats.{from};
-    ghost use Rattle.etcs_track.specs.Reports.{IsPositionReport, position_report_format};
+    ghost use Rattle.etcs_bodies.specs.Formats.{from, Is};
+    ghost use Rattle.etcs_track.specs.Reports.{position_report_format};
     ghost use Rattle.etcs_track.specs.laws.Reports.{position_report_codes};
 
     const NID: u8 = 0;
@@ -113,7 +115,7 @@ impl Body for PositionReport {
 
     ghost direction = { λ p. 0 };
 
-    ghost is_value = { λ p. IsPositionReport p };
+    ghost is_value = { λ p. Is position_report_format p };
 
     ghost read_from = { λ dir s. directed_from (from position_report_format) never (λ d p. p) dir s };
 

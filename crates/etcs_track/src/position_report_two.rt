@@ -29,15 +29,16 @@ pub struct PositionReportTwo {
 }
 
 impl Model for PositionReportTwo {
-    ghost use Rattle.etcs_track.specs.Reports.{PositionReportTwoValue, position_report_two_value, IsPositionReportTwo};
+    ghost use Rattle.etcs_bodies.specs.Formats.{Is};
+    ghost use Rattle.etcs_track.specs.Reports.{PositionReportTwo, position_report_two_format};
 
-    ghost Value = { PositionReportTwoValue };
+    ghost Value = { PositionReportTwo };
 
-    ghost view = { λ s. position_report_two_value s.q_scale s.nid_lrbg s.nid_prvlrbg s.located };
+    ghost view = { λ s. s };
 
-    ghost invariant = { λ s. IsPositionReportTwo (position_report_two_value s.q_scale s.nid_lrbg s.nid_prvlrbg s.located) };
+    ghost invariant = { Is position_report_two_format };
 
-    ghost inverse = { λ s. record { q_scale = s.q_scale; nid_lrbg = s.nid_lrbg; nid_prvlrbg = s.nid_prvlrbg; located = s.located } };
+    ghost inverse = { λ s. s };
 }
 
 impl PositionReportTwo {
@@ -98,9 +99,10 @@ impl PositionReportTwo {
 }
 
 impl Variables for PositionReportTwo {
-    ghost use Rattle.etcs_track.specs.Reports.{position_report_two_reading};
+    ghost use Rattle.etcs_bodies.specs.Formats.{reading};
+    ghost use Rattle.etcs_track.specs.Reports.{position_report_two_format};
 
-    ghost reading_of = { λ p. position_report_two_reading p };
+    ghost reading_of = { λ p. reading position_report_two_format p };
 
     #[tactic(auto, using(crate::specs::laws::Reports::report_two_length, crate::specs::laws::Locations::located_small))]
     fn bits(&self) -> usize {
@@ -115,8 +117,8 @@ impl Variables for PositionReportTwo {
 impl Body for PositionReportTwo {
     ghost use Rattle.etcs_tables.specs.declared.row.Way.TheVariants.{ToTrack};
     ghost use Rattle.etcs_bodies.specs.PacketCodes.{directed_from, never};
-    ghost use Rattle.etcs_bodies.specs.Formats.{from};
-    ghost use Rattle.etcs_track.specs.Reports.{IsPositionReportTwo, position_report_two_format};
+    ghost use Rattle.etcs_bodies.specs.Formats.{from, Is};
+    ghost use Rattle.etcs_track.specs.Reports.{position_report_two_format};
     ghost use Rattle.etcs_track.specs.laws.Reports.{position_report_two_codes};
 
     const NID: u8 = 1;
@@ -129,7 +131,7 @@ impl Body for PositionReportTwo {
 
     ghost direction = { λ p. 0 };
 
-    ghost is_value = { λ p. IsPositionReportTwo p };
+    ghost is_value = { λ p. Is position_report_two_format p };
 
     ghost read_from = { λ dir s. directed_from (from position_report_two_format) never (λ d p. p) dir s };
 

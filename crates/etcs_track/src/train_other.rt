@@ -24,15 +24,15 @@ impl Model for TrainOther {
     ghost use Rattle.std.specs.Prelude.{◌≡◌, length, None};
     ghost use Rattle.etcs_tables.specs.declared.row.Way.TheVariants.{ToTrack};
     ghost use Rattle.etcs_flat.specs.Others.{other_fault};
-    ghost use Rattle.etcs_track.specs.TrainOthers.{TrainOtherValue};
+    ghost use Rattle.etcs_track.specs.TrainOthers.{TrainOther};
 
-    ghost Value = { TrainOtherValue };
+    ghost Value = { TrainOther };
 
-    ghost view = { λ p. record { nid = p.nid; body = p.body } };
+    ghost view = { λ s. s };
 
     ghost invariant = { λ p. other_fault ToTrack p.nid 0 (length p.body) ≡ None };
 
-    ghost inverse = { λ v. record { nid = v.nid; body = v.body } };
+    ghost inverse = { λ s. s };
 }
 
 impl TrainOther {

@@ -10,7 +10,7 @@ use Rattle.etcs_tables.specs.declared.row.Way.TheVariants.{ToTrain}
 use Rattle.etcs_tables.specs.Layouts.{Layout, whole, ROW_LIMIT}
 use Rattle.etcs_tables.specs.Rows.{row_to}
 use Rattle.etcs_bodies.specs.Taking.{Left}
-use Rattle.etcs_bodies.specs.Formats.{reading, from}
+use Rattle.etcs_bodies.specs.Formats.{Is, reading, from}
 use Rattle.etcs_bodies.specs.laws.Formats.{codes_of, at_most}
 use Rattle.etcs_bodies.specs.Repeats.{bit_count}
 use Rattle.etcs_bodies.specs.laws.Repeats.{bit_count_is}
@@ -24,15 +24,19 @@ use Rattle.etcs_bodies.specs.PacketCodes.{PacketCodes}
 use Rattle.etcs_bodies.specs.laws.PacketCodes.{packet_codes}
 use Rattle.etcs_bodies.specs.Equality.{IsExact}
 use Rattle.etcs_bodies.specs.laws.Equality.{number_exact, list_exact, both_exact, fields_exact}
-use Rattle.etcs_parts.specs.Links.{LinkValue, link_format}
+use Rattle.etcs_parts.specs.declared.link.Link.{Link}
+use Rattle.etcs_parts.specs.Links.{link_format}
 use Rattle.etcs_parts.specs.laws.Links.{link_ok}
-use Rattle.etcs_parts.specs.Slopes.{SlopeValue, slope_format}
+use Rattle.etcs_parts.specs.declared.slope.Slope.{Slope}
+use Rattle.etcs_parts.specs.Slopes.{slope_format}
 use Rattle.etcs_parts.specs.laws.Slopes.{slope_ok}
-use Rattle.etcs_parts.specs.Speeds.{SpeedValue, speed_format}
+use Rattle.etcs_parts.specs.declared.speed.Speed.{Speed}
+use Rattle.etcs_parts.specs.Speeds.{speed_format}
 use Rattle.etcs_parts.specs.laws.Speeds.{speed_ok}
-use Rattle.etcs_parts.specs.ModeSections.{ModeSectionValue, mode_section_format}
+use Rattle.etcs_parts.specs.declared.mode_section.ModeSection.{ModeSection}
+use Rattle.etcs_parts.specs.ModeSections.{mode_section_format}
 use Rattle.etcs_parts.specs.laws.ModeSections.{mode_section_ok}
-use Rattle.etcs_grouped.specs.Chains.{ChainValue, chain_reading, too_long, chain_of, body_of, IsChain, chain_row, chain_from, linking_reading, IsLinking, gradient_reading, IsGradient, speed_profile_reading, IsSpeedProfile, mode_profile_reading, IsModeProfile}
+use Rattle.etcs_grouped.specs.Chains.{ChainValue, chain_reading, too_long, chain_of, body_of, IsChain, chain_row, chain_from}
 
 -- ---- Its bits.
 
@@ -82,16 +86,16 @@ module _ {V : Type 0} {row : Layout → Layout} {IsV : V → Type 0} {reading : 
 
 -- ---- Of links, slopes, speeds and areas of modes.
 
-pub linking_codes : PacketCodes ToTrain 5 (λ (p : ChainValue LinkValue). p.dir) IsLinking linking_reading (packet_from (chain_from 49 (reading link_format) (from link_format)))
+pub linking_codes : PacketCodes ToTrain 5 (λ (p : ChainValue Link). p.dir) (IsChain (Is link_format) 49 (reading link_format)) (chain_reading (reading link_format)) (packet_from (chain_from 49 (reading link_format) (from link_format)))
 linking_codes = chain_codes (codes_of link_format link_ok) 49 (at_most link_format) 5 refl
 
-pub gradient_codes : PacketCodes ToTrain 21 (λ (p : ChainValue SlopeValue). p.dir) IsGradient gradient_reading (packet_from (chain_from 24 (reading slope_format) (from slope_format)))
+pub gradient_codes : PacketCodes ToTrain 21 (λ (p : ChainValue Slope). p.dir) (IsChain (Is slope_format) 24 (reading slope_format)) (chain_reading (reading slope_format)) (packet_from (chain_from 24 (reading slope_format) (from slope_format)))
 gradient_codes = chain_codes (codes_of slope_format slope_ok) 24 (at_most slope_format) 21 refl
 
-pub speed_profile_codes : PacketCodes ToTrain 27 (λ (p : ChainValue SpeedValue). p.dir) IsSpeedProfile speed_profile_reading (packet_from (chain_from 431 (reading speed_format) (from speed_format)))
+pub speed_profile_codes : PacketCodes ToTrain 27 (λ (p : ChainValue Speed). p.dir) (IsChain (Is speed_format) 431 (reading speed_format)) (chain_reading (reading speed_format)) (packet_from (chain_from 431 (reading speed_format) (from speed_format)))
 speed_profile_codes = chain_codes (codes_of speed_format speed_ok) 431 (at_most speed_format) 27 refl
 
-pub mode_profile_codes : PacketCodes ToTrain 80 (λ (p : ChainValue ModeSectionValue). p.dir) IsModeProfile mode_profile_reading (packet_from (chain_from 55 (reading mode_section_format) (from mode_section_format)))
+pub mode_profile_codes : PacketCodes ToTrain 80 (λ (p : ChainValue ModeSection). p.dir) (IsChain (Is mode_section_format) 55 (reading mode_section_format)) (chain_reading (reading mode_section_format)) (packet_from (chain_from 55 (reading mode_section_format) (from mode_section_format)))
 mode_profile_codes = chain_codes (codes_of mode_section_format mode_section_ok) 55 (at_most mode_section_format) 80 refl
 
 -- ---- Its equality.

@@ -5,7 +5,8 @@ use Rattle.etcs_vars.specs.declared.var.Var.TheVariants.{NID_VBCMK}
 use Rattle.etcs_vars.specs.Vars.{admits}
 use Rattle.etcs_tables.specs.declared.row.Way.TheVariants.{ToTrain}
 use Rattle.etcs_flat.specs.laws.FlatCodes.{flat_codes}
-use Rattle.etcs_flat.specs.Others.{OtherValue, other_value, other_fault}
+use Rattle.etcs_flat.specs.declared.other.Other.{Other as OtherValue}
+use Rattle.etcs_flat.specs.Others.{other_value, other_fault}
 use Rattle.etcs_grouped.specs.laws.BaliseLists.{balise_list_codes}
 use Rattle.etcs_grouped.specs.laws.Chains.{linking_codes, gradient_codes, speed_profile_codes, mode_profile_codes}
 use Rattle.etcs_grouped.specs.laws.Level1Mas.{level1_ma_codes}

@@ -12,7 +12,7 @@ use Rattle.etcs_bodies.specs.laws.Choices.{few_counted}
 use Rattle.etcs_bodies.specs.Codecs.{list_reading}
 use Rattle.etcs_parts.specs.Sections.{section_format, end_format}
 use Rattle.etcs_parts.specs.laws.Sections.{section_ok, end_ok, end_bits}
-use Rattle.etcs_parts.specs.Authorities.{end_timer_format, danger_format, Overlap, overlap_format, groups_format, AuthorityValue, authority_value, authority_format}
+use Rattle.etcs_parts.specs.Authorities.{end_timer_format, danger_format, Overlap, overlap_format, groups_format, Authority, authority_value, authority_format}
 use Rattle.etcs_bodies.specs.Equality.{IsExact}
 use Rattle.etcs_bodies.specs.laws.Equality.{number_exact, fields_exact, both_exact, numbers_exact, option_exact, list_exact}
 use Rattle.etcs_parts.specs.contracts.authority.AuthorityPartialEq.TheImpl as authority_eq
@@ -26,10 +26,10 @@ authority_ok = (λ p. refl, λ v. refl, (section_ok, (end_ok, groups_ok)))
 -- ---- Its bits.
 
 -- all but its sections
-abbrev groups_of : AuthorityValue → Option (ℕ × ℕ) × (Option (ℕ × ℕ) × Option Overlap)
+abbrev groups_of : Authority → Option (ℕ × ℕ) × (Option (ℕ × ℕ) × Option Overlap)
 groups_of p = (p.end_timer, (p.danger_point, p.overlap))
 
-pub few_sections : (p : AuthorityValue) → Is authority_format p → length p.sections ≤ 31
+pub few_sections : (p : Authority) → Is authority_format p → length p.sections ≤ 31
 few_sections p h = few_counted (length p.sections) h.0.0
 
 count_end_timer : (o : Option (ℕ × ℕ)) → bit_count (reading end_timer_format o) ≡ (if is_some o then 26 else 1)
@@ -53,7 +53,7 @@ groups_bits t d o a b c ha hb hc =
     let ec : c ≡ bit_count (reading overlap_format o) = hc ∙ sym (count_overlap o) in
     rw (bit_count_is (reading groups_format (t, (d, o)))) (omega arith)
 
-pub authority_bits : (p : AuthorityValue) (a b c : ℕ) → a ≡ length (spelled (flat_map (reading section_format) p.sections)) → b ≡ length (spelled (reading section_format p.end)) → c ≡ length (spelled (reading groups_format (groups_of p))) → 5 + a + b + c ≡ length (spelled (reading authority_format p))
+pub authority_bits : (p : Authority) (a b c : ℕ) → a ≡ length (spelled (flat_map (reading section_format) p.sections)) → b ≡ length (spelled (reading section_format p.end)) → c ≡ length (spelled (reading groups_format (groups_of p))) → 5 + a + b + c ≡ length (spelled (reading authority_format p))
 authority_bits p a b c ha hb hc =
     let groups = reading groups_format (groups_of p) in
     let sections = bit_count-append (list_reading N_ITER (reading section_format) p.sections) (reading end_format p.end ++ groups) in
@@ -64,7 +64,7 @@ authority_bits p a b c ha hb hc =
     rw (bit_count_is (reading authority_format p)) (omega arith)
 
 -- all of 31 sections, the end section and every group
-pub authority_small : (p : AuthorityValue) → Is authority_format p → length (spelled (reading authority_format p)) ≤ 1414
+pub authority_small : (p : Authority) → Is authority_format p → length (spelled (reading authority_format p)) ≤ 1414
 authority_small p h = rw (bit_count_is (reading authority_format p)) (at_most authority_format p h)
 
 -- ---- Its `==`.
@@ -74,7 +74,7 @@ overlap_exact =
     fields_exact (λ (o : Overlap). (((o.0, o.1), o.2), o.3)) (λ n. (n.0.0.0, n.0.0.1, n.0.1, n.1)) (λ o. refl) (
     both_exact (both_exact numbers_exact number_exact) number_exact)
 
-pub authority_exact : (a b : AuthorityValue) → Decides (authority_eq.ghosts.eq a b) (a ≡ b)
+pub authority_exact : (a b : Authority) → Decides (authority_eq.ghosts.eq a b) (a ≡ b)
 authority_exact =
-    fields_exact (λ (p : AuthorityValue). (p.end_timer, (p.danger_point, (p.overlap, (p.end, p.sections))))) (λ n. authority_value n.1.1.1.1 n.1.1.1.0 n.0 n.1.0 n.1.1.0) (λ p. refl) (
+    fields_exact (λ (p : Authority). (p.end_timer, (p.danger_point, (p.overlap, (p.end, p.sections))))) (λ n. authority_value n.1.1.1.1 n.1.1.1.0 n.0 n.1.0 n.1.1.0) (λ p. refl) (
     both_exact (option_exact numbers_exact) (both_exact (option_exact numbers_exact) (both_exact (option_exact overlap_exact) (both_exact (exact_of section_format section_ok) (list_exact (exact_of section_format section_ok))))))

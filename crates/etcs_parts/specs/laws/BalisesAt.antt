@@ -7,7 +7,7 @@ use Rattle.etcs_bodies.specs.Formats.{reading}
 use Rattle.etcs_bodies.specs.laws.Formats.{IsFormat}
 use Rattle.etcs_bodies.specs.Repeats.{bit_count}
 use Rattle.etcs_bodies.specs.laws.Repeats.{bit_count_is}
-use Rattle.etcs_parts.specs.BalisesAt.{BaliseAtValue, balise_at_value, balise_at_format}
+use Rattle.etcs_parts.specs.BalisesAt.{BaliseAt, balise_at_value, balise_at_format}
 
 pub balise_at_ok : IsFormat balise_at_format
 balise_at_ok = (λ p. refl, λ v. refl, (((refl, refl, refl), tt), tt))
@@ -18,5 +18,5 @@ count : (c : Option ℕ) (n : ℕ) → bit_count (reading balise_at_format (bali
 count None n = refl
 count (Some c) n = refl
 
-pub balise_at_bits : (p : BaliseAtValue) → length (spelled (reading balise_at_format p)) ≡ 15 + 10 * from_bool (is_some p.nid_c)
+pub balise_at_bits : (p : BaliseAt) → length (spelled (reading balise_at_format p)) ≡ 15 + 10 * from_bool (is_some p.nid_c)
 balise_at_bits p = bit_count_is (reading balise_at_format p) ∙ count p.nid_c p.nid_bg

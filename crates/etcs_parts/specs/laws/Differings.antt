@@ -11,7 +11,7 @@ use Rattle.etcs_bodies.specs.Formats.{reading}
 use Rattle.etcs_bodies.specs.laws.Formats.{IsFormat}
 use Rattle.etcs_bodies.specs.Repeats.{bit_count}
 use Rattle.etcs_bodies.specs.laws.Repeats.{bit_count_is}
-use Rattle.etcs_parts.specs.Differings.{DifferingValue, category_var, differing_format, differing_value}
+use Rattle.etcs_parts.specs.Differings.{Differing, category_var, differing_format, differing_value}
 use Rattle.etcs_bodies.specs.laws.Equality.{number_exact, fields_exact, both_exact, numbers_exact}
 use Rattle.etcs_parts.specs.contracts.differing.DifferingPartialEq.TheImpl as differing_eq
 
@@ -32,15 +32,15 @@ category_bits : (b : Bool) → width (category_var b) ≡ 4
 category_bits true = refl
 category_bits false = refl
 
-pub differing_bits : (d : DifferingValue) → bit_count (reading differing_format d) ≡ 13
+pub differing_bits : (d : Differing) → bit_count (reading differing_format d) ≡ 13
 differing_bits d = rw (category_bits (d.q_diff == 0)) refl
 
-pub differing_spelled : (d : DifferingValue) → 13 ≡ length (spelled (reading differing_format d))
+pub differing_spelled : (d : Differing) → 13 ≡ length (spelled (reading differing_format d))
 differing_spelled d = rw (bit_count_is (reading differing_format d), differing_bits d) refl
 
 -- ---- Its `==`.
 
-pub differing_exact : (a b : DifferingValue) → Decides (differing_eq.ghosts.eq a b) (a ≡ b)
+pub differing_exact : (a b : Differing) → Decides (differing_eq.ghosts.eq a b) (a ≡ b)
 differing_exact =
-    fields_exact (λ (p : DifferingValue). (p.q_diff, (p.category, p.v_diff))) (λ n. differing_value n.0 n.1.0 n.1.1) (λ p. refl) (
+    fields_exact (λ (p : Differing). (p.q_diff, (p.category, p.v_diff))) (λ n. differing_value n.0 n.1.0 n.1.1) (λ p. refl) (
     both_exact number_exact numbers_exact)

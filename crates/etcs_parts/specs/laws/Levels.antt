@@ -1,4 +1,4 @@
--- Lemmas about specs/Levels.antt.
+-- Lemmas about specs/Levels.antt and specs/LevelAcks.antt.
 use Rattle.std.proofs.Common.{◌≡◌, ℕ, ◌+◌, ◌*◌, length, Option, Some, None, refl, ◌∙◌, Decides}
 use Rattle.std.specs.Int.{from_bool}
 use Rattle.std.specs.Option.{is_some}
@@ -8,7 +8,8 @@ use Rattle.etcs_bodies.specs.laws.Formats.{IsFormat, exact_of}
 use Rattle.etcs_bodies.specs.Repeats.{bit_count}
 use Rattle.etcs_bodies.specs.laws.Repeats.{bit_count_is}
 use Rattle.etcs_bodies.specs.laws.Equality.{number_exact, fields_exact, both_exact}
-use Rattle.etcs_parts.specs.Levels.{LevelValue, level_value, level_format, LevelAckValue, level_ack_of, level_ack_format}
+use Rattle.etcs_parts.specs.Levels.{Level, level_value, level_format}
+use Rattle.etcs_parts.specs.LevelAcks.{LevelAck, level_ack_format}
 use Rattle.etcs_parts.specs.contracts.level_ack.LevelAckPartialEq.TheImpl as level_ack_eq
 
 pub level_ok : IsFormat level_format
@@ -23,10 +24,10 @@ count : (m : ℕ) (o : Option ℕ) → bit_count (reading level_format (level_va
 count m None = refl
 count m (Some n) = refl
 
-pub level_bits : (p : LevelValue) → length (spelled (reading level_format p)) ≡ 3 + 8 * from_bool (is_some p.nid_ntc)
+pub level_bits : (p : Level) → length (spelled (reading level_format p)) ≡ 3 + 8 * from_bool (is_some p.nid_ntc)
 level_bits p = bit_count_is (reading level_format p) ∙ count p.m_leveltr p.nid_ntc
 
 -- ---- `==` asks for the length first.
 
-pub level_ack_exact : (a b : LevelAckValue) → Decides (level_ack_eq.ghosts.eq a b) (a ≡ b)
-level_ack_exact = fields_exact (λ (p : LevelAckValue). (p.l_ackleveltr, p.level)) (λ n. level_ack_of (n.1, n.0)) (λ p. refl) (both_exact number_exact (exact_of level_format level_ok))
+pub level_ack_exact : (a b : LevelAck) → Decides (level_ack_eq.ghosts.eq a b) (a ≡ b)
+level_ack_exact = fields_exact (λ (p : LevelAck). (p.l_ackleveltr, p.level)) (λ n. record { level = n.1; l_ackleveltr = n.0 }) (λ p. refl) (both_exact number_exact (exact_of level_format level_ok))

@@ -7,7 +7,7 @@ use Rattle.etcs_bodies.specs.Formats.{reading}
 use Rattle.etcs_bodies.specs.laws.Formats.{IsFormat}
 use Rattle.etcs_bodies.specs.Repeats.{bit_count}
 use Rattle.etcs_bodies.specs.laws.Repeats.{bit_count_is}
-use Rattle.etcs_parts.specs.Sections.{SectionValue, section_value, timer_format, section_format, end_format}
+use Rattle.etcs_parts.specs.Sections.{Section, section_value, timer_format, section_format, end_format}
 
 pub timer_ok : IsFormat timer_format
 timer_ok = ((refl, refl, refl), (tt, tt))
@@ -24,11 +24,11 @@ count : (n : ℕ) (t : Option (ℕ × ℕ)) → bit_count (reading section_forma
 count n None = refl
 count n (Some t) = refl
 
-pub section_bits : (p : SectionValue) → length (spelled (reading section_format p)) ≡ 16 + 25 * from_bool (is_some p.timer)
+pub section_bits : (p : Section) → length (spelled (reading section_format p)) ≡ 16 + 25 * from_bool (is_some p.timer)
 section_bits p = bit_count_is (reading section_format p) ∙ count p.length p.timer
 
-same_count : (p : SectionValue) → bit_count (reading end_format p) ≡ bit_count (reading section_format p)
+same_count : (p : Section) → bit_count (reading end_format p) ≡ bit_count (reading section_format p)
 same_count p = refl
 
-pub end_bits : (p : SectionValue) → length (spelled (reading end_format p)) ≡ length (spelled (reading section_format p))
+pub end_bits : (p : Section) → length (spelled (reading end_format p)) ≡ length (spelled (reading section_format p))
 end_bits p = bit_count_is (reading end_format p) ∙ same_count p ∙ sym (bit_count_is (reading section_format p))

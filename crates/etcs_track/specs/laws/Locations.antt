@@ -9,7 +9,7 @@ use Rattle.etcs_bodies.specs.laws.Repeats.{bit_count_is, bit_count-append}
 use Rattle.etcs_bodies.specs.Codecs.{Codes}
 use Rattle.etcs_bodies.specs.Formats.{reading, row, from}
 use Rattle.etcs_bodies.specs.laws.Formats.{IsFormat, codes_of}
-use Rattle.etcs_track.specs.Locations.{integrity_format, level_format, LocatedValue, located_format, IsLocated}
+use Rattle.etcs_track.specs.Locations.{integrity_format, level_format, Located, located_format, IsLocated}
 
 pub located_ok : IsFormat located_format
 located_ok = (λ p. refl, λ v. refl, (tt, (tt, (tt, (tt, (tt, (tt, (tt, (tt, (tt, tt))))))))))
@@ -28,7 +28,7 @@ level_bits : (n : ℕ) (o : Option ℕ) → bit_count (reading level_format (n, 
 level_bits n None = refl
 level_bits n (Some m) = refl
 
-pub located_bits : (p : LocatedValue) → length (spelled (reading located_format p)) ≡ 67 + 15 * from_bool (is_some p.l_trainint) + 8 * from_bool (is_some p.nid_ntc)
+pub located_bits : (p : Located) → length (spelled (reading located_format p)) ≡ 67 + 15 * from_bool (is_some p.l_trainint) + 8 * from_bool (is_some p.nid_ntc)
 located_bits p =
     let rest : Reading = (V_TRAIN, p.v_train) ∷ (Q_DIRTRAIN, p.q_dirtrain) ∷ (M_MODE, p.m_mode) ∷ reading level_format (p.m_level, p.nid_ntc) in
     let after = bit_count-append (reading integrity_format (p.q_length, p.l_trainint)) rest in
@@ -38,5 +38,5 @@ at_most_one : (b : Bool) → from_bool b ≤ 1
 at_most_one true = omega arith
 at_most_one false = omega arith
 
-pub located_small : (p : LocatedValue) → length (spelled (reading located_format p)) ≤ 90
+pub located_small : (p : Located) → length (spelled (reading located_format p)) ≤ 90
 located_small p = omega (arith, located_bits p, at_most_one (is_some p.l_trainint), at_most_one (is_some p.nid_ntc))

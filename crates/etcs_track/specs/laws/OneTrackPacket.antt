@@ -4,7 +4,7 @@ use Rattle.etcs_tables.specs.declared.row.Way.TheVariants.{ToTrack}
 use Rattle.etcs_flat.specs.Others.{other_fault}
 use Rattle.etcs_packets.specs.PacketValues.{kept}
 use Rattle.etcs_packets.specs.laws.Variants.{typed_one, ◌also◌, Every, place, found, value_place, one_value}
-use Rattle.etcs_track.specs.TrainOthers.{TrainOtherValue, train_other_value}
+use Rattle.etcs_track.specs.TrainOthers.{TrainOther, train_other_value}
 use Rattle.etcs_track.specs.laws.Reports.{position_report_codes, position_report_two_codes}
 use Rattle.etcs_track.specs.laws.TrainFlats.{train_flat_codes}
 use Rattle.etcs_track.specs.contracts.train_packet.TrainPacket as packet
@@ -13,7 +13,7 @@ use Rattle.etcs_track.specs.declared.train_packet.TrainPacket.TheVariants.{Repor
 use Rattle.etcs_track.specs.TrackPackets.{track_form, track_value, IsTrackMade}
 
 -- 255 is the number of no typed packet
-other_one : ℕ × ((x y : TrainOtherValue × Unit {0}) → other_fault ToTrack x.0.nid 0 (length x.0.body) ≡ None → other_fault ToTrack y.0.nid 0 (length y.0.body) ≡ None → kept x.0.nid 0 x.0.body ≡ kept y.0.nid 0 y.0.body → x ≡ y)
+other_one : ℕ × ((x y : TrainOther × Unit {0}) → other_fault ToTrack x.0.nid 0 (length x.0.body) ≡ None → other_fault ToTrack y.0.nid 0 (length y.0.body) ≡ None → kept x.0.nid 0 x.0.body ≡ kept y.0.nid 0 y.0.body → x ≡ y)
 other_one = (
   255,
   λ x y hx hy e.

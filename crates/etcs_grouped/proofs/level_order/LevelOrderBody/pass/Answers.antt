@@ -7,7 +7,7 @@ use Rattle.etcs_bodies.specs.laws.Passing.{number_before, number_alone, went_bot
 use Rattle.etcs_grouped.specs.LevelOrders.{level_order_packet}
 use Rattle.etcs_grouped.specs.laws.LevelOrders.{level_order_ok}
 use Rattle.etcs_bodies.specs.Formats.{reading, entries}
-use Rattle.etcs_parts.specs.Levels.{level_ack_format}
+use Rattle.etcs_parts.specs.LevelAcks.{level_ack_format}
 use Rattle.etcs_grouped.proofs.level_order.LevelOrderBody.pass.Goals as goal
 
 pub returns-clause-passed : goal.returns-clause-passed

@@ -1,19 +1,18 @@
 use Rattle.std.proofs.Common.{arith}
-use Rattle.etcs_parts.specs.Speeds.{speed_value}
 use Rattle.etcs_parts.specs.laws.Speeds.{few_entries}
 use Rattle.etcs_parts.proofs.speed.SpeedVariables.bits.Goals as goal
 
 pub returns-clause-small : goal.returns-clause-small
 returns-clause-small c =
-    let few = few_entries (speed_value c.self.inside.d_static c.self.inside.v_static c.self.inside.q_front c.self.inside.differing) c.self.invariant in
+    let few = few_entries c.self.inside c.self.invariant in
     rw c.as_slice.ensures (omega arith)
 
 pub overflow_mul-result : goal.overflow_mul-result
 overflow_mul-result c =
-    let few = few_entries (speed_value c.self.inside.d_static c.self.inside.v_static c.self.inside.q_front c.self.inside.differing) c.self.invariant in
+    let few = few_entries c.self.inside c.self.invariant in
     rw c.as_slice.ensures (omega arith)
 
 pub overflow_add-result : goal.overflow_add-result
 overflow_add-result c =
-    let few = few_entries (speed_value c.self.inside.d_static c.self.inside.v_static c.self.inside.q_front c.self.inside.differing) c.self.invariant in
+    let few = few_entries c.self.inside c.self.invariant in
     rw c.as_slice.ensures (omega arith)

@@ -6,7 +6,7 @@ use Rattle.etcs_bits.proofs.Numbers.{length-num}
 use Rattle.etcs_vars.specs.declared.var.Var.{Var}
 use Rattle.etcs_vars.specs.declared.var.Var.TheVariants.{NID_MESSAGE, L_MESSAGE}
 use Rattle.etcs_vars.specs.Vars.{width}
-use Rattle.etcs_vars.specs.Reading.{Reading, spelled}
+use Rattle.etcs_vars.specs.Reading.{Reading, spelled, IsAdmitted}
 use Rattle.etcs_vars.proofs.Sent.{length-sent}
 use Rattle.etcs_tables.specs.declared.row.Way.{Way}
 use Rattle.etcs_tables.specs.MessageRows.{header_bits}
@@ -14,7 +14,7 @@ use Rattle.etcs_reader.specs.Fields.{ReadsFields}
 use Rattle.etcs_sequence.specs.Labels.{labelled, widths}
 use Rattle.etcs_sequence.proofs.LabelLaws.{labelled_none}
 use Rattle.etcs_tables.specs.Headers.{head_row}
-use Rattle.etcs_messages.specs.Messages.{head_reading, IsAdmitted}
+use Rattle.etcs_messages.specs.Messages.{head_reading}
 use Rattle.etcs_messages.proofs.Ways.{header_is}
 
 pub fields_append : (vs ws : List Var) (a b : Reading) → ReadsFields vs a → ReadsFields ws b → ReadsFields (vs ++ ws) (a ++ b)

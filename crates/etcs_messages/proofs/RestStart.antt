@@ -5,7 +5,7 @@ use Rattle.std.proofs.lemmas.Bool.Decides.{nat_tests}
 use Rattle.etcs_vars.specs.declared.var.Var.{Var}
 use Rattle.etcs_vars.specs.declared.var.Var.TheVariants.{NID_MESSAGE, L_MESSAGE, PADDING, OTHER_DATA}
 use Rattle.etcs_vars.specs.Vars.{inside}
-use Rattle.etcs_vars.specs.Reading.{Reading, spelled, kept}
+use Rattle.etcs_vars.specs.Reading.{Reading, spelled, kept, IsAdmitted}
 use Rattle.etcs_vars.proofs.Languages.{Same}
 use Rattle.etcs_vars.proofs.Prefixes.{admits_parts, admits_from}
 use Rattle.etcs_tables.specs.Layouts.{Layout, Reads}
@@ -15,7 +15,7 @@ use Rattle.etcs_packets.specs.PacketValues.{PacketValue}
 use Rattle.etcs_packets.specs.PacketReadings.{readings_to}
 use Rattle.etcs_sequence.specs.Contents.{PacketsIn, ReadsPackets}
 use Rattle.etcs_reader.specs.Fields.{ReadsFields}
-use Rattle.etcs_messages.specs.Messages.{head_reading, front_of, IsAdmitted, typed_message, kept_message, TypedReads, KeptReads, MessageLanguage}
+use Rattle.etcs_messages.specs.Messages.{head_reading, front_of, typed_message, kept_message, TypedReads, KeptReads, MessageLanguage}
 use Rattle.etcs_messages.specs.Lefts.{own_row, front_after, front_row, front_bits, headed, PacketsFrom, AfterMessageLength, NumberLeft}
 use Rattle.etcs_tables.specs.Headers.{head_row}
 use Rattle.etcs_messages.proofs.Ways.{header_is}

@@ -6,7 +6,7 @@ use Rattle.std.proofs.lemmas.Grind.{flat_map-append}
 use Rattle.std.proofs.lemmas.List.{append-nil, length-append, length-replicate}
 use Rattle.std.proofs.lemmas.List.Elements.{All-head, All-tail, All-append}
 use Rattle.etcs_vars.specs.declared.var.Var.TheVariants.{NID_MESSAGE, L_MESSAGE, PADDING, OTHER_DATA}
-use Rattle.etcs_vars.specs.Reading.{Reading, spelled, kept, Viable}
+use Rattle.etcs_vars.specs.Reading.{Reading, spelled, kept, Viable, IsAdmitted}
 use Rattle.etcs_vars.proofs.Apart.{apart}
 use Rattle.etcs_vars.specs.laws.Spellings.{spelled-append}
 use Rattle.etcs_tables.specs.declared.row.Way.{Way}
@@ -27,7 +27,7 @@ use Rattle.etcs_reader.specs.Fields.{ReadsFields}
 use Rattle.etcs_sequence.specs.Contents.{Carries, ReadsPackets}
 use Rattle.etcs_sequence.specs.laws.Agreement.{packet_agree, packet_fit}
 use Rattle.etcs_sequence.proofs.Fits.{run_some}
-use Rattle.etcs_messages.specs.Messages.{typed_message, kept_message, IsAdmitted, TypedReads, KeptReads, MessageLanguage, head_reading}
+use Rattle.etcs_messages.specs.Messages.{typed_message, kept_message, TypedReads, KeptReads, MessageLanguage, head_reading}
 use Rattle.etcs_messages.specs.Promises.{begun, RoomRule}
 use Rattle.etcs_tables.specs.Headers.{head_row}
 use Rattle.etcs_messages.proofs.Ways.{frame_some}

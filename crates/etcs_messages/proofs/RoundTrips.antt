@@ -41,7 +41,7 @@ module _ {H B P : Type 0} (way : Way) (hd : HeadOf H) (bd : OwnOf B) (form : P �
 -- ---- What was read is written again.
 
 -- a message has one reading
-one_reading : (way : Way) (v : MessageValue) (r q : Reading) → MessageReads way v r → MessageReads way v q → r ≡ q
+pub one_reading : (way : Way) (v : MessageValue) (r q : Reading) → MessageReads way v r → MessageReads way v q → r ≡ q
 one_reading way (typed_message nid h body vs padding) r q x y =
     let len : x.len ≡ y.len = omega (arith, x.bytes, y.bytes) in
     x.reading_is ∙ ap (λ (n : ℕ). head_reading nid n h ++ body ++ readings_to way vs ++ kept PADDING padding) len ∙ sym y.reading_is

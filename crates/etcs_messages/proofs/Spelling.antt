@@ -4,7 +4,7 @@ use Rattle.std.proofs.lemmas.List.{append-nil}
 use Rattle.etcs_bits.specs.Bits.{num}
 use Rattle.etcs_bits.proofs.Numbers.{num_same}
 use Rattle.etcs_vars.specs.declared.var.Var.TheVariants.{NID_MESSAGE, L_MESSAGE, PADDING, OTHER_DATA}
-use Rattle.etcs_vars.specs.Reading.{Sent, Reading, spelled, kept}
+use Rattle.etcs_vars.specs.Reading.{Sent, Reading, spelled, kept, IsAdmitted}
 use Rattle.etcs_vars.proofs.Apart.{Agree, AllFit, Agree-append, AllFit-append, Agree-cut, apart}
 use Rattle.etcs_vars.proofs.Prefixes.{admits_parts}
 use Rattle.etcs_vars.proofs.Walk.{Regular}
@@ -22,7 +22,7 @@ use Rattle.etcs_sequence.specs.laws.Agreement.{run_regular}
 use Rattle.etcs_sequence.proofs.OneSpelling.{packets_same}
 use Rattle.etcs_messages.specs.declared.message.Content.{Content}
 use Rattle.etcs_messages.specs.declared.message.Content.TheVariants.{Typed, Kept}
-use Rattle.etcs_messages.specs.Messages.{MessageValue, typed_message, kept_message, IsAdmitted, TypedReads, KeptReads, MessageReads, MessageLanguage, head_reading, front_of, all_bits, padding_room, IsMessage, message_value}
+use Rattle.etcs_messages.specs.Messages.{MessageValue, typed_message, kept_message, TypedReads, KeptReads, MessageReads, MessageLanguage, head_reading, front_of, all_bits, padding_room, IsMessage, message_value}
 use Rattle.etcs_messages.specs.Promises.{OneSpelling}
 use Rattle.etcs_messages.specs.Kinds.{HeadOf, OwnOf, HeadLaws, OwnLaws}
 use Rattle.etcs_tables.specs.Headers.{head_row}

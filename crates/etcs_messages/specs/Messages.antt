@@ -8,8 +8,7 @@ use Rattle.etcs_vars.specs.declared.fault.BuildFault.{BuildFault}
 use Rattle.etcs_vars.specs.declared.fault.BuildFault.TheVariants.{NotAdmitted, TooLong, FillLength}
 use Rattle.etcs_vars.specs.declared.var.Var.TheVariants.{NID_MESSAGE, L_MESSAGE, NID_PACKET, PADDING, OTHER_DATA}
 use Rattle.etcs_vars.specs.Faults.{◌or_else◌}
-use Rattle.etcs_vars.specs.Vars.{admits}
-use Rattle.etcs_vars.specs.Reading.{Reading, spelled, kept, readings_of}
+use Rattle.etcs_vars.specs.Reading.{Reading, spelled, kept, readings_of, IsAdmitted}
 use Rattle.etcs_tables.specs.declared.row.Way.{Way}
 use Rattle.etcs_tables.specs.declared.row.Way.TheVariants.{ToTrain, ToTrack}
 use Rattle.etcs_tables.specs.Layouts.{Layout, Reads}
@@ -36,11 +35,6 @@ pub data MessageValue : Type 0 where
   typed_message : ℕ → Reading → Reading → List PacketValue → List Bool → MessageValue
   -- its number and the bits that are kept
   kept_message : ℕ → List Bool → MessageValue
-
--- each pair's variable admits its number
-abbrev pub IsAdmitted : Reading → Type 0
-IsAdmitted [] = Unit {0}
-IsAdmitted (p ∷ r) = IsTrue (admits p.0 p.1) × IsAdmitted r
 
 -- how many bits come before the packets, with this body
 abbrev pub front_of : Way → Reading → ℕ

@@ -1,6 +1,6 @@
 -- Laws of messages (SUBSET-026, chapter 8).
 use Rattle.std.specs.Prelude.{◌≡◌, ℕ, ◌*◌, ◌-◌, ◌≤◌, ◌↔◌, ◌⊎◌, Bool, List, [], ◌++◌, length, All, Some}
-use Rattle.etcs_vars.specs.Reading.{Reading, spelled, Viable}
+use Rattle.etcs_vars.specs.Reading.{Reading, spelled, Viable, IsAdmitted}
 use Rattle.etcs_tables.specs.declared.row.Way.{Way}
 use Rattle.etcs_tables.specs.Frames.{frame_bits}
 use Rattle.etcs_rows.specs.declared.frames.Carrier.TheVariants as carrier
@@ -13,7 +13,7 @@ use Rattle.etcs_sequence.specs.Contents.{Carries}
 use Rattle.etcs_messages.specs.Kinds.{HeadOf, OwnOf}
 use Rattle.etcs_tables.specs.Headers.{head_row}
 use Rattle.etcs_messages.specs.declared.message.Content.{Content}
-use Rattle.etcs_messages.specs.Messages.{IsAdmitted, IsMessage, MessageReads, MessageLanguage, head_reading, message_value}
+use Rattle.etcs_messages.specs.Messages.{IsMessage, MessageReads, MessageLanguage, head_reading, message_value}
 
 -- two messages of which one's spelling begins the other's are the same, and nothing follows
 abbrev pub OneSpelling : {H B P : Type 0} → Way → HeadOf H → OwnOf B → (P → Form) → Type 0

@@ -2,12 +2,12 @@
 use Rattle.std.proofs.Common.{◌≡◌, ◌+◌, false, ◌++◌, length, refl, sym, ap, ◌∙◌, arith, append_assoc}
 use Rattle.std.specs.Prelude.{◌≤◌, replicate}
 use Rattle.etcs_vars.specs.declared.var.Var.TheVariants.{FILL, PAD}
-use Rattle.etcs_vars.specs.Reading.{Reading, spelled, numbers, kept}
+use Rattle.etcs_vars.specs.Reading.{Reading, spelled, numbers, kept, IsAdmitted}
 use Rattle.etcs_telegram.specs.declared.size.Size.{Size}
 use Rattle.etcs_telegram.specs.declared.size.Size.TheVariants.{Short, Long}
 use Rattle.etcs_rows.specs.declared.frames.Carrier.TheVariants as carrier
 use Rattle.etcs_sequence.specs.Contents.{ReadsPackets}
-use Rattle.etcs_telegram.specs.Telegrams.{header_reading, header_of, closed_reading, IsAdmitted, packet_room, pad_bits, user_bits, TelegramLanguage}
+use Rattle.etcs_telegram.specs.Telegrams.{header_reading, header_of, closed_reading, packet_room, pad_bits, user_bits, TelegramLanguage}
 use Rattle.etcs_tables.specs.Headers.{header_row}
 use Rattle.etcs_telegram.specs.Phases.{HeaderLeft}
 use Rattle.etcs_telegram.proofs.HeaderLemmas.{header_length}

@@ -3,7 +3,7 @@ use Rattle.std.proofs.Common.{◌≡◌, ℕ, Bool, false, List, ◌++◌, lengt
 use Rattle.std.specs.Prelude.{replicate, map, All}
 use Rattle.std.proofs.lemmas.List.{length-append}
 use Rattle.etcs_vars.specs.declared.var.Var.TheVariants.{FILL, PAD}
-use Rattle.etcs_vars.specs.Reading.{Reading, spelled, numbers, kept}
+use Rattle.etcs_vars.specs.Reading.{Reading, spelled, numbers, kept, IsAdmitted}
 use Rattle.etcs_vars.proofs.Apart.{cut}
 use Rattle.etcs_vars.specs.laws.Spellings.{spelled-append}
 use Rattle.etcs_packets.specs.PacketValues.{PacketValue, packet_value, IsPacket}
@@ -14,7 +14,7 @@ use Rattle.etcs_telegram.specs.declared.size.Size.{Size}
 use Rattle.etcs_telegram.specs.declared.store.TelegramStore.{TelegramStore}
 use Rattle.etcs_telegram.specs.declared.phase.Phase.{Phase}
 use Rattle.etcs_telegram.specs.declared.phase.Phase.TheVariants.{Whole}
-use Rattle.etcs_telegram.specs.Telegrams.{header_reading, header_of, closed_reading, IsAdmitted, IsTelegram, ReadsAs, pad_bits, telegram_value, HeaderValue, TelegramReads, TelegramLanguage}
+use Rattle.etcs_telegram.specs.Telegrams.{header_reading, header_of, closed_reading, IsTelegram, ReadsAs, pad_bits, telegram_value, HeaderValue, TelegramReads, TelegramLanguage}
 use Rattle.etcs_tables.specs.Headers.{header_row}
 use Rattle.etcs_telegram.specs.Headers.{IsHeaderNumbers}
 use Rattle.etcs_telegram.specs.Phases.{beyond_header}

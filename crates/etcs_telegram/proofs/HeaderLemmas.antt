@@ -8,11 +8,11 @@ use Rattle.etcs_vars.specs.declared.fault.BuildFault.TheVariants.{NotAdmitted}
 use Rattle.etcs_vars.specs.declared.var.Var.TheVariants.{M_VERSION_HEADER, N_PIG, N_TOTAL, M_DUP, M_MCOUNT, NID_C, NID_BG, Q_LINK}
 use Rattle.etcs_vars.specs.Vars.{admits}
 use Rattle.etcs_vars.specs.Faults.{◌or_else◌, number_fault}
-use Rattle.etcs_vars.specs.Reading.{Reading, spelled, numbers}
+use Rattle.etcs_vars.specs.Reading.{Reading, spelled, numbers, IsAdmitted}
 use Rattle.etcs_vars.proofs.Apart.{AllFit}
 use Rattle.etcs_vars.proofs.Prefixes.{admits_parts}
 use Rattle.etcs_sequence.proofs.LabelLaws.{length-widths}
-use Rattle.etcs_telegram.specs.Telegrams.{HeaderValue, header_reading, header_of, IsAdmitted}
+use Rattle.etcs_telegram.specs.Telegrams.{HeaderValue, header_reading, header_of}
 use Rattle.etcs_telegram.specs.Headers.{header_fault}
 
 no_first : (e f : Option BuildFault) → e or_else f ≡ None → e ≡ None

@@ -4,7 +4,7 @@ use Rattle.std.specs.Prelude.{All, replicate}
 use Rattle.std.proofs.lemmas.List.{length-replicate}
 use Rattle.std.proofs.lemmas.List.Elements.{All-head, All-tail}
 use Rattle.etcs_vars.specs.declared.var.Var.TheVariants.{NID_PACKET, FILL}
-use Rattle.etcs_vars.specs.Reading.{Sent, Reading, spelled, kept, Viable}
+use Rattle.etcs_vars.specs.Reading.{Sent, Reading, spelled, kept, Viable, IsAdmitted}
 use Rattle.etcs_vars.proofs.Apart.{Agree, apart}
 use Rattle.etcs_vars.specs.laws.Spellings.{spelled-append}
 use Rattle.etcs_rows.proofs.LengthLemmas.{length-spelled}
@@ -13,7 +13,7 @@ use Rattle.etcs_packets.specs.PacketValues.{PacketValue, IsPacket}
 use Rattle.etcs_packets.specs.PacketReadings.{packet_reading, packets_reading}
 use Rattle.etcs_sequence.specs.laws.Agreement.{packet_agree, packet_fit, numbered_below}
 use Rattle.etcs_telegram.specs.declared.size.Size.{Size}
-use Rattle.etcs_telegram.specs.Telegrams.{HeaderValue, TelegramValue, TelegramReads, TelegramLanguage, RoomRule, IsAdmitted, header_reading, closed_reading, user_bits}
+use Rattle.etcs_telegram.specs.Telegrams.{HeaderValue, TelegramValue, TelegramReads, TelegramLanguage, RoomRule, header_reading, closed_reading, user_bits}
 use Rattle.etcs_telegram.specs.Writing.{telegram_reading}
 use Rattle.etcs_telegram.proofs.HeaderLemmas.{header_length, admitted_fit}
 use Rattle.etcs_telegram.proofs.Spellings.{header_agree, zeros}

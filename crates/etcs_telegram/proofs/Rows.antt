@@ -7,9 +7,9 @@ use Rattle.etcs_bits.specs.Bits.{bit}
 use Rattle.etcs_vars.specs.declared.var.Var.{Var}
 use Rattle.etcs_vars.specs.declared.var.Var.TheVariants.{Q_UPDOWN, Q_MEDIA, Q_LINK}
 use Rattle.etcs_vars.specs.Vars.{admits, inside, ranges}
-use Rattle.etcs_vars.specs.Reading.{Reading, numbers}
+use Rattle.etcs_vars.specs.Reading.{Reading, numbers, IsAdmitted}
 use Rattle.etcs_vars.proofs.Prefixes.{admits_parts}
-use Rattle.etcs_telegram.specs.Telegrams.{HeaderValue, header_reading, header_of, IsAdmitted}
+use Rattle.etcs_telegram.specs.Telegrams.{HeaderValue, header_reading, header_of}
 use Rattle.etcs_tables.specs.Headers.{header_row}
 use Rattle.etcs_reader.specs.Fields.{ReadsFields}
 use Rattle.etcs_sequence.specs.Labels.{labelled}

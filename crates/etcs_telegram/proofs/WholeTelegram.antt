@@ -4,7 +4,7 @@ use Rattle.std.proofs.lemmas.Bool.{both_ways}
 use Rattle.etcs_bits.specs.Bits.{num, bits, part}
 use Rattle.etcs_bits.proofs.Lists.{length-part, part-add}
 use Rattle.etcs_bits.proofs.Positions.{length-bits}
-use Rattle.etcs_vars.specs.Reading.{Reading, spelled}
+use Rattle.etcs_vars.specs.Reading.{Reading, spelled, IsAdmitted}
 use Rattle.etcs_packets.specs.declared.packet.Packet.{Packet}
 use Rattle.etcs_packets.specs.PacketValues.{form}
 use Rattle.etcs_rows.specs.declared.frames.Carrier.TheVariants as carrier
@@ -13,7 +13,7 @@ use Rattle.etcs_sequence.specs.Held.{list_holds}
 use Rattle.etcs_sequence.specs.Labels.{labelled}
 use Rattle.etcs_sequence.proofs.LabelLaws.{numbers_labelled}
 use Rattle.etcs_telegram.specs.declared.size.Size.{Size}
-use Rattle.etcs_telegram.specs.Telegrams.{HeaderValue, TelegramValue, TelegramReads, IsTelegram, IsAdmitted, ReadsAs, telegram_value, header_reading, header_of, closed_reading, user_bits, pad_bits, packet_room, container_bytes}
+use Rattle.etcs_telegram.specs.Telegrams.{HeaderValue, TelegramValue, TelegramReads, IsTelegram, ReadsAs, telegram_value, header_reading, header_of, closed_reading, user_bits, pad_bits, packet_room, container_bytes}
 use Rattle.etcs_tables.specs.Headers.{header_row}
 use Rattle.etcs_telegram.specs.Headers.{IsHeaderNumbers}
 use Rattle.etcs_telegram.specs.Fronts.{FieldsIn}

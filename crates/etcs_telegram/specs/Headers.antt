@@ -1,10 +1,10 @@
 -- What is wrong with a header, in the order of its variables (SUBSET-026, 7.5).
 use Rattle.std.specs.Prelude.{◌≡◌, ℕ, List, length, Option}
+use Rattle.etcs_vars.specs.Reading.{IsAdmitted}
 use Rattle.etcs_vars.specs.declared.fault.BuildFault.{BuildFault}
 use Rattle.etcs_vars.specs.declared.var.Var.TheVariants.{M_VERSION_HEADER, N_PIG, N_TOTAL, M_DUP, M_MCOUNT, NID_C, NID_BG}
 use Rattle.etcs_vars.specs.Faults.{◌or_else◌, number_fault}
 use Rattle.etcs_sequence.specs.Labels.{labelled}
-use Rattle.etcs_telegram.specs.Telegrams.{IsAdmitted}
 use Rattle.etcs_tables.specs.Headers.{header_row}
 
 -- the first variable of the header, in the order of sending, that doesn't admit its number

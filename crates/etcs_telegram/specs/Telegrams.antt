@@ -3,8 +3,7 @@
 use Rattle.std.specs.Prelude.{◌≡◌, ℕ, ◌+◌, ◌-◌, ◌≤◌, ◌↔◌, ◌==◌, Bool, false, List, [], ◌∷◌, ◌++◌, length, map, replicate, IsTrue, All, slice_index}
 use Rattle.etcs_bits.specs.Bits.{bit}
 use Rattle.etcs_vars.specs.declared.var.Var.TheVariants.{Q_UPDOWN, M_VERSION_HEADER, Q_MEDIA, N_PIG, N_TOTAL, M_DUP, M_MCOUNT, NID_C, NID_BG, Q_LINK, FILL, PAD}
-use Rattle.etcs_vars.specs.Vars.{admits}
-use Rattle.etcs_vars.specs.Reading.{Reading, spelled, kept, readings_of, Viable}
+use Rattle.etcs_vars.specs.Reading.{Reading, spelled, kept, readings_of, Viable, IsAdmitted}
 use Rattle.etcs_rows.specs.declared.frames.Carrier.TheVariants as carrier
 use Rattle.etcs_packets.specs.declared.packet.Packet.{Packet}
 use Rattle.etcs_packets.specs.PacketValues.{PacketValue, packet_value, IsPacket, IsMade}
@@ -47,11 +46,6 @@ pub record HeaderValue : Type 0 where
 abbrev pub header_reading : HeaderValue → Reading
 header_reading h =
     (Q_UPDOWN, 1) ∷ (M_VERSION_HEADER, h.m_version) ∷ (Q_MEDIA, 0) ∷ (N_PIG, h.n_pig) ∷ (N_TOTAL, h.n_total) ∷ (M_DUP, h.m_dup) ∷ (M_MCOUNT, h.m_mcount) ∷ (NID_C, h.nid_c) ∷ (NID_BG, h.nid_bg) ∷ (Q_LINK, bit h.q_link) ∷ []
-
--- each pair's variable admits its number
-abbrev pub IsAdmitted : Reading → Type 0
-IsAdmitted [] = Unit {0}
-IsAdmitted (p ∷ r) = IsTrue (admits p.0 p.1) × IsAdmitted r
 
 -- what a telegram holds: size, header, packets and the bits of FILL
 pub record TelegramContent : Type 0 where

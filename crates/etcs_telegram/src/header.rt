@@ -35,7 +35,8 @@ impl Model for Header {
 }
 
 impl Header {
-    ghost use Rattle.etcs_telegram.specs.Telegrams.{header_reading, IsAdmitted};
+    ghost use Rattle.etcs_vars.specs.Reading.{IsAdmitted};
+    ghost use Rattle.etcs_telegram.specs.Telegrams.{header_reading};
 
     /// A header of these numbers. Succeeds exactly if each variable admits its number. Q_UPDOWN (1) and Q_MEDIA (0) are
     /// fixed.

@@ -2,9 +2,9 @@
 
 ghost use Rattle.std.specs.Prelude.{◌≡◌, ◌+◌, ◌/◌, ◌%◌, ◌≤◌, ◌^◌, ◌<◌, length, IfSome, IsTrue};
 ghost use Rattle.etcs_bits.specs.Bits.{bits, part};
-ghost use Rattle.etcs_vars.specs.Reading.{spelled};
+ghost use Rattle.etcs_vars.specs.Reading.{spelled, IsAdmitted};
 ghost use Rattle.etcs_vars.specs.Vars.{width, admits};
-ghost use Rattle.etcs_telegram.specs.Telegrams.{header_reading, IsAdmitted};
+ghost use Rattle.etcs_telegram.specs.Telegrams.{header_reading};
 ghost use Rattle.etcs_tables.specs.Headers.{header_row};
 ghost use Rattle.etcs_sequence.specs.Fronts.{FrontAt};
 ghost use Rattle.etcs_telegram.specs.Fronts.{FieldsIn};

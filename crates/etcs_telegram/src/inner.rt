@@ -2,7 +2,8 @@
 //! of a telegram.
 
 ghost use Rattle.std.specs.Prelude.{◌≡◌, map};
-ghost use Rattle.etcs_telegram.specs.Telegrams.{header_reading, telegram_value, IsAdmitted, TelegramReads};
+ghost use Rattle.etcs_vars.specs.Reading.{IsAdmitted};
+ghost use Rattle.etcs_telegram.specs.Telegrams.{header_reading, telegram_value, IsTelegram, TelegramReads};
 ghost use Rattle.etcs_telegram.specs.Writing.{telegram_reading};
 
 use crate::header::Header;
@@ -37,6 +38,13 @@ pub fn header_numbers(header: &Header) -> [u64; 10]
 /// For proofs: each telegram has a reading, which is `telegram_reading` of its value. Does nothing.
 pub fn reads(telegram: &Telegram)
     ensures { TelegramReads (telegram_value telegram.now) (telegram_reading (telegram_value telegram.now)) }
+{
+    telegram.readable();
+}
+
+/// For proofs: each telegram is one that its type admits. Does nothing.
+pub fn hold(telegram: &Telegram)
+    ensures { IsTelegram telegram.now }
 {
     telegram.readable();
 }

@@ -3,9 +3,9 @@
 ghost use Rattle.std.specs.Prelude.{◌≡◌, ◌*◌, ◌≤◌, ◌<◌, ◌^◌, length, IfSome, IsTrue};
 ghost use Rattle.etcs_bits.specs.Bits as bit_lists;
 ghost use Rattle.etcs_bits.specs.Bits.{num, bits};
-ghost use Rattle.etcs_vars.specs.Reading.{Reading, spelled};
+ghost use Rattle.etcs_vars.specs.Reading.{Reading, spelled, IsAdmitted};
 ghost use Rattle.etcs_sequence.specs.AtOnce.{RunFirst};
-ghost use Rattle.etcs_telegram.specs.Telegrams.{IsAdmitted, IsTelegram, ReadsAs, TelegramValue, telegram_value, header_reading, user_bits, pad_bits, container_bytes, packet_room};
+ghost use Rattle.etcs_telegram.specs.Telegrams.{IsTelegram, ReadsAs, TelegramValue, telegram_value, header_reading, user_bits, pad_bits, container_bytes, packet_room};
 ghost use Rattle.etcs_telegram.specs.declared.size.Size.TheVariants.{Long, Short};
 ghost use Rattle.etcs_telegram.specs.Readers.{store_holds, IsTelegramPart};
 

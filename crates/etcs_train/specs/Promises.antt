@@ -1,13 +1,13 @@
 -- Laws of messages to the track (SUBSET-026, chapter 8).
 use Rattle.std.specs.Prelude.{◌≡◌, ℕ, ◌*◌, ◌-◌, ◌≤◌, ◌↔◌, ◌⊎◌, List, [], length, All, Some}
-use Rattle.etcs_vars.specs.Reading.{Reading, spelled, Viable}
+use Rattle.etcs_vars.specs.Reading.{Reading, spelled, Viable, IsAdmitted}
 use Rattle.etcs_tables.specs.declared.row.Way.TheVariants.{ToTrack}
 use Rattle.etcs_tables.specs.Layouts.{Layout, Reads}
 use Rattle.etcs_tables.specs.Rows.{message_row_to}
 use Rattle.etcs_rows.specs.declared.frames.Carrier.TheVariants as carrier
 use Rattle.etcs_packets.specs.PacketValues.{PacketValue}
 use Rattle.etcs_sequence.specs.Contents.{Carries}
-use Rattle.etcs_messages.specs.Messages.{IsAdmitted, head_reading}
+use Rattle.etcs_messages.specs.Messages.{head_reading}
 use Rattle.etcs_messages.specs.Promises as promises
 use Rattle.etcs_messages.specs.Readers as readers
 use Rattle.etcs_track.specs.TrackPackets.{track_form}

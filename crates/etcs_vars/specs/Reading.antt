@@ -1,10 +1,10 @@
 -- Readings: what a list of bits spells, as variables in the order in which they are sent, each with its number. A list
 -- of bits is never described directly: all else follows from readings. Packets, telegrams and messages are languages,
 -- sets of readings (SUBSET-026, 7.4 and 8).
-use Rattle.std.specs.Prelude.{◌≡◌, ℕ, zero, suc, ◌+◌, ◌-◌, ◌≤◌, ◌<◌, Bool, List, [], ◌∷◌, ◌++◌, length, take, map, flat_map, Option, Some, None, nat_lt, if◌then◌else◌}
+use Rattle.std.specs.Prelude.{◌≡◌, ℕ, zero, suc, ◌+◌, ◌-◌, ◌≤◌, ◌<◌, Bool, List, [], ◌∷◌, ◌++◌, length, take, map, flat_map, Option, Some, None, IsTrue, nat_lt, if◌then◌else◌}
 use Rattle.etcs_bits.specs.Bits.{num}
 use Rattle.etcs_vars.specs.declared.var.Var.{Var}
-use Rattle.etcs_vars.specs.Vars.{width}
+use Rattle.etcs_vars.specs.Vars.{width, admits}
 
 -- a variable and its number
 abbrev pub Sent : Type 0
@@ -21,6 +21,11 @@ spelled r = flat_map (λ p. num (width p.0) p.1) r
 -- the numbers of a reading, without their variables
 abbrev pub numbers : Reading → List ℕ
 numbers r = map (λ p. p.1) r
+
+-- each pair's variable admits its number
+abbrev pub IsAdmitted : Reading → Type 0
+IsAdmitted [] = Unit {0}
+IsAdmitted (p ∷ r) = IsTrue (admits p.0 p.1) × IsAdmitted r
 
 -- bits that are kept as they are (FILL, PAD): one pair of the variable, which has width 1, for each bit
 abbrev pub kept : Var → List Bool → Reading

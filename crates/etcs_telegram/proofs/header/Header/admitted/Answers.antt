@@ -1,5 +1,6 @@
 use Rattle.std.proofs.Common.{subst}
-use Rattle.etcs_telegram.specs.Telegrams.{HeaderValue, header_reading, IsAdmitted}
+use Rattle.etcs_vars.specs.Reading.{IsAdmitted}
+use Rattle.etcs_telegram.specs.Telegrams.{HeaderValue, header_reading}
 use Rattle.etcs_telegram.proofs.HeaderLemmas.{header_admitted}
 use Rattle.etcs_telegram.proofs.header.Header.admitted.Goals as goal
 

@@ -1,4 +1,4 @@
-//! Three example programs over the library. The first word picks one, which reads standard input; without a word all of them
+//! Four example programs over the library. The first word picks one, which reads standard input; without a word all of them
 //! run in turn, over their files in the working directory, where the gate puts those of data/.
 #![tactic(auto)]
 
@@ -9,6 +9,7 @@ use std::{env, fs};
 mod log_reader;
 mod programmer;
 mod simulator;
+mod stamper;
 
 fn main(rt: HostRuntime) -> anyhow::Result<ExitCode> {
     match env::args(&rt)?.nth(1) {
@@ -23,8 +24,9 @@ fn one(rt: HostRuntime, name: &str) -> anyhow::Result<ExitCode> {
         "simulator" => simulator::run(rt)?,
         "log_reader" => log_reader::run(rt, BufReader::new(rt.alloc(), rt.reader())?)?,
         "programmer" => programmer::run(rt, BufReader::new(rt.alloc(), rt.reader())?)?,
+        "stamper" => stamper::run(rt, BufReader::new(rt.alloc(), rt.reader())?)?,
         _ => {
-            eprintln!(rt; "usage: etcs_examples [simulator | log_reader | programmer]")?;
+            eprintln!(rt; "usage: etcs_examples [simulator | log_reader | programmer | stamper]")?;
             return Ok(ExitCode::from(2));
         }
     }
@@ -38,5 +40,7 @@ fn all(rt: HostRuntime) -> anyhow::Result<ExitCode> {
     log_reader::run(rt, BufReader::new(rt.alloc(), log)?)?;
     let telegrams = fs::open(&rt, "programmer.txt")?;
     programmer::run(rt, BufReader::new(rt.alloc(), telegrams)?)?;
+    let messages = fs::open(&rt, "stamper.txt")?;
+    stamper::run(rt, BufReader::new(rt.alloc(), messages)?)?;
     Ok(ExitCode::SUCCESS)
 }

@@ -5,7 +5,7 @@ use Rattle.std.proofs.lemmas.List.{length-append}
 use Rattle.serde_json.specs.Data.{Data, array}
 use Rattle.etcs_bits.specs.Bits.{num}
 use Rattle.etcs_bits.proofs.Numbers.{length-num}
-use Rattle.etcs_vars.specs.Reading.{Reading, kept, numbers, spelled}
+use Rattle.etcs_vars.specs.Reading.{Reading, kept, numbers, spelled, IsAdmitted}
 use Rattle.etcs_vars.specs.declared.var.Var.TheVariants.{FILL, PADDING}
 use Rattle.etcs_tables.specs.declared.row.Way.{Way}
 use Rattle.etcs_tables.specs.declared.row.Way.TheVariants.{ToTrain, ToTrack}
@@ -21,7 +21,7 @@ use Rattle.etcs_packets.specs.PacketReadings.{readings_to}
 use Rattle.etcs_packets.proofs.PacketBits.{length-spelled}
 use Rattle.etcs_sequence.specs.laws.BitLaws.{bits_spelled}
 use Rattle.etcs_telegram.specs.declared.size.Size.{Size}
-use Rattle.etcs_telegram.specs.Telegrams.{HeaderValue, IsAdmitted, TelegramReads, TelegramValue, header_of, header_reading, pad_bits, user_bits}
+use Rattle.etcs_telegram.specs.Telegrams.{HeaderValue, TelegramReads, TelegramValue, header_of, header_reading, pad_bits, user_bits}
 use Rattle.etcs_telegram.specs.Writing.{telegram_reading}
 use Rattle.etcs_telegram.proofs.Encoding.{closed_length}
 use Rattle.etcs_telegram.proofs.HeaderLemmas.{header_length}

@@ -10,7 +10,7 @@ use Rattle.etcs_bits.proofs.Numbers.{length-num, num-add}
 use Rattle.etcs_vars.specs.declared.var.Var.{Var}
 use Rattle.etcs_vars.specs.Vars.{admits, width}
 use Rattle.etcs_vars.specs.declared.var.Var.TheVariants.{NID_MESSAGE, L_MESSAGE, PADDING, OTHER_DATA}
-use Rattle.etcs_vars.specs.Reading.{Reading, spelled, kept}
+use Rattle.etcs_vars.specs.Reading.{Reading, spelled, kept, IsAdmitted}
 use Rattle.etcs_tables.specs.declared.row.Way.{Way}
 use Rattle.etcs_tables.specs.Layouts.{Layout, Reads}
 use Rattle.etcs_tables.specs.Rows.{message_row_to}
@@ -25,7 +25,7 @@ use Rattle.etcs_sequence.specs.laws.BitLaws.{bits_spelled}
 use Rattle.etcs_sequence.specs.laws.Framed.{framed_unmarked, typed_framed}
 use Rattle.etcs_sequence.specs.laws.Others.{kept_framed, kept_parts}
 use Rattle.etcs_telegram.specs.declared.size.Size.{Size}
-use Rattle.etcs_telegram.specs.Telegrams.{HeaderValue, IsAdmitted, TelegramReads, TelegramValue, header_reading, pad_bits, user_bits}
+use Rattle.etcs_telegram.specs.Telegrams.{HeaderValue, TelegramReads, TelegramValue, header_reading, pad_bits, user_bits}
 use Rattle.etcs_telegram.specs.Writing.{telegram_reading}
 use Rattle.etcs_telegram.proofs.Encoding.{closed_length, telegram_bits}
 use Rattle.etcs_messages.specs.Messages.{front_of, kept_message, typed_message}

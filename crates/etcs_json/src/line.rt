@@ -4,7 +4,7 @@ ghost use Rattle.std.specs.Prelude.{◌≡◌, ◌+◌, ◌*◌, ◌/◌, ◌^�
 ghost use Rattle.serde_json.specs.Written.{compact_text};
 ghost use Rattle.etcs_bits.specs.Bits.{num};
 ghost use Rattle.etcs_vars.specs.declared.var.Var.TheVariants.{OTHER_DATA};
-ghost use Rattle.etcs_vars.specs.Reading.{Reading, kept, spelled};
+ghost use Rattle.etcs_vars.specs.Reading.{Reading, kept, spelled, IsAdmitted};
 ghost use Rattle.etcs_tables.specs.Layouts.{Reads, layout};
 ghost use Rattle.etcs_rows.specs.declared.frames.Carrier.TheVariants as carrier;
 ghost use Rattle.etcs_packets.specs.PacketValues.{IsPacketTo, PacketValue};
@@ -13,7 +13,7 @@ ghost use Rattle.etcs_reader.specs.Fields.{ReadsFields};
 ghost use Rattle.etcs_tables.specs.Headers.{head_row};
 ghost use Rattle.etcs_sequence.specs.Contents.{Carries};
 ghost use Rattle.etcs_messages.specs.Messages.{kept_message};
-ghost use Rattle.etcs_telegram.specs.Telegrams.{HeaderValue, IsAdmitted, header_reading};
+ghost use Rattle.etcs_telegram.specs.Telegrams.{HeaderValue, header_reading};
 ghost use Rattle.etcs_packet_text.specs.Show.{bit_digit};
 ghost use Rattle.etcs_packet_text.specs.Trees.{packets_tree, pairs_tree};
 ghost use Rattle.etcs_text.specs.Entries.{EntryReads, EntryValue, kind_of, message_kind};

@@ -9,7 +9,6 @@ use Rattle.etcs_vars.specs.Vars.{width}
 use Rattle.etcs_vars.specs.Walking.{Residual, Refuses}
 use Rattle.etcs_vars.specs.Reading.{Reading, spelled, Owner}
 use Rattle.etcs_vars.proofs.Languages.{Same}
-use Rattle.etcs_vars.proofs.Outcomes.{viable_front, none_refused}
 use Rattle.etcs_vars.proofs.Walk.{Regular}
 use Rattle.etcs_rows.proofs.SameReadings.{owner_along, refuses_along}
 use Rattle.etcs_reader.specs.Rests.{Goes, BeginsWith}
@@ -32,14 +31,6 @@ pub accounts_along : (P Q : Reading → Type 0) → Same P Q → (p : Reading) (
 accounts_along P Q same p end.Whole b a = ((same p).0 a.0, a.1, a.2, a.3)
 accounts_along P Q same p (end.Open part) b a = (shows_along P Q same p part.var (num part.count part.bits) b a.0, owner_along P Q same b part.var a.1, a.2)
 accounts_along P Q same p (end.Refused bit part) b a = (shows_along P Q same p part.var (num part.count part.bits) (take bit b) a.0, refuses_along P Q same b bit part.var a.1, a.2)
-
--- ---- Where no bit is refused.
-
-pub whole_unrefused : (L : Reading → Type 0) → Regular L → (p : Reading) (b : List Bool) → Accounts L p end.Whole b → (i : ℕ) (x : Var) → Refuses L b i x → ⊥
-whole_unrefused L regular p b a i x r = none_refused L regular b i x r a.1 a.2 (p, a.0, a.3)
-
-pub open_unrefused : (L : Reading → Type 0) (p : Reading) (part : Part) (b : List Bool) → Accounts L p (end.Open part) b → (i : ℕ) (x : Var) → Refuses L b i x → ⊥
-open_unrefused L p part b a i x r = r.blocked (viable_front L (i + 1) b a.1.viable)
 
 -- ---- Where a reader is: s is left, after whole variables from start on.
 

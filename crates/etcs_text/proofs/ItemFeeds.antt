@@ -1,5 +1,5 @@
 -- What a feed of the reader of a kind returns.
-use Rattle.std.proofs.Common.{◌≡◌, ℕ, Bool, List, Result, Ok, Err, ap, subst, refl}
+use Rattle.std.proofs.Common.{◌≡◌, ℕ, Bool, List, Result, Ok, Err, ap, sym, refl, ◌∙◌}
 use Rattle.etcs_vars.specs.declared.var.Var.{Var}
 use Rattle.etcs_vars.specs.declared.feed.Fed.{Fed}
 use Rattle.etcs_vars.specs.declared.feed.Fed.TheVariants.{More, Done}
@@ -18,7 +18,7 @@ use Rattle.etcs_messages.specs.Messages.{MessageReads, MessageValue}
 use Rattle.etcs_text.specs.declared.entry.Kind.{Kind}
 use Rattle.etcs_text.specs.Entries.{EntryValue, of_telegram, of_message, kind_of, message_kind, EntryReads}
 use Rattle.etcs_text.proofs.ItemKinds.{Language, same_telegrams, same_messages}
-use Rattle.etcs_text.specs.Readers.{progress_of, telegram_item, reading, Feeds, IsStarved, least_bits}
+use Rattle.etcs_text.specs.Readers.{progress_of, telegram_item, reading, IsReading, fault_of, Feeds}
 
 module _ {V : Type 0} (Reads : V → Reading → Type 0) (kind : Kind) (same : Same (readings_of Reads) (Language kind)) where
   none_along : (b : List Bool) → NoneYet (readings_of Reads) b → NoneYet (Language kind) b
@@ -39,41 +39,21 @@ module _ {V W : Type 0} (Reads : W → Reading → Type 0) (value : V → W) (Is
   abbrev as_item : V → EntryValue
   as_item v = item (value v)
 
-  inner_feeds : (seen new : List Bool) (answer : Result Fed ReadFault) (at : inner.Progress V) → inner.Feeds Reads value IsValue least seen new answer at → Feeds (EntryReads kind) seen new answer (progress_of as_item at)
+  inner_feeds : (seen new : List Bool) (answer : Result Fed ReadFault) (at : inner.Progress V) → inner.Feeds Reads value IsValue least seen new answer at → inner.Feeds (EntryReads kind) (λ (e : EntryValue). e) (λ e. Unit {0}) least seen new answer (progress_of as_item at)
   inner_feeds seen new (Ok More) at f = (ap (progress_of as_item) f.0, more_along Reads kind same _ f.1)
-  inner_feeds seen new (Ok (Done k)) at f = (as_item f.0, ap (progress_of as_item) f.1, f.3, (f.4.0, f.4.1, reads (value f.0) f.4.1 f.4.2, f.4.3))
-  inner_feeds seen new (Err (Refused i x)) at f = refused_along Reads kind same _ i x f.1
-  inner_feeds seen new (Err Memory) at f = tt
+  inner_feeds seen new (Ok (Done k)) at f = (as_item f.0, ap (progress_of as_item) f.1, tt, f.3, (f.4.0, f.4.1, reads (value f.0) f.4.1 f.4.2, f.4.3))
+  inner_feeds seen new (Err (Refused i x)) at f = (ap (progress_of as_item) f.0, refused_along Reads kind same _ i x f.1)
+  inner_feeds seen new (Err Memory) at (n, at_is, from, below, viable, front, x, owner, asks, beyond) =
+      (n, ap (progress_of as_item) at_is, from, below, viable_along (readings_of Reads) (Language kind) same _ viable, front, x, owner_along (readings_of Reads) (Language kind) same _ x owner, asks, beyond)
   inner_feeds seen new (Err Ended) at f = absurd f
 
-  -- if it returns that it is out of memory
-  inner_starves : (seen new : List Bool) (at : inner.Progress V) → inner.Feeds Reads value IsValue least seen new (Err Memory) at → IsStarved (EntryReads kind) least seen new
-  inner_starves seen new at (n, at_is, from, below, viable, front, x, owner, asks, beyond) =
-      (n, from, below, viable_along (readings_of Reads) (Language kind) same _ viable, front, x, owner_along (readings_of Reads) (Language kind) same _ x owner, asks, beyond)
+pub telegram_feeds : (s : Size) (seen new : List Bool) (answer : Result Fed ReadFault) (at : inner.Progress TelegramContent) → inner.Feeds (ReadsAs s) telegram_value IsTelegram 50 seen new answer at → Feeds (kind_of s) seen new answer (progress_of telegram_item at)
+telegram_feeds Short = inner_feeds (ReadsAs Short) telegram_value IsTelegram 50 of_telegram (kind_of Short) (same_telegrams Short) (λ t r h. (ap kind_of h.0, h.1))
+telegram_feeds Long = inner_feeds (ReadsAs Long) telegram_value IsTelegram 50 of_telegram (kind_of Long) (same_telegrams Long) (λ t r h. (ap kind_of h.0, h.1))
 
-pub telegram_feeds : (s : Size) (seen new : List Bool) (answer : Result Fed ReadFault) (at : inner.Progress TelegramContent) → inner.Feeds (ReadsAs s) telegram_value IsTelegram 50 seen new answer at → Feeds (EntryReads (kind_of s)) seen new answer (progress_of telegram_item at)
-telegram_feeds s = inner_feeds (ReadsAs s) telegram_value IsTelegram 50 of_telegram (kind_of s) (same_telegrams s) (λ t r h. (ap kind_of h.0, h.1))
-
-pub message_feeds : {V : Type 0} (way : Way) (value : V → MessageValue) (IsMessage : V → Type 0) (seen new : List Bool) (answer : Result Fed ReadFault) (at : inner.Progress V) → inner.Feeds (MessageReads way) value IsMessage 18 seen new answer at → Feeds (EntryReads (message_kind way)) seen new answer (progress_of (λ (v : V). of_message way (value v)) at)
-message_feeds way value IsMessage = inner_feeds (MessageReads way) value IsMessage 18 (of_message way) (message_kind way) (same_messages way) (λ m r h. (refl, h))
-
-pub telegram_starves : (s : Size) (seen new : List Bool) (answer : Result Fed ReadFault) (at : inner.Progress TelegramContent) → inner.Feeds (ReadsAs s) telegram_value IsTelegram 50 seen new answer at → answer ≡ Err Memory → IsStarved (EntryReads (kind_of s)) (least_bits (kind_of s)) seen new
-telegram_starves s seen new answer at f e =
-    let here = subst (λ (z : Result Fed ReadFault). inner.Feeds (ReadsAs s) telegram_value IsTelegram 50 seen new z at) e f in
-    subst (λ (n : ℕ). IsStarved (EntryReads (kind_of s)) n seen new) (of s) (inner_starves (ReadsAs s) telegram_value IsTelegram 50 of_telegram (kind_of s) (same_telegrams s) (λ t r h. (ap kind_of h.0, h.1)) seen new at here)
-  where
-    of : (z : Size) → 50 ≡ least_bits (kind_of z)
-    of Short = refl
-    of Long = refl
-
-pub message_starves : {V : Type 0} (way : Way) (value : V → MessageValue) (IsMessage : V → Type 0) (seen new : List Bool) (answer : Result Fed ReadFault) (at : inner.Progress V) → inner.Feeds (MessageReads way) value IsMessage 18 seen new answer at → answer ≡ Err Memory → IsStarved (EntryReads (message_kind way)) (least_bits (message_kind way)) seen new
-message_starves way value IsMessage seen new answer at f e =
-    let here = subst (λ (z : Result Fed ReadFault). inner.Feeds (MessageReads way) value IsMessage 18 seen new z at) e f in
-    subst (λ (n : ℕ). IsStarved (EntryReads (message_kind way)) n seen new) (of way) (inner_starves (MessageReads way) value IsMessage 18 (of_message way) (message_kind way) (same_messages way) (λ m r h. (refl, h)) seen new at here)
-  where
-    of : (w : Way) → 18 ≡ least_bits (message_kind w)
-    of ToTrain = refl
-    of ToTrack = refl
+pub message_feeds : {V : Type 0} (way : Way) (value : V → MessageValue) (IsMessage : V → Type 0) (seen new : List Bool) (answer : Result Fed ReadFault) (at : inner.Progress V) → inner.Feeds (MessageReads way) value IsMessage 18 seen new answer at → Feeds (message_kind way) seen new answer (progress_of (λ (v : V). of_message way (value v)) at)
+message_feeds ToTrain value IsMessage = inner_feeds (MessageReads ToTrain) value IsMessage 18 (of_message ToTrain) (message_kind ToTrain) (same_messages ToTrain) (λ m r h. (refl, h))
+message_feeds ToTrack value IsMessage = inner_feeds (MessageReads ToTrack) value IsMessage 18 (of_message ToTrack) (message_kind ToTrack) (same_messages ToTrack) (λ m r h. (refl, h))
 
 -- ---- The progress of the reader inside.
 
@@ -82,3 +62,23 @@ inner_reading item (inner.reading b) seen h = let e : b ≡ seen = cc in ap inne
 inner_reading item (inner.finished v) seen h = absurd cc
 inner_reading item (inner.stopped i x) seen h = absurd cc
 inner_reading item (inner.starved n) seen h = absurd cc
+
+-- ---- After the end.
+
+module _ {V : Type 0} (item : V → EntryValue) where
+  ended : (at : inner.Progress V) → (IsReading (progress_of item at) → ⊥) → IsReading at → ⊥
+  ended (inner.reading b) h r = h tt
+  ended (inner.finished v) h r = r
+  ended (inner.stopped i x) h r = r
+  ended (inner.starved n) h r = r
+
+  same_fault : (at : inner.Progress V) → fault_of (progress_of item at) ≡ fault_of at
+  same_fault (inner.reading b) = refl
+  same_fault (inner.finished v) = refl
+  same_fault (inner.stopped i x) = refl
+  same_fault (inner.starved n) = refl
+
+  pub inner_after : (at : inner.Progress V) (answer : Result Fed ReadFault) {Same : Type 0} → ((IsReading at → ⊥) → Same × (answer ≡ Err (fault_of at))) → (IsReading (progress_of item at) → ⊥) → Same × (answer ≡ Err (fault_of (progress_of item at)))
+  inner_after at answer after h =
+      let (same, is) = after (ended at h) in
+      (same, is ∙ ap Err (sym (same_fault at)))

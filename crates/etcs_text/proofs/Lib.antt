@@ -4,6 +4,7 @@ pub mod JsonExamples
 pub mod MessageExamples
 pub mod MessageTexts
 pub mod Refusals
+pub mod Sames
 pub mod SeenItems
 pub mod TelegramTexts
 pub mod TextLengths

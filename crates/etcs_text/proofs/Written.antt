@@ -1,6 +1,6 @@
 -- Pairs that are those of an item, and pairs that are those of none.
 use denote.Enum.Bare.{same_true, true_same}
-use Rattle.std.proofs.Common.{◌≡◌, ℕ, ◌*◌, ◌%◌, ◌≤◌, ◌<◌, Bool, false, List, [], ◌∷◌, ◌++◌, length, take, drop, refl, sym, ap, subst, ◌∙◌, arith}
+use Rattle.std.proofs.Common.{◌≡◌, ◌%◌, ◌<◌, Bool, false, List, [], ◌++◌, length, take, drop, refl, sym, ap, subst, ◌∙◌, arith}
 use Rattle.std.specs.Bool.{Decides}
 use Rattle.std.specs.Prelude.{◌&&◌}
 use Rattle.std.specs.Cmp.Lexicographic.{pointwise}
@@ -13,7 +13,7 @@ use Rattle.etcs_vars.specs.contracts.var.Var.{the_type}
 use Rattle.etcs_vars.specs.contracts.var.VarPartialEq.TheImpl as variable
 use Rattle.etcs_vars.specs.declared.var.Var.{Var}
 use Rattle.etcs_vars.specs.Reading.{Reading, Sent, spelled, readings_of, NoneYet, IsOutcome, done}
-use Rattle.etcs_vars.proofs.Apart.{Agree, AllFit, apart}
+use Rattle.etcs_vars.proofs.Apart.{apart}
 use Rattle.etcs_vars.proofs.Walk.{Regular}
 use Rattle.etcs_text.specs.declared.entry.Kind.{Kind}
 use Rattle.etcs_text.specs.Pairs.{ItemLanguage, PairsRead}
@@ -27,23 +27,25 @@ item_regular kind = record {
   fit = λ a l. (kind_regular kind).fit a ((same_items kind a).0 l);
 }
 
+pub one_spelling : (kind : Kind) (p q : Reading) (beyond : List Bool) → ItemLanguage kind p → ItemLanguage kind q → spelled q ≡ spelled p ++ beyond → (p ≡ q) × (beyond ≡ [])
+one_spelling kind p q beyond l m e = let regular = item_regular kind in apart p q beyond [] (regular.agree p q l m) (regular.fit p l) (regular.fit q m) (sym e ∙ sym (append-nil (spelled q)))
+
 -- bits that are the spelling of an item begin with no other one
-one_item : (kind : Kind) (pairs p : Reading) (b : List Bool) → b ≡ spelled pairs → IsOutcome (PairsRead kind) b (done p (length (spelled p))) → ItemLanguage kind pairs → p ≡ pairs
+pub one_item : (kind : Kind) (pairs p : Reading) (b : List Bool) → b ≡ spelled pairs → IsOutcome (PairsRead kind) b (done p (length (spelled p))) → ItemLanguage kind pairs → p ≡ pairs
 one_item kind pairs p b e (le, r, (r_is, l), spells) m =
     let n = length (spelled p) in
-    let regular = item_regular kind in
     let front : spelled p ≡ take n b = ap spelled (sym r_is) ∙ spells in
-    let whole : spelled p ++ drop n b ≡ spelled pairs ++ [] = ap (λ (t : List Bool). t ++ drop n b) front ∙ take-append-drop n b ∙ e ∙ sym (append-nil (spelled pairs)) in
-    (apart p pairs (drop n b) [] (regular.agree p pairs l m) (regular.fit p l) (regular.fit pairs m) whole).0
+    (one_spelling kind p pairs (drop n b) l m (sym e ∙ sym (take-append-drop n b) ∙ ap (λ (t : List Bool). t ++ drop n b) (sym front))).0
 
 pub whole_decided : (kind : Kind) (pairs p : Reading) (b : List Bool) → b ≡ spelled pairs → IsOutcome (PairsRead kind) b (done p (length (spelled p))) → (same : Bool) → Decides same (p ≡ pairs) → Decides same (ItemLanguage kind pairs)
 whole_decided kind pairs p b e o same d = (λ is. subst (ItemLanguage kind) (d.0 is) o.2.1, λ m. d.1 (one_item kind pairs p b e o m))
 
+-- nor are they the spelling of one if no front of them is
+pub none_item : (kind : Kind) (pairs : Reading) (b : List Bool) → b ≡ spelled pairs → NoneYet (readings_of (PairsRead kind)) b → ItemLanguage kind pairs → ⊥
+none_item kind pairs b e none m = none (length b) (omega arith) (pairs, (pairs, (refl, m)), sym e ∙ sym (take_all (length b) b (omega arith)))
+
 pub none_decided : (kind : Kind) (pairs : Reading) (b : List Bool) → b ≡ spelled pairs → NoneYet (readings_of (PairsRead kind)) b → Decides false (ItemLanguage kind pairs)
-none_decided kind pairs b e none = (
-  λ is. absurd (true≢false (sym is)),
-  λ m. absurd (none (length b) (omega arith) (pairs, (pairs, (refl, m)), sym e ∙ sym (take_all (length b) b (omega arith)))),
-)
+none_decided kind pairs b e none = (λ is. absurd (true≢false (sym is)), λ m. absurd (none_item kind pairs b e none m))
 
 -- an item has whole bytes, at most 1,023
 pub long_none : (kind : Kind) (pairs : Reading) → (length (spelled pairs) % 8 ≡ 0 → 8184 < length (spelled pairs)) → ItemLanguage kind pairs → ⊥

@@ -6,7 +6,7 @@ use Rattle.etcs_bits.specs.Bits.{bits, num, part}
 use Rattle.etcs_bits.proofs.Lists.{length-part}
 use Rattle.etcs_bits.proofs.Owned.{bits-take}
 use Rattle.etcs_bits.proofs.Positions.{length-bits}
-use Rattle.etcs_vars.specs.Reading.{IsOutcome, Reading, done, spelled}
+use Rattle.etcs_vars.specs.Reading.{IsOutcome, Reading, done, spelled, IsAdmitted}
 use Rattle.etcs_tables.specs.declared.row.Way.{Way}
 use Rattle.etcs_rows.specs.declared.frames.Carrier.{Carrier}
 use Rattle.etcs_rows.specs.declared.frames.Carrier.TheVariants as carrier
@@ -19,7 +19,7 @@ use Rattle.etcs_messages.specs.Messages.{MessageValue, all_bits, kept_message, m
 use Rattle.etcs_messages.specs.Readings.{body_of, head_of, kept_of, nid_of_message, packets_of, padding_bits_of, padding_of}
 use Rattle.etcs_messages.specs.Outlines.{BeginsWith}
 use Rattle.etcs_telegram.specs.declared.size.Size.{Size}
-use Rattle.etcs_telegram.specs.Telegrams.{HeaderValue, IsAdmitted, container_bytes, header_reading, packet_room, pad_bits, user_bits}
+use Rattle.etcs_telegram.specs.Telegrams.{HeaderValue, container_bytes, header_reading, packet_room, pad_bits, user_bits}
 use Rattle.etcs_telegram.proofs.Encoding.{room_more}
 use Rattle.etcs_telegram.proofs.WholeTelegram.{ReadsFront, seen_reads}
 use Rattle.etcs_packet_text.specs.Fronts.{Begins}

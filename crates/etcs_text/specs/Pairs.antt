@@ -4,12 +4,22 @@ use Rattle.etcs_bits.specs.Bits.{num}
 use Rattle.etcs_vars.specs.Vars.{width}
 use Rattle.etcs_vars.specs.Reading.{Reading, spelled, Outcome, done, refused, more}
 use Rattle.etcs_tables.specs.declared.row.Way.TheVariants.{ToTrain, ToTrack}
+use Rattle.etcs_packets.specs.PacketValues.{form}
+use Rattle.etcs_track.specs.TrackPackets.{track_form}
 use Rattle.etcs_telegram.specs.declared.size.Size.TheVariants as size
-use Rattle.etcs_telegram.specs.Telegrams.{TelegramLanguage}
+use Rattle.etcs_telegram.specs.Telegrams.{IsTelegram, TelegramLanguage, telegram_value}
+use Rattle.etcs_telegram.specs.Writing.{telegram_reading}
 use Rattle.etcs_messages.specs.Messages.{MessageLanguage}
+use Rattle.etcs_messages.specs.Readings.{message_reading}
+use Rattle.etcs_radio.specs.Bodies.{radio_head, radio_body}
+use Rattle.etcs_radio.specs.Messages as radio
+use Rattle.etcs_train.specs.Bodies.{train_head, train_body}
+use Rattle.etcs_train.specs.Messages as train
 use Rattle.etcs_text.specs.Accounts.{Shows}
 use Rattle.etcs_text.specs.declared.account.End.{End}
 use Rattle.etcs_text.specs.declared.account.End.TheVariants.{Whole, Open, Refused}
+use Rattle.etcs_text.specs.declared.entry.Entry.{Entry}
+use Rattle.etcs_text.specs.declared.entry.Entry.TheVariants as entry
 use Rattle.etcs_text.specs.declared.entry.Kind.{Kind}
 use Rattle.etcs_text.specs.declared.entry.Kind.TheVariants.{Long, Short, Radio, Train}
 
@@ -36,3 +46,17 @@ abbrev pub IsUpTo : (Reading → Type 0) → Reading → End → List Bool → T
 IsUpTo L p Whole b = Unit {0}
 IsUpTo L p (Open part) b = Shows L p part.var (num part.count part.bits) b × (part.count < width part.var)
 IsUpTo L p (Refused bit part) b = Shows L p part.var (num part.count part.bits) (take bit b) × (part.count < width part.var)
+
+-- ---- Of values.
+
+-- the variables of an item with their numbers, in the order of sending
+abbrev pub entry_reading : Entry → Reading
+entry_reading (entry.Telegram t) = telegram_reading (telegram_value t)
+entry_reading (entry.Message m) = message_reading ToTrain radio_head radio_body form m
+entry_reading (entry.Train m) = message_reading ToTrack train_head train_body track_form m
+
+-- what the type of the telegram or of the message keeps
+abbrev pub IsEntry : Entry → Type 0
+IsEntry (entry.Telegram t) = IsTelegram t
+IsEntry (entry.Message m) = radio.IsMessage m
+IsEntry (entry.Train m) = train.IsMessage m

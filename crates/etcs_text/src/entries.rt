@@ -2,9 +2,8 @@
 
 ghost use Rattle.std.specs.Prelude.{◌≡◌, List, Bool, [], Err, OnErr, OnOk, IfOk, length};
 ghost use Rattle.etcs_bits.specs.Bits.{bits};
-ghost use Rattle.etcs_vars.specs.declared.feed.ReadFault.TheVariants.{Memory};
-ghost use Rattle.etcs_text.specs.Entries.{EntryReads, EntryValue, entry_value};
-ghost use Rattle.etcs_text.specs.Readers.{Feeds, IsStarved, least_bits, reading, finished};
+ghost use Rattle.etcs_text.specs.Entries.{EntryValue, entry_value};
+ghost use Rattle.etcs_text.specs.Readers.{Feeds, IsReading, fault_of, finished, reading};
 
 use crate::{Entry, Kind};
 use etcs_radio::MessageReader;
@@ -62,14 +61,12 @@ impl EntryReader {
         }
     }
 
-    /// Takes the next piece of an item that isn't whole yet. Of all its bits so far, in whatever pieces they came:
-    /// `Done` with the count of this piece's bytes up to the end of the item that the bits up to there spell; `More` if
-    /// the bits begin an item of the kind and no front of them is one.
+    /// Takes the next piece. Of all bits of the item so far, in whatever pieces they came: `Done` with the count of this
+    /// piece's bytes up to the end of the item that the bits up to there spell; `More` if the bits begin an item of the
+    /// kind and no front of them is one.
     ///
-    /// This is promised while the reader is reading an item: from [`EntryReader::new`] or a successful
-    /// [`EntryReader::next`] on, as long as `feed` returns `More`. No clause promises what it returns after `Done`,
-    /// `Refused` or `Memory`. After `Done`, take the item by `next` before feeding further bytes; after the others,
-    /// make a new reader. The kind never changes.
+    /// After `Done`, take the item by [`EntryReader::next`] before feeding further bytes; after `Refused` or `Memory`, make
+    /// a new reader.
     ///
     /// # Errors
     ///
@@ -78,11 +75,14 @@ impl EntryReader {
     /// - `Memory` if out of memory, at a bit with which an item continues, after at least 50 bits of a telegram or 18
     ///   of a message; one variable holds that bit, which is neither Q_DIR, PAD nor PADDING, nor one that is in the
     ///   front of messages alone, nor NID_LRBG in a header.
-    /// - `Ended` never while it is reading an item.
+    /// - `Ended` after `Done`.
+    ///
+    /// After `Refused` or `Memory` each later feed returns the same, after `Done` it returns `Ended`. The reader then doesn't
+    /// change. Its kind never does.
     #[inline(always)]
     pub fn feed(&mut self, piece: &[u8]) -> Result<Fed, ReadFault>
-        ensures answer { (seen : List Bool) → self.old.progress ≡ reading seen → Feeds (EntryReads self.old.kind) seen (bits piece.now) result self.new.progress }
-        ensures memory { (seen : List Bool) → self.old.progress ≡ reading seen → result ≡ Err Memory → IsStarved (EntryReads self.old.kind) (least_bits self.old.kind) seen (bits piece.now) }
+        ensures answer { (seen : List Bool) → self.old.progress ≡ reading seen → Feeds self.old.kind seen (bits piece.now) result self.new.progress }
+        ensures after { (IsReading self.old.progress → ⊥) → (self.new ≡ self.old) × (result ≡ Err (fault_of self.old.progress)) }
         ensures kind { self.new.kind ≡ self.old.kind }
     {
         match &mut self.inner {

@@ -4,10 +4,11 @@ ghost use Rattle.std.specs.Prelude.{◌≡◌, ◌*◌, ◌<◌, ◌%◌, ◌++�
 ghost use Rattle.std.specs.Bool.{Decides, MatchBool};
 ghost use Rattle.etcs_bits.specs.Bits.{bits};
 ghost use Rattle.etcs_vars.specs.Reading.{IsOutcome, spelled};
-ghost use Rattle.etcs_text.specs.Pairs.{IsUpTo, ItemLanguage, PairsRead, outcome_of};
+ghost use Rattle.etcs_text.specs.Entries.{entry_kind, entry_value};
+ghost use Rattle.etcs_text.specs.Pairs.{IsEntry, IsUpTo, ItemLanguage, PairsRead, entry_reading, outcome_of};
 
 use crate::seen::MOST_BYTES;
-use crate::{Account, End, Kind};
+use crate::{Account, End, Entry, Kind};
 use etcs_vars::{Var, WordSink};
 use std::alloc::{AllocError, Global};
 
@@ -115,4 +116,24 @@ pub fn write_pairs(
     }
     out.extend_from_slice(bytes.as_slice())?;
     Ok(true)
+}
+
+/// For proofs: each item is one that its type admits. Does nothing.
+pub(crate) fn hold(entry: &Entry)
+    ensures { IsEntry entry.now }
+{
+    match entry {
+        Entry::Telegram(telegram) => etcs_telegram::inner::hold(telegram),
+        Entry::Message(message) => etcs_messages::inner::hold(message),
+        Entry::Train(message) => etcs_messages::inner::hold(message),
+    }
+}
+
+/// Returns whether two items are of one kind and have the same pairs of variable and number: exactly if they are equal.
+pub fn same_pairs(first: &Entry, second: &Entry) -> bool
+    ensures { Decides result ((entry_kind (entry_value first.now) ≡ entry_kind (entry_value second.now)) × (entry_reading first.now ≡ entry_reading second.now)) }
+{
+    hold(first);
+    hold(second);
+    first == second
 }

@@ -48,6 +48,6 @@ returns-clause-verdict c =
           let var = w.in-Err-Refused.var in
           let is : ◌≡◌ {A = Result Fed ReadFault} c.feed.result (Err (Refused bit var)) = w.in-Err-Refused.is ∙ ap Err w.in-Err-Refused.field-0-is in
           let f = fed_as s.kind s.reader bytes c.feed.result (Err (Refused bit var)) at c.self.invariant is c.feed.ensures.answer in
-          verdict_by s.kind bytes _ _ w.verdict-is (none_of_refused s.kind bytes bit var at f, f)
+          verdict_by s.kind bytes _ _ w.verdict-is (none_of_refused s.kind bytes bit var at f, f.1)
       | in-Err-Memory w ↦ rw w.verdict-is tt
     ])

@@ -4,6 +4,7 @@ pub use etcs_bits;
 pub use etcs_group;
 pub use etcs_json;
 pub use etcs_packets;
+pub use etcs_places;
 pub use etcs_radio;
 pub use etcs_reasons;
 pub use etcs_rows;

@@ -11,6 +11,7 @@ pub use etcs_packets::{
     ReportParameters, Section, Shown, Slope, Speed, SpeedProfile, TextFrame, TrackCondition,
     TrackState,
 };
+pub use etcs_places::{Place, places};
 pub use etcs_radio::{Body, Message, MessageReader, RadioHead};
 pub use etcs_reasons::{Account, Reason, why};
 pub use etcs_tables::Way;
@@ -20,7 +21,7 @@ pub use etcs_telegram::{
 };
 pub use etcs_text::{
     Entry, EntryReader, Kind, SingleReader, Verdict, check_line, encoded, hex_line, json_line,
-    read_pairs, show_lines, write_pairs,
+    read_pairs, same_pairs, show_lines, write_pairs,
 };
 pub use etcs_track::{
     Located, PositionReport, PositionReportTwo, TrainFlat, TrainOther, TrainPacket,

@@ -1,7 +1,8 @@
 -- The digits of lines as people have them: what is read, and what isn't.
-use Rattle.std.proofs.Common.{◌≡◌, ◌∷◌, refl}
+use Rattle.std.proofs.Common.{◌≡◌, ℕ, List, [], ◌∷◌, map, refl}
 use Rattle.std.specs.Prelude.{codes}
-use Rattle.etcs_runs.specs.Digits.{line_digits, line_front}
+use Rattle.etcs_runs.specs.Digits.{line_digits, line_front, text_digits}
+use Rattle.etcs_runs.specs.LineRuns.{front_of, line_runs}
 
 pub after_a_name : line_digits (codes "data=A113140C40FFC14022A1") ≡ codes "A113140C40FFC14022A1"
 after_a_name = refl
@@ -247,3 +248,35 @@ front_quoted_pairs = refl
 
 pub front_long_comment : line_front (codes "12:00:03 A113140C40FFC14022A1 # seen by 0123456789abcdef0123") ≡ codes "12:00:03"
 front_long_comment = refl
+
+-- ---- The runs of a line, and what is before the last bytes of one.
+
+abbrev pub runs : List ℕ → List (List ℕ)
+runs line = map text_digits (line_runs line)
+
+pub an_id_before : runs (codes "id 0123456789abcdef0123, A113140C40FFC14022A1") ≡ codes "A113140C40FFC14022A1" ∷ codes "0123456789abcdef0123" ∷ []
+an_id_before = refl
+
+pub one_run : runs (codes "12:00:03 A113140C40FFC14022A1") ≡ codes "A113140C40FFC14022A1" ∷ []
+one_run = refl
+
+pub two_in_a_word : runs (codes "A113140C40FFC14022A1:x:A113140C40FFC14022A2") ≡ codes "A113140C40FFC14022A2" ∷ codes "A113140C40FFC14022A1" ∷ []
+two_in_a_word = refl
+
+pub few_digits_have_none_before : runs (codes "retry 17") ≡ codes "17" ∷ []
+few_digits_have_none_before = refl
+
+pub no_run : runs (codes "state machine: idle") ≡ [] ∷ []
+no_run = refl
+
+pub front_of_the_last_pairs : front_of 10 (codes "len=27 A1 13 14 0C 40 FF C1 40 22 A1") ≡ codes "len=27"
+front_of_the_last_pairs = refl
+
+pub front_of_all_pairs : front_of 11 (codes "len=27 A1 13 14 0C 40 FF C1 40 22 A1") ≡ codes "len="
+front_of_all_pairs = refl
+
+pub front_inside_of_a_word : front_of 10 (codes "x 27A113140C40FFC14022A1") ≡ codes "x 27"
+front_inside_of_a_word = refl
+
+pub front_between_dots : front_of 10 (codes "27.A1.13.14.0C.40.FF.C1.40.22.A1") ≡ codes "27."
+front_between_dots = refl

@@ -1,13 +1,13 @@
 -- What is before the digits of a line.
 use Rattle.std.proofs.Common.{◌≡◌, ℕ, zero, suc, ◌+◌, ◌-◌, ◌<◌, ◌≤◌, Bool, true, false, cond, not, ◌&&◌, List, [], ◌∷◌, ◌++◌, length, take, drop, drop-cons, slice_index, refl, sym, ap, ◌∙◌, arith}
 use Rattle.std.specs.List.{list_all}
-use Rattle.std.proofs.lemmas.List.{append-nil, append_assoc, take-append-drop, take_more, take-take, length-take}
+use Rattle.std.proofs.lemmas.List.{append-nil, append_assoc, length-append, take-append-drop, take_more, take-take, length-take}
 use Rattle.etcs_runs.specs.Digits.{are_enough, before_digits, before_end, before_last, before_words, begins_comment, end_front, group_words, is_blank, is_gap, is_group, is_joint, kept, last_first, line_front, passed_words, read_text, text_digits, without_comment, without_end, without_mark, word_parts}
-use Rattle.etcs_runs.proofs.LastWords.{both}
+use Rattle.etcs_runs.proofs.LastWords.{both, not_true}
 
 -- ---- The end of a text.
 
-all_with : (b c : Bool) → b ≡ true → c ≡ true → (b && c) ≡ true
+pub all_with : (b c : Bool) → b ≡ true → c ≡ true → (b && c) ≡ true
 all_with true c h g = g
 all_with false c h g = cc h
 
@@ -16,14 +16,20 @@ all_longer at t n lt here all =
     let more : suc n ≡ n + 1 = omega arith in
     ap (list_all at) (drop-cons t n 0 lt) ∙ all_with (at (slice_index t n)) (list_all at (drop (suc n) t)) here (ap (λ (k : ℕ). list_all at (drop k t)) more ∙ all)
 
-without_end-all : (at : ℕ → Bool) (t : List ℕ) → list_all at t ≡ true → without_end at t ≡ []
+pub without_end-all : (at : ℕ → Bool) (t : List ℕ) → list_all at t ≡ true → without_end at t ≡ []
 without_end-all at [] h = refl
 without_end-all at (c ∷ cs) h =
     let p = both (at c) (list_all at cs) h in
     ap (kept (at c) c) (without_end-all at cs p.1) ∙ ap (λ (b : Bool). kept b c []) p.0
 
+pub without_end-none : (at : ℕ → Bool) (t : List ℕ) → list_all (λ c. not (at c)) t ≡ true → without_end at t ≡ t
+without_end-none at [] h = refl
+without_end-none at (c ∷ cs) h =
+    let p = both (not (at c)) (list_all (λ x. not (at x)) cs) h in
+    ap (kept (at c) c) (without_end-none at cs p.1) ∙ ap (λ (b : Bool). kept b c cs) (not_true (at c) p.0)
+
 -- characters that may go
-without_end-append : (at : ℕ → Bool) (xs ys : List ℕ) → list_all at ys ≡ true → without_end at (xs ++ ys) ≡ without_end at xs
+pub without_end-append : (at : ℕ → Bool) (xs ys : List ℕ) → list_all at ys ≡ true → without_end at (xs ++ ys) ≡ without_end at xs
 without_end-append at [] ys h = without_end-all at ys h
 without_end-append at (c ∷ cs) ys h = ap (kept (at c) c) (without_end-append at cs ys h)
 
@@ -37,7 +43,7 @@ without_end-kept : (at : ℕ → Bool) (xs : List ℕ) (c : ℕ) → at c ≡ fa
 without_end-kept at [] c h = ap (λ (b : Bool). kept b c []) h
 without_end-kept at (x ∷ xs) c h = ap (kept (at x) x) (without_end-kept at xs c h) ∙ kept_some (at x) x xs c
 
-without_end-first : (at : ℕ → Bool) (t : List ℕ) (n : ℕ) → n ≤ length t → (0 < n → at (slice_index t (n - 1)) ≡ false) → without_end at (take n t) ≡ take n t
+pub without_end-first : (at : ℕ → Bool) (t : List ℕ) (n : ℕ) → n ≤ length t → (0 < n → at (slice_index t (n - 1)) ≡ false) → without_end at (take n t) ≡ take n t
 without_end-first at t zero le last = refl
 without_end-first at t (suc n) le last =
     let less : n ≡ suc n - 1 = omega arith in
@@ -92,7 +98,7 @@ without_end-begins at (c ∷ cs) = kept_begins (at c) c cs (without_end at cs) (
 before_last-begins : (at : ℕ → Bool) (t : List ℕ) → Begins t (before_last at t)
 before_last-begins at t = further t (without_end at t) (before_last at t) (without_end-begins at t) (without_end-begins (λ c. not (at c)) (without_end at t))
 
-before_words-begins : (at : ℕ → Bool) (n : ℕ) (t : List ℕ) → Begins t (before_words at n t)
+pub before_words-begins : (at : ℕ → Bool) (n : ℕ) (t : List ℕ) → Begins t (before_words at n t)
 before_words-begins at zero t = whole t
 before_words-begins at (suc n) t = further t (before_last at t) (before_words at n (before_last at t)) (before_last-begins at t) (before_words-begins at n (before_last at t))
 
@@ -104,10 +110,15 @@ end_front-begins : (ws : List (List ℕ)) (t : List ℕ) → Begins t (end_front
 end_front-begins [] t = whole t
 end_front-begins (w ∷ ws) t = either_begins (is_group w) t _ _ (before_words-begins is_gap (group_words (w ∷ ws)) t) (before_words-begins is_joint (word_parts w) t)
 
-before_digits-begins : (text : List ℕ) → Begins text (before_digits text)
+pub before_digits-begins : (text : List ℕ) → Begins text (before_digits text)
 before_digits-begins text =
     let rest = before_words is_gap (passed_words text) text in
     further text rest (before_digits text) (before_words-begins is_gap (passed_words text) text) (end_front-begins (last_first is_gap rest) rest)
+
+pub before_digits-shorter : (text front : List ℕ) → front ≡ before_digits text → length front ≤ length text
+before_digits-shorter text front is =
+    let begins = before_digits-begins text in
+    omega (arith, ap length begins.1, length-append (before_digits text) begins.0, ap length is)
 
 comment_begins : (b : Bool) (c : ℕ) (cs xs : List ℕ) → Begins cs xs → Begins (c ∷ cs) (cond b [] (c ∷ xs))
 comment_begins true c cs xs h = (c ∷ cs, refl)

@@ -107,10 +107,21 @@ module _ (at : ℕ → Bool) (t : List ℕ) (end start : ℕ) (some : 0 < end) (
     | inr other ↦ omega (arith, front, begins, other)
   ]
 
+  word_is : drop start (take end t) ≡ take (end - start) (drop start t)
+  word_is =
+      let less = begins_before in
+      let sum : start + (end - start) ≡ end = omega (arith, less) in
+      ap (λ (k : ℕ). drop start (take k t)) (sym sum) ∙ drop-take start (end - start) t
+
+  pub last_parts : list_all (λ c. not (at c)) (drop start (take end t)) ≡ true → (take end t ≡ take start t ++ take (end - start) (drop start t)) × (list_all (λ c. not (at c)) (take (end - start) (drop start t)) ≡ true)
+  last_parts all =
+      let less = begins_before in (
+        sym (take-append-drop start (take end t)) ∙ ap (λ (z : List ℕ). z ++ drop start (take end t)) (take-take start end t (omega (arith, less))) ∙ ap (λ (z : List ℕ). take start t ++ z) word_is,
+        ap (list_all (λ c. not (at c))) (sym word_is) ∙ all,
+      )
+
   pub last_word_at : words at t ≡ words at (take end t) → list_all (λ c. not (at c)) (drop start (take end t)) ≡ true → words at t ≡ words at (take start t) ++ take (end - start) (drop start t) ∷ []
   last_word_at same all =
       let less = begins_before in
       let whole = last_word at (take end t) start (omega (arith, front, less)) all before in
-      let sum : start + (end - start) ≡ end = omega (arith, less) in
-      let word : drop start (take end t) ≡ take (end - start) (drop start t) = ap (λ (k : ℕ). drop start (take k t)) (sym sum) ∙ drop-take start (end - start) t in
-      same ∙ whole ∙ ap (λ (z : List ℕ). words at z ++ drop start (take end t) ∷ []) (take-take start end t (omega (arith, less))) ∙ ap (λ (z : List ℕ). words at (take start t) ++ z ∷ []) word
+      same ∙ whole ∙ ap (λ (z : List ℕ). words at z ++ drop start (take end t) ∷ []) (take-take start end t (omega (arith, less))) ∙ ap (λ (z : List ℕ). words at (take start t) ++ z ∷ []) word_is

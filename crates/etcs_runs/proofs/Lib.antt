@@ -6,6 +6,9 @@ pub mod Decoding
 pub mod Runs
 pub mod Pure
 pub mod Fronts
+pub mod Befores
+pub mod Starts
+pub mod Lengths
 pub mod Comments
 pub mod Printing
 pub mod Endings

@@ -1,10 +1,10 @@
 -- The digits of words, the last first.
-use Rattle.std.proofs.Common.{◌≡◌, ℕ, Bool, true, cond, eqb, false, List, [], ◌∷◌, ◌++◌, length, map, reverse, ap, ◌∙◌}
+use Rattle.std.proofs.Common.{◌≡◌, ℕ, zero, suc, ◌+◌, arith, sym, Bool, true, cond, eqb, false, List, [], ◌∷◌, ◌++◌, length, map, reverse, ap, ◌∙◌}
 use Rattle.std.specs.List.{list_all}
 use Rattle.std.proofs.lemmas.Bool.{eqb-true}
 use Rattle.std.proofs.lemmas.List.{append_assoc, map-append, reverse-append}
 use Rattle.hex.specs.Hex.{is_hex_digit}
-use Rattle.etcs_runs.specs.Digits.{are_digits, are_enough, bare, found_words, last_first, run, searched, searched_words, words}
+use Rattle.etcs_runs.specs.Digits.{are_digits, are_enough, bare, before_last, before_words, found_words, last_first, run, run_words, searched, searched_words, words}
 use Rattle.etcs_runs.proofs.LastWords.{both}
 
 pub last_first-last : (at : ℕ → Bool) (t before word : List ℕ) → words at t ≡ words at before ++ word ∷ [] → last_first at t ≡ bare word ∷ last_first at before
@@ -34,3 +34,28 @@ no_words at t h = ap (λ (z : List (List ℕ)). reverse (map bare z)) h
 -- words that never have enough digits
 pub found_words-none : (digits_of : List (List ℕ) → List ℕ) (words_of : List (List ℕ) → ℕ) (ws : List (List ℕ)) → searched digits_of ws ≡ [] → found_words digits_of words_of ws ≡ words_of ws
 found_words-none digits_of words_of ws is = ap (λ (z : List ℕ). cond (are_enough z) (searched_words digits_of words_of ws) (words_of ws)) is
+
+-- ---- What is before words that have n digits each.
+
+pub before_more : (at : ℕ → Bool) (n : ℕ) (rest before w : List ℕ) (ws : List (List ℕ)) → last_first at rest ≡ w ∷ ws → are_digits n w ≡ true → before ≡ before_last at rest → before_words at (run_words n (last_first at rest)) rest ≡ before_words at (run_words n ws) before
+before_more at n rest before w ws is digit front =
+    ap (λ (z : List (List ℕ)). before_words at (run_words n z) rest) is
+    ∙ ap (λ (b : Bool). before_words at (cond b (suc (run_words n ws)) 0) rest) digit
+    ∙ ap (before_words at (run_words n ws)) (sym front)
+
+pub before_other : (at : ℕ → Bool) (n : ℕ) (rest w : List ℕ) (ws : List (List ℕ)) → last_first at rest ≡ w ∷ ws → are_digits n w ≡ false → before_words at (run_words n (last_first at rest)) rest ≡ rest
+before_other at n rest w ws is other =
+    ap (λ (z : List (List ℕ)). before_words at (run_words n z) rest) is
+    ∙ ap (λ (b : Bool). before_words at (cond b (suc (run_words n ws)) 0) rest) other
+
+pub before_none : (at : ℕ → Bool) (n : ℕ) (rest : List ℕ) → words at rest ≡ [] → before_words at (run_words n (last_first at rest)) rest ≡ rest
+before_none at n rest none = ap (λ (z : List (List ℕ)). before_words at (run_words n z) rest) (no_words at rest none)
+
+-- words before words
+pub before_words-add : (at : ℕ → Bool) (n m : ℕ) (text : List ℕ) → before_words at (n + m) text ≡ before_words at m (before_words at n text)
+before_words-add at zero m text =
+    let sum : 0 + m ≡ m = omega arith in
+    ap (λ k. before_words at k text) sum
+before_words-add at (suc n) m text =
+    let sum : suc n + m ≡ suc (n + m) = omega arith in
+    ap (λ k. before_words at k text) sum ∙ before_words-add at n m (before_last at text)

@@ -199,6 +199,10 @@ found_words digits_of words_of ws = if are_enough (searched digits_of ws) then s
 abbrev pub word_parts : List ℕ → ℕ
 word_parts word = found_words groups group_words (last_first is_joint word)
 
+-- how many of them are after its digits
+abbrev pub passed_parts : List ℕ → ℕ
+passed_parts word = found_words groups (λ ws. 0) (last_first is_joint word)
+
 -- how many words of a text are after its digits
 abbrev pub passed_words : List ℕ → ℕ
 passed_words text = found_words end_digits (λ ws. 0) (last_first is_gap text)
@@ -216,8 +220,12 @@ before_end text = end_front (last_first is_gap text) text
 abbrev pub before_digits : List ℕ → List ℕ
 before_digits text = before_end (before_words is_gap (passed_words text) text)
 
+-- what is before the digits of a text, without blanks, tabs and CRs at the end
+abbrev pub text_front : List ℕ → List ℕ
+text_front text = without_end is_blank (before_digits text)
+
 -- What is before the digits of a line: before the first of the words or parts that have them, without a byte order mark in
 -- front and blanks, tabs and CRs at the end. A `0x` in front of the digits belongs to them; no other character that touches
 -- them does. If there are no digits, all of the line but the mark and these blanks
 abbrev pub line_front : List ℕ → List ℕ
-line_front line = without_end is_blank (before_digits (read_text (without_mark line)))
+line_front line = text_front (read_text (without_mark line))

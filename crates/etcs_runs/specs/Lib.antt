@@ -11,4 +11,6 @@ pub mod Digits
 pub mod Cuts
 pub mod Answers
 pub mod Finds
+pub mod LineRuns
+pub mod RunTexts
 pub mod laws

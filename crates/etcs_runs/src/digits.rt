@@ -2,13 +2,15 @@
 
 ghost use Rattle.std.specs.Prelude.{◌≡◌, ◌+◌, ◌-◌, ◌*◌, ◌/◌, ◌<◌, ◌≤◌, Ok, Err, IsTrue, drop, false, find, length, not};
 ghost use Rattle.hex.specs.Hex.{decode_of};
-ghost use Rattle.etcs_runs.specs.Digits.{are_digits, is_blank, is_passed_over, line_digits, says_nothing, words};
+ghost use Rattle.etcs_runs.specs.Digits.{are_digits, before_words, is_blank, is_passed_over, last_first, line_digits, run_words, says_nothing, words};
+ghost use Rattle.etcs_runs.specs.Cuts.{parts_at};
 ghost use Rattle.etcs_runs.specs.Answers.{Says};
 ghost use Rattle.etcs_runs.specs.Finds.{digits_of};
 
-use crate::found::{Found, find};
-use crate::hexadecimal::{decode, is_digit};
-use crate::words::{bare, is_blank, last_word, without_mark};
+use crate::found::Found;
+use crate::hexadecimal::decode;
+use crate::run::Run;
+use crate::words::{bare, is_blank, last_word};
 
 /// Why a line has no bytes, as [`line_bytes`] finds its digits.
 #[derive(Clone, Copy, Debug, PartialEq, Eq)]
@@ -23,7 +25,7 @@ pub enum NoBytes {
 }
 
 /// Whether the word has `count` digits, whose bytes are then at the end of the buffer.
-fn is_taken(word: &[u8], count: usize, buffer: &mut [u8]) -> bool
+pub(crate) fn is_taken(word: &[u8], count: usize, buffer: &mut [u8]) -> bool
     requires room { length word.now ≤ 2 * length buffer.old }
     requires even { count ≡ 2 * (count / 2) }
     ensures good { result ≡ are_digits count word.now }
@@ -34,18 +36,20 @@ fn is_taken(word: &[u8], count: usize, buffer: &mut [u8]) -> bool
     word.len() == count && decode(word, &mut buffer[start..])
 }
 
-/// Writes the bytes of the digits to the end of the buffer.
-fn take(found: Found, buffer: &mut [u8]) -> Result<usize, NoBytes>
+/// Writes the bytes of the digits to the end of the buffer, and returns how many these are, and the text before the words
+/// that have them; before the last of these, if no other counts.
+pub(crate) fn take<'a>(found: Found<'a>, buffer: &mut [u8]) -> (Result<usize, NoBytes>, &'a [u8])
     requires room { length found.before.now + length found.word.now ≤ 2 * length buffer.old }
-    ensures digits { Says (digits_of found.entry.cut found.entry.size found.entry.before.now found.entry.word.now) result buffer.new }
+    ensures digits { Says (digits_of found.entry.cut found.entry.size found.entry.before.now found.entry.word.now) result.0 buffer.new }
+    ensures rest { 0 < length found.entry.before.now → result.1.now ≡ before_words (parts_at found.entry.cut) (run_words found.entry.size (last_first (parts_at found.entry.cut) found.entry.before.now)) found.entry.before.now }
     ensures room { length buffer.new ≡ length buffer.old }
 {
     let count = found.word.len();
     if count == 0 {
-        return Err(NoBytes::NoDigits);
+        return (Err(NoBytes::NoDigits), found.before);
     }
     if count % 2 == 1 {
-        return Err(NoBytes::OddDigits(count));
+        return (Err(NoBytes::OddDigits(count)), found.before);
     }
     is_taken(found.word, count, buffer);
     let end = buffer.len();
@@ -53,12 +57,12 @@ fn take(found: Found, buffer: &mut [u8]) -> Result<usize, NoBytes>
     let mut rest = found.before;
     while let Some((before, word)) = last_word(found.cut, rest) {
         if !is_taken(bare(word), found.size, &mut buffer[..at]) {
-            return Ok(end - at);
+            return (Ok(end - at), rest);
         }
         at -= found.size / 2;
         rest = before;
     }
-    Ok(end - at)
+    (Ok(end - at), rest)
 }
 
 /// The first character that isn't a blank, a tab or a CR.
@@ -69,7 +73,7 @@ fn first_character(line: &[u8]) -> Option<u8>
 }
 
 /// Whether a line is blank or a comment.
-fn is_empty(line: &[u8]) -> bool
+pub(crate) fn is_empty(line: &[u8]) -> bool
     ensures { result ≡ says_nothing (words is_blank line.now) }
 {
     match first_character(line) {
@@ -103,13 +107,8 @@ pub fn line_bytes(line: &[u8], buffer: &mut [u8]) -> Result<usize, NoBytes>
     ensures digits { is_passed_over line.now ≡ false → Says (line_digits line.now) result buffer.new }
     ensures room { length buffer.new ≡ length buffer.old }
 {
-    let count = line.len();
-    if count > 2 && count % 2 == 0 && is_digit(line[2]) && is_taken(line, count, buffer) {
-        return Ok(count / 2);
+    match Run::last(line, buffer) {
+        Some(run) => run.bytes,
+        None => Err(NoBytes::Empty),
     }
-    let line = without_mark(line);
-    if is_empty(line) {
-        return Err(NoBytes::Empty);
-    }
-    take(find(line), buffer)
 }

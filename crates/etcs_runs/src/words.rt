@@ -1,13 +1,17 @@
 //! The words of a line, their digits, and its comment.
 
-ghost use Rattle.std.specs.Prelude.{◌≡◌, ◌+◌, ◌-◌, ◌<◌, ◌≤◌, ◌++◌, ◌∷◌, IfSome, IsNone, [], drop, false, length, not, slice_index, take, true};
+ghost use Rattle.std.specs.Prelude.{◌≡◌, ◌+◌, ◌-◌, ◌<◌, ◌≤◌, ◌++◌, ◌∷◌, IfSome, IsNone, IsTrue, [], drop, false, length, not, slice_index, take, true};
 ghost use Rattle.std.specs.List.{list_all};
 ghost use Rattle.hex.specs.Hex.{is_hex_digit};
 ghost use Rattle.etcs_runs.specs.Digits.{bare, before_last, begins_comment, group_size, is_blank, is_gap, is_group, is_mark, is_size, is_x, last_first, without_comment, without_end, without_mark, words};
 ghost use Rattle.etcs_runs.specs.Cuts.{parts_at};
+ghost use Rattle.etcs_runs.specs.Finds.{IsKnown};
 
 use crate::hexadecimal::is_digit;
 use memchr::memchr3;
+
+/// How many digits an item has at least: the shortest messages have ten bytes.
+pub(crate) const ENOUGH: usize = 20;
 
 /// The characters at which a text is cut into words.
 #[derive(Clone, Copy)]
@@ -91,6 +95,8 @@ pub(crate) fn last_word(cut: Cut, text: &[u8]) -> Option<(&[u8], &[u8])>
     ensures some { IfSome result (λ p. words (parts_at cut) text.now ≡ words (parts_at cut) p.0.now ++ p.1.now ∷ []) }
     ensures short { IfSome result (λ p. (0 < length p.1.now) × (length p.0.now + length p.1.now ≤ length text.now)) }
     ensures before { IfSome result (λ p. p.0.now ≡ before_last (parts_at cut) text.now) }
+    ensures word { IfSome result (λ p. (without_end (parts_at cut) text.now ≡ p.0.now ++ p.1.now) × (list_all (λ c. not (parts_at cut c)) p.1.now ≡ true)) }
+    ensures edge { IfSome result (λ p. 0 < length p.0.now → parts_at cut (slice_index p.0.now (length p.0.now - 1)) ≡ true) }
 {
     let end = end_of_word(cut, text);
     if end == 0 {
@@ -98,6 +104,30 @@ pub(crate) fn last_word(cut: Cut, text: &[u8]) -> Option<(&[u8], &[u8])>
     }
     let start = start_of_word(cut, &text[..end]);
     Some((&text[..start], &text[start..end]))
+}
+
+/// The last word of a text that is cut at gaps, as `last_word`: it begins at `start`, if that isn't the text's length.
+pub(crate) fn last_from(start: usize, text: &[u8]) -> Option<(&[u8], &[u8])>
+    requires known { IsKnown text.now start }
+    ensures none { IsNone result → words is_gap text.now ≡ [] }
+    ensures some { IfSome result (λ p. words is_gap text.now ≡ words is_gap p.0.now ++ p.1.now ∷ []) }
+    ensures short { IfSome result (λ p. (0 < length p.1.now) × (length p.0.now + length p.1.now ≤ length text.now)) }
+    ensures before { IfSome result (λ p. p.0.now ≡ before_last is_gap text.now) }
+    ensures word { IfSome result (λ p. (without_end is_gap text.now ≡ p.0.now ++ p.1.now) × (list_all (λ c. not (is_gap c)) p.1.now ≡ true)) }
+    ensures edge { IfSome result (λ p. 0 < length p.0.now → is_gap (slice_index p.0.now (length p.0.now - 1)) ≡ true) }
+{
+    if start < text.len() {
+        Some((&text[..start], &text[start..]))
+    } else {
+        last_word(Cut::Gaps, text)
+    }
+}
+
+/// A text without blanks, tabs and CRs at its end.
+pub(crate) fn without_blanks(text: &[u8]) -> &[u8]
+    ensures { result.now ≡ without_end is_blank text.now }
+{
+    &text[..end_of_word(Cut::Blanks, text)]
 }
 
 /// Whether the character is an x.
@@ -136,6 +166,13 @@ pub(crate) fn is_of_digits(word: &[u8]) -> bool
     ensures { result ≡ list_all is_hex_digit word.now }
 {
     word.iter().all(|character| is_digit(*character))
+}
+
+/// Whether a word is digits alone, enough for an item. One that doesn't end with a digit isn't searched from its front.
+pub(crate) fn is_long(word: &[u8]) -> bool
+    ensures { IsTrue result → (20 ≤ length word.now) × (list_all is_hex_digit word.now ≡ true) }
+{
+    word.len() >= ENOUGH && is_digit(word[word.len() - 1]) && is_of_digits(word)
 }
 
 /// Whether groups may have `count` digits: an even number, of at most 16.

@@ -37,7 +37,7 @@ fresh kind r k p i = record { kind = k i; progress = p i }
 
 module _ (job : Job) (r : ReaderValue) (before : Reported) (bytes text : List ℕ) (waits : Awaits job.kind r) where
   -- all of them, and the item isn't whole
-  pub more_front : (r' : ReaderValue) (n : ℕ) → r'.kind ≡ r.kind → 0 < length bytes → before.count < 1000000 → n ≡ length bytes → Feeds (EntryReads job.kind) (seen_bits r.progress) (bits bytes) (Ok More) r'.progress → TakesFront job r r' before before bytes text text n
+  pub more_front : (r' : ReaderValue) (n : ℕ) → r'.kind ≡ r.kind → 0 < length bytes → before.count < 1000000 → n ≡ length bytes → Feeds job.kind (seen_bits r.progress) (bits bytes) (Ok More) r'.progress → TakesFront job r r' before before bytes text text n
   more_front r' n kind some less all f =
       let advances = more_advances job.kind job.command (seen_bits r.progress) bytes r'.progress before text f in
       record {
@@ -50,7 +50,7 @@ module _ (job : Job) (r : ReaderValue) (before : Reported) (bytes text : List �
       }
 
   -- up to the item's end, and it was reported
-  pub done_front : (mid r' : ReaderValue) (after : Reported) (text' : List ℕ) (k : ℕ) (f : Feeds (EntryReads job.kind) (seen_bits r.progress) (bits bytes) (Ok (Done k)) mid.progress) → r' ≡ record { kind = job.kind; progress = reading [] } → after.count ≡ before.count + 1 → before.count < 1000000 → (added : List ℕ) × OutputsItem job.command f.0 before added after × (text' ≡ text ++ added) → TakesFront job r r' before after bytes text text' k
+  pub done_front : (mid r' : ReaderValue) (after : Reported) (text' : List ℕ) (k : ℕ) (f : Feeds job.kind (seen_bits r.progress) (bits bytes) (Ok (Done k)) mid.progress) → r' ≡ record { kind = job.kind; progress = reading [] } → after.count ≡ before.count + 1 → before.count < 1000000 → (added : List ℕ) × OutputsItem job.command f.0 before added after × (text' ≡ text ++ added) → TakesFront job r r' before after bytes text text' k
   done_front mid r' after text' k f next one less outputs =
       let none : seen_bits r'.progress ≡ [] = ap (λ (z : ReaderValue). seen_bits z.progress) next in
       record {
@@ -67,7 +67,7 @@ module _ (job : Job) (r : ReaderValue) (before : Reported) (bytes text : List �
   seen_front none after text' k e is one less outputs =
       let same : 8 * k ≡ 0 + 8 * k = omega arith in
       let whole : IsOutcome (EntryReads job.kind) (seen_bits r.progress ++ bits bytes) (done e (length (seen_bits r.progress) + 8 * k)) = subst (λ (b : List Bool). IsOutcome (EntryReads job.kind) (b ++ bits bytes) (done e (length b + 8 * k))) (sym none) (subst (λ (n : ℕ). IsOutcome (EntryReads job.kind) (bits bytes) (done e n)) same is) in
-      done_front (record { kind = job.kind; progress = finished e }) r after text' k (e, refl, is.0, whole) (fresh job.kind r waits.kind_is (waits.progress_is ∙ ap reading none)) one less outputs
+      done_front (record { kind = job.kind; progress = finished e }) r after text' k (e, refl, tt, is.0, whole) (fresh job.kind r waits.kind_is (waits.progress_is ∙ ap reading none)) one less outputs
 
   pub seen_fronts : (o : Option ℕ) → length (seen_bits r.progress) ≡ 0 → (after : Reported) (text' : List ℕ) → before.count < 1000000 → IfSome o (λ n. after.count ≡ before.count + 1) → IfSome o (λ n. (n ≤ length bytes) × (e : EntryValue) × IsOutcome (EntryReads job.kind) (bits bytes) (done e (8 * n)) × (added : List ℕ) × OutputsItem job.command e before added after × (text' ≡ text ++ added)) → IfSome o (λ n. TakesFront job r r before after bytes text text' n)
   seen_fronts None none after text' less one there = tt

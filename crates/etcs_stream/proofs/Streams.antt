@@ -14,7 +14,7 @@ use Rattle.etcs_vars.specs.Reading.{spelled, NoneYet, Viable}
 use Rattle.etcs_vars.specs.Walking.{Refuses}
 use Rattle.etcs_text.specs.declared.entry.Kind.{Kind}
 use Rattle.etcs_stream.specs.declared.job.Command.{Command}
-use Rattle.etcs_text.specs.Entries.{EntryValue, EntryReads}
+use Rattle.etcs_text.specs.Entries.{EntryValue}
 use Rattle.etcs_stream.specs.Reported.{Reported}
 use Rattle.etcs_stream.specs.Printers.{OutputsItem}
 use Rattle.etcs_runs.specs.declared.fault.RunFault.{RunFault}
@@ -127,12 +127,12 @@ cut_front bytes front rest n m e h =
 -- ---- what a feed of the reader brings
 
 -- its answer, where it waits for bits
-pub fed : (kind : Kind) (r : ReaderValue) (new : List Bool) (answer wanted : Result Fed ReadFault) (after : Progress) → Awaits kind r → answer ≡ wanted → ((seen : List Bool) → r.progress ≡ reading seen → Feeds (EntryReads r.kind) seen new answer after) → Feeds (EntryReads kind) (seen_bits r.progress) new wanted after
+pub fed : (kind : Kind) (r : ReaderValue) (new : List Bool) (answer wanted : Result Fed ReadFault) (after : Progress) → Awaits kind r → answer ≡ wanted → ((seen : List Bool) → r.progress ≡ reading seen → Feeds r.kind seen new answer after) → Feeds kind (seen_bits r.progress) new wanted after
 fed kind r new answer wanted after h is f =
-    subst (λ z. Feeds (EntryReads z) (seen_bits r.progress) new wanted after) h.kind_is
-    (subst (λ z. Feeds (EntryReads r.kind) (seen_bits r.progress) new z after) is (f (seen_bits r.progress) h.progress_is))
+    subst (λ z. Feeds z (seen_bits r.progress) new wanted after) h.kind_is
+    (subst (λ z. Feeds r.kind (seen_bits r.progress) new z after) is (f (seen_bits r.progress) h.progress_is))
 
-pub more_awaits : (kind : Kind) (seen new : List Bool) (r : ReaderValue) → r.kind ≡ kind → Feeds (EntryReads kind) seen new (Ok More) r.progress → Awaits kind r
+pub more_awaits : (kind : Kind) (seen new : List Bool) (r : ReaderValue) → r.kind ≡ kind → Feeds kind seen new (Ok More) r.progress → Awaits kind r
 more_awaits kind seen new r e f =
     let all : seen_bits r.progress ≡ seen ++ new = ap seen_bits f.0 in
     record {
@@ -142,7 +142,7 @@ more_awaits kind seen new r e f =
       viable = subst (λ z. Viable (Language kind) z) (sym all) f.1.1;
     }
 
-pub more_advances : (kind : Kind) (c : Command) (seen : List Bool) (bytes : List ℕ) (s : Progress) (reported : Reported) (text : List ℕ) → Feeds (EntryReads kind) seen (bits bytes) (Ok More) s → Advances kind c seen (seen_bits s) reported reported (take (length bytes) bytes) text text
+pub more_advances : (kind : Kind) (c : Command) (seen : List Bool) (bytes : List ℕ) (s : Progress) (reported : Reported) (text : List ℕ) → Feeds kind seen (bits bytes) (Ok More) s → Advances kind c seen (seen_bits s) reported reported (take (length bytes) bytes) text text
 more_advances kind c seen bytes s reported text f =
     record {
       reported = [];
@@ -154,34 +154,34 @@ more_advances kind c seen bytes s reported text f =
       text_is = sym (append-nil text);
     }
 
-pub done_takes : (kind : Kind) (seen new : List Bool) (k : ℕ) (s : Progress) → NoneYet (Language kind) seen → Feeds (EntryReads kind) seen new (Ok (Done k)) s → 0 < k
+pub done_takes : (kind : Kind) (seen new : List Bool) (k : ℕ) (s : Progress) → NoneYet (Language kind) seen → Feeds kind seen new (Ok (Done k)) s → 0 < k
 done_takes kind seen new zero s none f =
     let e : length seen + 8 * 0 ≡ length seen = omega arith in
     let front : take (length seen + 8 * 0) (seen ++ new) ≡ take (length seen) seen = ap (λ n. take n (seen ++ new)) e ∙ take-append-le (length seen) seen new (omega arith) in
-    absurd (none (length seen) (omega arith) (f.3.1, (f.0, f.3.2), f.3.3 ∙ front))
+    absurd (none (length seen) (omega arith) (f.4.1, (f.0, f.4.2), f.4.3 ∙ front))
 done_takes kind seen new (suc k) s none f = omega arith
 
-pub done_within : (kind : Kind) (seen : List Bool) (bytes : List ℕ) (k : ℕ) (s : Progress) → Feeds (EntryReads kind) seen (bits bytes) (Ok (Done k)) s → k ≤ length bytes
-done_within kind seen bytes k s f = omega (arith, f.2, length-bits bytes)
+pub done_within : (kind : Kind) (seen : List Bool) (bytes : List ℕ) (k : ℕ) (s : Progress) → Feeds kind seen (bits bytes) (Ok (Done k)) s → k ≤ length bytes
+done_within kind seen bytes k s f = omega (arith, f.3, length-bits bytes)
 
 -- the bits that spell the item
-done_bits : (kind : Kind) (seen : List Bool) (bytes : List ℕ) (k : ℕ) (s : Progress) (f : Feeds (EntryReads kind) seen (bits bytes) (Ok (Done k)) s) → seen ++ bits (take k bytes) ≡ spelled f.3.1
+done_bits : (kind : Kind) (seen : List Bool) (bytes : List ℕ) (k : ℕ) (s : Progress) (f : Feeds kind seen (bits bytes) (Ok (Done k)) s) → seen ++ bits (take k bytes) ≡ spelled f.4.1
 done_bits kind seen bytes k s f =
     ap (λ (z : List Bool). seen ++ z) (sym (take-bits k bytes (done_within kind seen bytes k s f)))
     ∙ sym (take-append-add seen (bits bytes) (8 * k))
-    ∙ sym f.3.3
+    ∙ sym f.4.3
 
-pub done_advances : (kind : Kind) (c : Command) (seen seen' : List Bool) (bytes : List ℕ) (k : ℕ) (s : Progress) (i j : Reported) (t u : List ℕ) (f : Feeds (EntryReads kind) seen (bits bytes) (Ok (Done k)) s) → seen' ≡ [] → (added : List ℕ) × OutputsItem c f.0 i added j × (u ≡ t ++ added) → Advances kind c seen seen' i j (take k bytes) t u
+pub done_advances : (kind : Kind) (c : Command) (seen seen' : List Bool) (bytes : List ℕ) (k : ℕ) (s : Progress) (i j : Reported) (t u : List ℕ) (f : Feeds kind seen (bits bytes) (Ok (Done k)) s) → seen' ≡ [] → (added : List ℕ) × OutputsItem c f.0 i added j × (u ≡ t ++ added) → Advances kind c seen seen' i j (take k bytes) t u
 done_advances kind c seen seen' bytes k s i j t u f none text =
     record {
       reported = f.0 ∷ [];
-      spelt = spelled f.3.1;
+      spelt = spelled f.4.1;
       added = text.0;
-      are_spelled = (f.3.1, [], f.3.2, sym (append-nil (spelled f.3.1)), refl);
-      bits_are = done_bits kind seen bytes k s f ∙ sym (append-nil (spelled f.3.1)) ∙ ap (λ (z : List Bool). spelled f.3.1 ++ z) (sym none);
+      are_spelled = (f.4.1, [], f.4.2, sym (append-nil (spelled f.4.1)), refl);
+      bits_are = done_bits kind seen bytes k s f ∙ sym (append-nil (spelled f.4.1)) ∙ ap (λ (z : List Bool). spelled f.4.1 ++ z) (sym none);
       added_is = outputs_one c i j f.0 text.0 text.1;
       text_is = text.2;
     }
 
-pub feed_refuses : (kind : Kind) (seen new : List Bool) (i : ℕ) (x : Var) (s : Progress) → Feeds (EntryReads kind) seen new (Err (Refused i x)) s → Refuses (Language kind) (seen ++ new) i x
-feed_refuses kind seen new i x s f = record { within = f.0.1; owned = f.1; blocked = f.0.2 }
+pub feed_refuses : (kind : Kind) (seen new : List Bool) (i : ℕ) (x : Var) (s : Progress) → Feeds kind seen new (Err (Refused i x)) s → Refuses (Language kind) (seen ++ new) i x
+feed_refuses kind seen new i x s f = record { within = f.1.0.1; owned = f.1.1; blocked = f.1.0.2 }

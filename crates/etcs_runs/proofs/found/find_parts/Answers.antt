@@ -1,17 +1,10 @@
 use Rattle.std.proofs.Common.{◌≡◌, ◌∙◌, ◌+◌, refl, sym, ap, arith}
+use Rattle.etcs_runs.specs.declared.words.Cut.TheVariants.{Joints}
 use Rattle.etcs_runs.specs.Digits.{before_words, group_words, groups, is_joint, last_first, searched, word_parts}
-use Rattle.etcs_runs.proofs.Pure.{all_parts, one_part}
+use Rattle.etcs_runs.specs.Finds.{end_of}
+use Rattle.etcs_runs.proofs.Pure.{all_parts, no_parts_after, one_part}
 use Rattle.etcs_runs.proofs.Runs.{found_words-none, no_words}
 use Rattle.etcs_runs.proofs.found.find_parts.Goals as goal
-
-pub returns-then-is_of_digits-clause-digits : goal.returns-then-is_of_digits-clause-digits
-returns-then-is_of_digits-clause-digits c =
-    sym (all_parts c.args.word.now (sym c.is_of_digits.ensures ∙ c.if-is_of_digits.true) (omega (arith, c.if-word-ge-ENOUGH.true)))
-
-pub returns-then-is_of_digits-clause-front : goal.returns-then-is_of_digits-clause-front
-returns-then-is_of_digits-clause-front c =
-    let one = one_part c.args.word.now (sym c.is_of_digits.ensures ∙ c.if-is_of_digits.true) (omega (arith, c.if-word-ge-ENOUGH.true)) in
-    ap (λ n. before_words is_joint n c.args.line.now) (sym one)
 
 pub returns-in_default-clause-front : goal.returns-in_default-clause-front
 returns-in_default-clause-front c =

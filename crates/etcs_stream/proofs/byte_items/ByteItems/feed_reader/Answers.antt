@@ -5,7 +5,6 @@ use Rattle.etcs_vars.specs.declared.feed.Fed.{Fed}
 use Rattle.etcs_vars.specs.declared.feed.Fed.TheVariants.{More, Done}
 use Rattle.etcs_vars.specs.declared.feed.ReadFault.{ReadFault}
 use Rattle.etcs_vars.specs.declared.feed.ReadFault.TheVariants.{Refused, Ended}
-use Rattle.etcs_text.specs.Entries.{EntryReads}
 use Rattle.etcs_runs.specs.declared.fault.RunFault.TheVariants as fault
 use Rattle.etcs_text.specs.Readers.{Feeds, seen_bits}
 use Rattle.etcs_stream.proofs.Fronts.{more_front, done_front, stops_here}
@@ -17,7 +16,7 @@ print-requires-clause-whole c =
     let s = c.args.self.now in
     let is : ◌≡◌ {A = Result Fed ReadFault} c.feed.result (Ok (Done c.in-Ok-Done.taken)) = c.in-Ok-Done.is ∙ ap Ok c.in-Ok-Done.field-0-is in
     let f = fed s.job.kind s.reader (bits c.args.bytes.now) _ _ _ c.requires.waits is c.feed.ensures.answer in
-    (f.0, f.1, f.3.2.0)
+    (f.0, f.1, f.4.2.0)
 
 pub unreachable-requires : goal.unreachable-requires
 unreachable-requires c =
@@ -38,7 +37,7 @@ returns-in_ok-print-in-Ok-Done-clause-ok c =
     let s = c.args.self.now in
     let new = bits c.args.bytes.now in
     let is : ◌≡◌ {A = Result Fed ReadFault} c.feed.result (Ok (Done c.in-Ok-Done.taken)) = c.in-Ok-Done.is ∙ ap Ok c.in-Ok-Done.field-0-is in
-    let f : Feeds (EntryReads s.job.kind) (seen_bits s.reader.progress) new (Ok (Done c.in-Ok-Done.taken)) c.feed.new.self.progress = fed s.job.kind s.reader new _ _ _ c.requires.waits is c.feed.ensures.answer in
+    let f : Feeds s.job.kind (seen_bits s.reader.progress) new (Ok (Done c.in-Ok-Done.taken)) c.feed.new.self.progress = fed s.job.kind s.reader new _ _ _ c.requires.waits is c.feed.ensures.answer in
     let less : s.printer.count < 1000000 = c.requires.few in
     let printed = c.in_ok-print-in-Ok-Done.ensures in
     done_front s.job s.reader s.printer c.args.bytes.now c.args.page.now c.requires.waits c.feed.new.self c.print.new.self.reader c.print.new.self.printer c.print.new.page c.in-Ok-Done.taken f printed.next printed.reported less (printed.ok f.0 f.1)

@@ -10,5 +10,6 @@ pub mod Examples
 pub mod ManyGroups
 pub mod Lines
 pub mod GroupAdds
+pub mod Passing
 pub mod OneGroups
 pub mod OwnTelegrams

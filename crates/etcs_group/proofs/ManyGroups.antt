@@ -1,5 +1,5 @@
 -- Groups by their numbers, and the map of their places.
-use Rattle.std.proofs.Common.{◌≡◌, ◌≢◌, ◌⊎◌, ◌∙◌, refl, sym, ap, subst, ℕ, zero, suc, ◌+◌, ◌<◌, arith, true, false, List, [], ◌∷◌, ◌++◌, Some, length, set, slice_get, slice_index_or, inl, inr}
+use Rattle.std.proofs.Common.{◌≡◌, ◌≢◌, ◌⊎◌, ◌∙◌, refl, sym, ap, subst, ℕ, zero, suc, ◌+◌, ◌<◌, arith, true, false, List, [], ◌∷◌, ◌++◌, Option, Some, None, IfSome, IfNone, length, set, slice_get, slice_index_or, inl, inr}
 use Rattle.std.specs.Prelude.{Result, Ok, Err, OnOk, is_err}
 use Rattle.std.specs.Ordering.{nat_cmp}
 use Rattle.std.specs.BTreeMap.{BTreeMap, get, is_at, Updates}
@@ -7,8 +7,11 @@ use Rattle.std.proofs.lemmas.Bool.{both_ways, cases_eq}
 use Rattle.std.proofs.lemmas.Bool.Decides.{nat_tests}
 use Rattle.std.proofs.lemmas.Option.{same_Some, none-some, slice_get_within, slice_get_read}
 use Rattle.etcs_telegram.specs.Telegrams.{TelegramContent, HeaderValue}
+use Rattle.etcs_group.specs.declared.clash.Clash.{Clash}
 use Rattle.etcs_group.specs.declared.groups.Group.{Group}
-use Rattle.etcs_group.specs.ManyGroups.{IsOfNumbers, HasNone, GroupAfter, Adds, AddsAll, AreDistinct, Indexes, Opens, empty_group, group_key}
+use Rattle.etcs_group.specs.Clashes.{IsFirstClash}
+use Rattle.etcs_group.specs.Groups.{Joins}
+use Rattle.etcs_group.specs.ManyGroups.{IsOfNumbers, IsGroupOf, IsClashWith, HasNone, GroupAfter, Adds, AddsAll, AreDistinct, Indexes, Opens, empty_group, group_key}
 use Rattle.etcs_group.proofs.Places.{place_contains, get_set-same, get_set-other}
 
 -- a list after a push
@@ -149,18 +152,33 @@ pub adds_all_more : (old : List Group) (ts : List TelegramContent) (mid : List G
 adds_all_more old [] mid t new none add = (new, subst (λ (l : List Group). Adds l t new) none add, refl)
 adds_all_more old (x ∷ xs) mid t new all add = (all.0, all.1, adds_all_more all.0 xs mid t new all.2 add)
 
+-- the group that a telegram is added to
+group_of : (old mid : List Group) (t : TelegramContent) (k : ℕ) (g : Group) → Opens old t.header.nid_c t.header.nid_bg k mid → slice_get mid k ≡ Some g → IsGroupOf old t.header.nid_c t.header.nid_bg g
+group_of old mid t k g (inl there) at =
+    let there_now : slice_get old k ≡ Some g = ap (λ (l : List Group). slice_get l k) (sym there.0) ∙ at in
+    inl (place_contains old k g there_now, subst (IsOfNumbers t.header.nid_c t.header.nid_bg) (same_Some there.1.0 g (sym there.1.1 ∙ there_now)) there.1.2)
+group_of old mid t k g (inr begun) at =
+    let one : Group = empty_group t.header.nid_c t.header.nid_bg in
+    inr (begun.2, same_Some g one (sym at ∙ ap (λ (l : List Group). slice_get l k) begun.0 ∙ ap (slice_get (old ++ one ∷ [])) begun.1 ∙ push_last old one))
+
+pub clash_with : (gs : List Group) (t : TelegramContent) (g : Group) (o : Option Clash) → IsGroupOf gs t.header.nid_c t.header.nid_bg g → IfSome o (λ c. IsFirstClash c g.held t) → IfNone o (Joins g.held t) → IsClashWith gs t o
+clash_with gs t g None is some none = (g, is, none)
+clash_with gs t g (Some c) is some none = (g, is, some)
+
 -- what is known of the group of a telegram once it has it
-pub record Had (old mid : List Group) (t : TelegramContent) (k : ℕ) (h : Group) : Type 0 where
-  pub at : (g : Group) × (slice_get mid k ≡ Some g) × IsOfNumbers g.nid_c g.nid_bg h
+pub record Had (old mid : List Group) (t : TelegramContent) (k : ℕ) (g h : Group) : Type 0 where
+  pub of : IsGroupOf old t.header.nid_c t.header.nid_bg g
+  pub at : slice_get mid k ≡ Some g
+  pub same : IsOfNumbers g.nid_c g.nid_bg h
   pub adds : Adds old t (set mid k h)
 
-had : (old mid : List Group) (t : TelegramContent) (k : ℕ) (g h : Group) → Opens old t.header.nid_c t.header.nid_bg k mid → g ≡ slice_index_or mid k g → k < length mid → GroupAfter g t h → Had old mid t k h
+had : (old mid : List Group) (t : TelegramContent) (k : ℕ) (g h : Group) → Opens old t.header.nid_c t.header.nid_bg k mid → g ≡ slice_index_or mid k g → k < length mid → GroupAfter g t h → Had old mid t k g h
 had old mid t k g h opens read within after =
     let at : slice_get mid k ≡ Some g = slice_get_read mid (length mid) k g refl within read in
-    record { at = (g, at, after.same); adds = added_to old mid t k g h opens at after }
+    record { of = group_of old mid t k g opens at; at = at; same = after.same; adds = added_to old mid t k g h opens at after }
 
 -- and with what is known at a call
-pub had_here : (old mid seen : List Group) (t : TelegramContent) (header : HeaderValue) (nid_c nid_bg k : ℕ) (g h : Group) → header ≡ t.header → nid_c ≡ header.nid_c → nid_bg ≡ header.nid_bg → seen ≡ mid → Opens old nid_c nid_bg k mid → g ≡ slice_index_or seen k g → GroupAfter g t h → Had old seen t k h
+pub had_here : (old mid seen : List Group) (t : TelegramContent) (header : HeaderValue) (nid_c nid_bg k : ℕ) (g h : Group) → header ≡ t.header → nid_c ≡ header.nid_c → nid_bg ≡ header.nid_bg → seen ≡ mid → Opens old nid_c nid_bg k mid → g ≡ slice_index_or seen k g → GroupAfter g t h → Had old seen t k g h
 had_here old mid seen t header nid_c nid_bg k g h is_header is_c is_bg is_seen opens read after =
     let here = opens_here old mid seen t header nid_c nid_bg k is_header is_c is_bg is_seen opens in
     had old seen t k g h here read (within old mid seen nid_c nid_bg k is_seen opens) after

@@ -41,3 +41,8 @@ IsGroupLine g line =
 abbrev pub AreGroupLines : List Group → List ℕ → Type 0
 AreGroupLines [] text = text ≡ []
 AreGroupLines (g ∷ gs) text = (line : List ℕ) × (rest : List ℕ) × IsGroupLine g line × AreGroupLines gs rest × (text ≡ line ++ rest)
+
+-- a blank and the front; nothing if there is none
+abbrev pub front_text : List ℕ → List ℕ
+front_text [] = []
+front_text (c ∷ cs) = codes " " ++ c ∷ cs

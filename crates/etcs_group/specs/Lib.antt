@@ -4,5 +4,6 @@ pub mod Messages
 pub mod Orders
 pub mod Texts
 pub mod ManyGroups
+pub mod Passages
 pub mod GroupLines
 pub mod OneGroups

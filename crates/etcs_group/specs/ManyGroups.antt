@@ -1,9 +1,11 @@
 -- Balise groups by NID_C and NID_BG, in the order in which they began (SUBSET-026, 3.16.2.4).
-use Rattle.std.specs.Prelude.{◌≡◌, ◌⊎◌, ℕ, ◌+◌, ◌-◌, ◌*◌, ◌^◌, ◌<◌, min, List, [], ◌∷◌, ◌++◌, replicate, Some, None, Contains, slice_get, slice_set, length}
+use Rattle.std.specs.Prelude.{◌≡◌, ◌⊎◌, ℕ, ◌+◌, ◌-◌, ◌*◌, ◌^◌, ◌<◌, min, List, [], ◌∷◌, ◌++◌, replicate, Option, Some, None, Contains, slice_get, slice_set, length}
 use Rattle.std.specs.Ordering.{nat_cmp}
 use Rattle.std.specs.BTreeMap.{BTreeMap, get}
 use Rattle.etcs_telegram.specs.Telegrams.{TelegramContent}
 use Rattle.etcs_group.specs.declared.groups.Group.{Group}
+use Rattle.etcs_group.specs.declared.clash.Clash.{Clash}
+use Rattle.etcs_group.specs.Clashes.{IsFirstClash}
 use Rattle.etcs_group.specs.Groups.{IsGroup, Joins, HeldAfter}
 
 -- the group is of this NID_C and NID_BG
@@ -24,6 +26,26 @@ pub record GroupAfter (old : Group) (t : TelegramContent) (new : Group) : Type 0
   pub held : HeldAfter old.held t new.held
   pub placed : IsGroup new.held
   pub clashes : (Joins old.held t × (new.clashes ≡ old.clashes)) ⊎ ((Joins old.held t → ⊥) × (new.clashes ≡ min (old.clashes + 1) (2 ^ 64 - 1)))
+
+-- a group that holds t too, if t joins what it holds
+pub record GroupHolds (old : Group) (t : TelegramContent) (new : Group) : Type 0 where
+  pub same : IsOfNumbers old.nid_c old.nid_bg new
+  pub held : HeldAfter old.held t new.held
+  pub placed : IsGroup new.held
+  pub clashes : new.clashes ≡ old.clashes
+
+-- t is of the group and joins what it holds
+abbrev pub Takes : Group → TelegramContent → Type 0
+Takes g t = IsOfNumbers t.header.nid_c t.header.nid_bg g × Joins g.held t
+
+-- the group of these numbers, of which nothing is held if there is none
+abbrev pub IsGroupOf : List Group → ℕ → ℕ → Group → Type 0
+IsGroupOf gs nid_c nid_bg g = (Contains gs g × IsOfNumbers nid_c nid_bg g) ⊎ (HasNone gs nid_c nid_bg × (g ≡ empty_group nid_c nid_bg))
+
+-- t clashes first in this way with what the group of its numbers holds; or there is no clash, and it joins that
+abbrev pub IsClashWith : List Group → TelegramContent → Option Clash → Type 0
+IsClashWith gs t None = (g : Group) × IsGroupOf gs t.header.nid_c t.header.nid_bg g × Joins g.held t
+IsClashWith gs t (Some c) = (g : Group) × IsGroupOf gs t.header.nid_c t.header.nid_bg g × IsFirstClash c g.held t
 
 -- the groups after an add of t: the group of its numbers has it, and all others are as before; if there was none, it
 -- begins, after all others

@@ -4,10 +4,13 @@ ghost use Rattle.std.specs.Prelude.{◌≡◌, ◌++◌, ◌+◌, ◌*◌, ℕ, 
 ghost use Rattle.etcs_telegram.specs.Telegrams.{TelegramContent};
 ghost use Rattle.etcs_packet_text.specs.Fronts.{Begins};
 ghost use Rattle.etcs_group.specs.declared.groups.Group.{Group};
-ghost use Rattle.etcs_group.specs.ManyGroups.{GroupAfter, Adds, AreGroupsOf, AreDistinct, HasNone, IsOfNumbers, Opens, empty_group, group_key};
+ghost use Rattle.etcs_group.specs.Clashes.{IsFirstClash};
+ghost use Rattle.etcs_group.specs.Groups.{Joins};
+ghost use Rattle.etcs_group.specs.ManyGroups.{GroupAfter, GroupHolds, Adds, AreGroupsOf, AreDistinct, HasNone, IsClashWith, IsOfNumbers, Opens, Takes, empty_group, group_key};
 ghost use Rattle.etcs_group.specs.GroupLines.{IsGroupLine, AreGroupLines, clashes_text};
 
 use crate::assembly::Assembly;
+use crate::clash::Clash;
 use crate::states::{write_number, write_state};
 use etcs_packet_text::inner::Page;
 use etcs_telegram::Telegram;
@@ -25,19 +28,61 @@ pub(crate) struct Group {
 }
 
 impl Group {
-    /// Holds the telegram, or counts it as a clash.
-    fn add(&mut self, telegram: Telegram)
-        ensures { GroupAfter self.old telegram self.new }
+    /// A group that holds nothing, of these numbers.
+    pub(crate) fn new(nid_c: u16, nid_bg: u16) -> Group
+        ensures { result ≡ empty_group nid_c nid_bg }
+    {
+        Group {
+            nid_c,
+            nid_bg,
+            held: Assembly::new(),
+            clashes: 0,
+        }
+    }
+
+    /// Holds the telegram, or counts it as a clash and returns that.
+    fn add(&mut self, telegram: Telegram) -> Option<Clash>
+        ensures after { GroupAfter self.old telegram self.new }
+        ensures clash { IfSome result (λ c. IsFirstClash c self.old.held telegram) }
+        ensures joins { IfNone result (Joins self.old.held telegram) }
     {
         match self.held.add(telegram) {
-            Ok(_) => {}
-            Err(_) => self.clashes = self.clashes.saturating_add(1),
+            Ok(_) => None,
+            Err((clash, _)) => {
+                self.clashes = self.clashes.saturating_add(1);
+                Some(clash)
+            }
         }
+    }
+
+    /// Holds the telegram if it is of the group and joins what is held; else returns it.
+    pub(crate) fn take(&mut self, telegram: Telegram) -> Option<Telegram>
+        ensures some { IfSome result (λ t. (t ≡ telegram) × (self.new ≡ self.old) × (Takes self.old telegram → ⊥)) }
+        ensures none { IfNone result (Takes self.old telegram × GroupHolds self.old telegram self.new) }
+    {
+        let header = telegram.header();
+        if header.nid_c() != self.nid_c || header.nid_bg() != self.nid_bg {
+            return Some(telegram);
+        }
+        match self.held.add(telegram) {
+            Err((_, telegram)) => Some(telegram),
+            Ok(_) => None,
+        }
+    }
+
+    /// The group of a telegram, which it holds unless the telegram clashes by itself.
+    pub(crate) fn of(telegram: Telegram) -> Group
+        ensures { GroupHolds (empty_group telegram.header.nid_c telegram.header.nid_bg) telegram result }
+    {
+        let header = telegram.header();
+        let mut group = Group::new(header.nid_c(), header.nid_bg());
+        let _ = group.held.add(telegram);
+        group
     }
 
     /// Appends the group's line.
     #[tactic(auto, using(etcs_packet_text::specs::laws::Fronts::begins_more))]
-    fn write_line(&self, page: &mut Page) -> Result<(), AllocError>
+    pub(crate) fn write_line(&self, page: &mut Page) -> Result<(), AllocError>
         ensures ok { OnOk result ((line : List ℕ) × IsGroupLine self.now line × (page.new ≡ page.old ++ line)) }
         ensures err { OnErr result (Begins page.old page.new) }
     {
@@ -81,8 +126,8 @@ impl Groups {
     }
 
     /// Adds the telegram to the group of its NID_C and NID_BG. If it clashes with what that group holds
-    /// ([`Assembly::add`]), it is dropped and the group counts a clash, up to 2^64 - 1; all other groups are as before.
-    /// If there is no such group, it begins, after all others.
+    /// ([`Assembly::add`]), it is dropped, the group counts a clash, up to 2^64 - 1, and the clash is returned; all other
+    /// groups are as before. If there is no such group, it begins, after all others.
     ///
     /// So after any calls that succeed, the groups are those of their telegrams in this order, and no two have the same
     /// numbers.
@@ -90,8 +135,9 @@ impl Groups {
     /// # Errors
     ///
     /// `AllocError` if out of memory. The groups are then as before, and the telegram is dropped.
-    pub fn add(&mut self, telegram: Telegram) -> Result<(), AllocError>
+    pub fn add(&mut self, telegram: Telegram) -> Result<Option<Clash>, AllocError>
         ensures ok { OnOk result (Adds self.old telegram self.new) }
+        ensures clash { IfOk result (λ clash. IsClashWith self.old telegram clash) }
         // So after any calls, the groups are those of the telegrams that were added.
         ensures adds { OnOk result ((earlier : List TelegramContent) → AreGroupsOf earlier self.old → AreGroupsOf (earlier ++ telegram ∷ []) self.new) }
         ensures err { OnErr result (self.new ≡ self.old) }
@@ -99,8 +145,7 @@ impl Groups {
     {
         let header = telegram.header();
         let place = self.open(header.nid_c(), header.nid_bg())?;
-        self.groups[place].add(telegram);
-        Ok(())
+        Ok(self.groups[place].add(telegram))
     }
 
     /// Appends a line for each group, in their order: `group`, NID_C and NID_BG; `complete`, `missing` with exactly the
@@ -156,12 +201,7 @@ impl Groups {
         ensures err { OnErr result (self.new ≡ self.old) }
     {
         let place = self.groups.len();
-        self.groups.push(Group {
-            nid_c,
-            nid_bg,
-            held: Assembly::new(),
-            clashes: 0,
-        })?;
+        self.groups.push(Group::new(nid_c, nid_bg))?;
         if self.places.insert(key_of(nid_c, nid_bg), place).is_err() {
             self.groups.pop();
             return Err(AllocError);

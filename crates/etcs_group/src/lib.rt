@@ -1,6 +1,6 @@
 //! Balise groups: [`Assembly`] takes the telegrams of one group in any order, reports each [`Clash`] and what is
 //! missing, and returns the packets of the whole group (`message`, or a [`GroupFault`]). [`Groups`] sorts many
-//! telegrams by group and writes a line for each.
+//! telegrams by group and writes a line for each; [`Passages`] writes one for each passage of a group, as they come.
 //!
 //! ```rust
 //! let mut assembly = Assembly::new();
@@ -24,6 +24,7 @@ mod held;
 pub mod inner;
 pub mod laws;
 mod message;
+mod passages;
 mod states;
 
 pub use assembly::{Added, Assembly};
@@ -32,3 +33,4 @@ pub use etcs_packets::Packet;
 pub use etcs_telegram::Telegram;
 pub use fault::GroupFault;
 pub use groups::Groups;
+pub use passages::Passages;

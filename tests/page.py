@@ -2,7 +2,7 @@
 """page.py PROGRAM [FOLDER]: looks at the pages of `explain --to html` in a browser without a window.
 
 PROGRAM writes a page of each file of examples/ that is for `show`, of several of them, of lines that are no item, of no
-item, and of 2,000 items. Each is looked at with 390, 1,000 and 1,400 pixels, light and dark, with and without bits, for
+item, and of 2,000 items. Each is looked at with 390, 500, 1,000 and 1,400 pixels, light and dark, with and without bits, for
 cells that are higher than a line, text that leaves the page or its cell, contrast below 4.5, and headings. Then these are
 checked once for each page: whether each row and each bit marks the other and nothing else, whether the bits are those of
 the bytes, whether Tab stops once for each table and the arrows go through its rows, what is drawn, whether all is there
@@ -28,7 +28,7 @@ import time
 BROWSER = os.environ.get("BROWSER", "chromium")
 EXAMPLES = pathlib.Path(__file__).resolve().parent.parent / "examples"
 KINDS = ("short", "long", "radio", "train")
-WIDTHS = (390, 1000, 1400)
+WIDTHS = (390, 500, 1000, 1400)
 MOST_SECONDS = 3
 
 # Packet 5 in steps of 10 cm: D_LINK 12345, a group of NID_C 99; packet 12 in steps of 10 m: sections of 30 and 45, the last
@@ -37,6 +37,16 @@ MOST_SECONDS = 3
 SCALES = (
     "A100140C40FFC150278C0E63184018C00620AE8A00FFC4007800B400C880050900140F0007082A019A0014071001486001E7"
     "FC4202604B03681FC000BE01045081F40800001FF83FFFFFFFFFFFFFFFFFFFFFFFFFFFFFFFFFFFFFFFFFFFFFFFFFFFFFFFFF"
+    "FFFFFFFC"
+)
+
+# Packets 65, 41, 68 and 80 in steps of 1 m, the last of 10 m: a restriction to V_TSR 8 for 300 from 200 on; level 2, else NTC 9,
+# else 1 at 400, to be acknowledged from 100 before on; M_TRACKCOND 3 for 500 from 50 on, 9 for 30, 100 after where that begins;
+# on sight, V_MAMODE 8, for 20 from 10 on, acknowledged from 5 before on, shunting 40 after where that begins, without an end.
+# Then, reverse: packet 68 in steps of 10 cm with D_TRACKINIT 75; packet 41: level 0 now, acknowledged from 20 before on.
+AREAS = (
+    "A102088C43FC505023A0E03200960414A06B40C8300C82212019100004440C6801901F4308064003D2A08232001408002800"
+    "1410050FFFFFE00028800A4804B29007EFFFF000501FFFFFFFFFFFFFFFFFFFFFFFFFFFFFFFFFFFFFFFFFFFFFFFFFFFFFFFFF"
     "FFFFFFFC"
 )
 
@@ -52,6 +62,16 @@ DRAWN = {
         "distance from the infill location, direction: nominal"
         "; packet 27, speed: 0.5 m 600 km/h, 100.5 m 40 km/h, 100.8 m ends",
     ],
+    "areas": [
+        "distance from the reference, direction: nominal"
+        "; packet 65, restriction: 200 m 40 km/h, 500 m ends"
+        "; packet 41, level: 400 m level 2, level NTC 9, level 1, 300 m to 400 m acknowledgement"
+        "; packet 68, track conditions: 50 m to 550 m M_TRACKCOND 3, 150 m to 180 m M_TRACKCOND 9"
+        "; packet 80, mode: 100 m to 300 m on sight, 40 km/h, 50 m to 100 m acknowledgement, 500 m on shunting",
+        "distance from the reference, direction: reverse"
+        "; packet 68, track conditions: 7.5 m initial states"
+        "; packet 41, level: 0 m level 0",
+    ],
     "long_line_ahead": [
         "distance from the reference, direction: nominal"
         "; packet 5, links: 750 m NID_BG 2041, 2070 m NID_BG 2042"
@@ -66,6 +86,18 @@ DRAWN = {
         "; packet 27, speed: 0 m 160 km/h, 1800 m 120 km/h"
     ],
 }
+
+# The heading of a page, which is its title, too.
+HEADED = {
+    "long_line_ahead": "long telegram, version 2.1, NID_C 98, NID_BG 2040, 4 packets",
+    "short_truncated": "short telegram, version 2.0, NID_C 1, NID_BG 1: truncated after 208 bits, in FILL",
+    "several_short": "2 short telegrams",
+    "short ones and others": "20 short telegrams, 10 refused or cut short, 3 invalid lines",
+    "names of JSON": "60 invalid lines",
+    "no items": "etcs explain",
+}
+# How many parts a search finds: each file has two telegrams with packet 5, one of which is refused in it.
+FOUND = {"short ones and others": ("Packet 5, linking ", " 4 matches")}
 
 # Asked at each width, light and dark, with and without bits: what is wrong.
 LOOK = r"""(() => {
@@ -125,7 +157,7 @@ LOOK = r"""(() => {
   for (const at of document.querySelectorAll('svg'))
     if (at.getAttribute('role') !== 'img' || !at.querySelector('title')) note('a drawing without a text', at);
   if (!document.documentElement.lang || !document.title) wrong.add('no language or title');
-  if (!/^etcs \d+\.\d+\.\d+( unproved)?$/.test(document.querySelector('footer')?.textContent)) wrong.add('no version at the foot');
+  if (!/^etcs \d+\.\d+\.\d+ (un)?proved$/.test(document.querySelector('footer')?.textContent)) wrong.add('no version at the foot');
   return [...wrong];
 })()"""
 
@@ -286,6 +318,7 @@ def pages(program):
         shorts += given if at.suffix == ".hex" and kind == "short" else b""
         yield at.name, written(program, kind, at.suffix[1:], given)
     yield "scales", written(program, "long", "hex", SCALES.encode())
+    yield "areas", written(program, "long", "hex", AREAS.encode())
     yield "short ones and others", written(program, "short", "hex", shorts + b"<b onerror=x>no digits\n" + shorts)
     names = b'{"<img src=x onerror=x>":1}\n{"kind":"</noscript><img src=x>"}\n"<script>"\n' * 20
     yield "names of JSON", written(program, "short", "json", names)
@@ -306,6 +339,21 @@ def keys_wrong(browser):
     out = browser.ask("document.activeElement.localName")
     wrong = [] if found == [0, min(1, last), last, last, 0, 0] else [f"arrows go to {found}"]
     return wrong + ([] if out != "tr" else ["Tab stops twice in a table"])
+
+
+def named_wrong(browser, name):
+    """What is wrong with the heading of a page, and with its search."""
+    heading, title = browser.ask("[document.querySelector('h1').textContent, document.title]")
+    wrong = [] if heading == HEADED.get(name, heading) and title.startswith(heading) else [f"heading: {heading}, title: {title}"]
+    words, matches = FOUND.get(name, ("", ""))
+    if words:
+        search = "document.querySelector('[type=search]')"
+        shown = "[document.querySelector('output').value, document.querySelectorAll('.item:not([hidden]), p.no:not([hidden])').length]"
+        browser.ask(f"{search}.value = {json.dumps(words)}; {search}.oninput()")
+        found = browser.ask(shown)
+        browser.ask(f"{search}.value = ''; {search}.oninput()")
+        wrong += [] if found[0] == matches and browser.ask(shown)[0] == "" else [f"search: {found}"]
+    return wrong
 
 
 def picture(browser, at, width):
@@ -345,6 +393,7 @@ def check(browser, name, page, folder, keeps):
     drawn = DRAWN.get(name.removesuffix(".hex"))
     if drawn is not None and marks["drawn"] != drawn:
         wrong.append(f"drawn: {marks['drawn']}")
+    wrong += named_wrong(browser, name.removesuffix(".hex"))
     browser.call("Emulation.setScriptExecutionDisabled", value=True)
     browser.open(at, plain=True)
     plain = browser.ask("document.querySelectorAll('tr > td:first-child').length")

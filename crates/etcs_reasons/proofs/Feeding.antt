@@ -6,12 +6,12 @@ use Rattle.std.proofs.lemmas.Bool.Decides.{eqb_tells}
 use Rattle.etcs_bits.specs.Bits.{bits}
 use Rattle.etcs_vars.specs.declared.feed.Fed.TheVariants.{Done}
 use Rattle.etcs_text.specs.declared.entry.Kind.{Kind}
-use Rattle.etcs_text.specs.Entries.{EntryValue, EntryReads}
+use Rattle.etcs_text.specs.Entries.{EntryValue}
 use Rattle.etcs_text.specs.Readers.{Progress, Feeds}
 use Rattle.etcs_text.specs.Verdicts.{IsItem}
 use Rattle.etcs_text.proofs.Verdicts.{item_of, none_of_done}
 
-pub whole_decided : (kind : Kind) (bytes : List ℕ) (k : ℕ) (at : Progress) → Feeds (EntryReads kind) [] (bits bytes) (Ok (Done k)) at → Decides (eqb k (length bytes)) ((e : EntryValue) × IsItem kind bytes e)
+pub whole_decided : (kind : Kind) (bytes : List ℕ) (k : ℕ) (at : Progress) → Feeds kind [] (bits bytes) (Ok (Done k)) at → Decides (eqb k (length bytes)) ((e : EntryValue) × IsItem kind bytes e)
 whole_decided kind bytes k at f =
     elim (eqb_tells k (length bytes)) [
       | inl h ↦ (λ yes. let item = item_of kind bytes k at f h.1 in (item.0, item.2), λ item. h.0)

@@ -3,7 +3,7 @@
 ghost use Rattle.std.specs.Prelude.{[], IfOk};
 ghost use Rattle.std.specs.Bool.{Decides};
 ghost use Rattle.etcs_bits.specs.Bits.{bits};
-ghost use Rattle.etcs_text.specs.Entries.{EntryReads, EntryValue};
+ghost use Rattle.etcs_text.specs.Entries.{EntryValue};
 ghost use Rattle.etcs_text.specs.Readers.{Feeds, Progress};
 ghost use Rattle.etcs_text.specs.Verdicts.{IsItem};
 
@@ -19,7 +19,7 @@ use std::alloc::{AllocError, Global};
 /// Those of [`fed_unseen`].
 #[inline(always)]
 fn fed(alloc: Global, kind: Kind, bytes: &[u8]) -> Result<Fed, ReadFault>
-    ensures { (at : Progress) × Feeds (EntryReads kind) [] (bits bytes.now) result at }
+    ensures { (at : Progress) × Feeds kind [] (bits bytes.now) result at }
 {
     match seen(kind, bytes) {
         Some(taken) => Ok(Fed::Done { taken }),
@@ -35,7 +35,7 @@ fn fed(alloc: Global, kind: Kind, bytes: &[u8]) -> Result<Fed, ReadFault>
 /// Those of [`EntryReader::feed`]; never `Ended`.
 #[inline(never)]
 pub fn fed_unseen(alloc: Global, kind: Kind, bytes: &[u8]) -> Result<Fed, ReadFault>
-    ensures { (at : Progress) × Feeds (EntryReads kind) [] (bits bytes.now) result at }
+    ensures { (at : Progress) × Feeds kind [] (bits bytes.now) result at }
 {
     if let Some((bit, var)) = refused_at(kind, bytes) {
         return Err(ReadFault::Refused { bit, var });

@@ -4,21 +4,9 @@ ghost use Rattle.etcs_reasons.specs.Sentences.{IsWritten};
 
 use crate::meanings::write_meaning;
 use crate::text::Text;
+use etcs_rows::{Cause, Here, Refusal};
 use etcs_text::Kind;
 use etcs_vars::Var;
-
-/// Appends ranges of numbers, with both ends.
-fn write_ranges(ranges: &[(u64, u64)], out: &mut Text) {
-    let mut before = "";
-    for (low, high) in ranges {
-        match high.saturating_sub(*low) {
-            0 => write!(out, "{before}{low}"),
-            1 => write!(out, "{before}{low} and {high}"),
-            _ => write!(out, "{before}{low} to {high}"),
-        }
-        before = " or ";
-    }
-}
 
 /// Whether a number has at most as many bits as a variable.
 fn fits(var: Var, number: u64) -> bool {
@@ -42,19 +30,32 @@ pub(crate) fn write_meant(var: Var, number: u64, out: &mut Text)
     }
 }
 
-/// Appends which numbers a variable admits, and that this one isn't among them.
+/// Appends a refusal in words.
+pub(crate) fn write_refusal(refusal: &Refusal, out: &mut Text)
+    ensures { IsWritten out.new }
+{
+    write!(out, "{refusal}");
+}
+
+/// Appends which numbers a variable admits, and that this one isn't among them, as a refusal says it, and what it means.
 pub fn write_not_admitted(var: Var, number: Option<u64>, out: &mut Text)
     ensures { IsWritten out.new }
 {
-    write!(out, "{var} admits ");
-    write_ranges(var.ranges(), out);
-    let Some(number) = number else {
-        return out.push(", and none of them begins with these bits");
+    let refusal = Refusal {
+        bit: 0,
+        var,
+        bits: 0,
+        count: 1,
+        number,
+        cause: Cause::Spare,
+        below: None,
+        above: None,
+        here: Here::Any,
     };
-    out.push(", not ");
-    write!(out, "{number}");
-    if fits(var, number) {
-        write_meant(var, number, out);
+    write_refusal(&refusal, out);
+    match number {
+        Some(number) if fits(var, number) => write_meant(var, number, out),
+        _ => {}
     }
 }
 

@@ -14,7 +14,7 @@ ghost use Rattle.etcs_reasons.specs.Sentences.{IsWritten};
 use crate::first::is_item;
 use crate::kinds::{wanted_bytes, way_of, way_of_message};
 use crate::numbers::is_or_are;
-use crate::reasons::{often, write_meant};
+use crate::reasons::{often, write_meant, write_refusal};
 use crate::text::Text;
 use etcs_rows::{Cause, Here, Refusal};
 use etcs_tables::{Way, message_row};
@@ -113,7 +113,7 @@ fn write_refused(kind: Kind, bytes: &[u8], out: &mut Text)
     ensures { (i : ℕ) (x : Var) → Refuses (readings_of (EntryReads kind)) (take 8184 (bits bytes.now)) i x → IsWritten out.new }
 {
     if let Some(refusal) = refusal_at(kind, bytes) {
-        write!(out, "{refusal}");
+        write_refusal(&refusal, out);
         write_spare(&refusal, out);
     }
 }

@@ -10,4 +10,4 @@ returns-in-Some c =
     let (e, outcome, encoded) = c.in-Some.ensures.item in
     let n = c.in-Some.taken in
     let from : 8 * n ≡ 0 + 8 * n = omega arith in
-    (finished e, (e, refl, outcome.0, subst (λ (k : ℕ). IsOutcome (EntryReads c.args.kind) (bits c.args.bytes.now) (done e k)) from outcome))
+    (finished e, (e, refl, tt, outcome.0, subst (λ (k : ℕ). IsOutcome (EntryReads c.args.kind) (bits c.args.bytes.now) (done e k)) from outcome))

@@ -1,10 +1,11 @@
 use Rattle.etcs_bits.specs.Bits.{bits}
-use Rattle.etcs_text.specs.Readers.{stopped}
+use Rattle.std.proofs.Common.{refl}
+use Rattle.etcs_sequence.specs.Progress.{stopped}
 use Rattle.etcs_text.proofs.Verdicts.{fresh_feeds}
 use Rattle.etcs_reasons.proofs.first.fed_unseen.Goals as goal
 
 pub returns-in-Some : goal.returns-in-Some
-returns-in-Some c = (stopped, c.in-Some.ensures)
+returns-in-Some c = (stopped c.in-Some.bit c.in-Some.var, (refl, c.in-Some.ensures))
 
 pub returns : goal.returns
 returns c =

@@ -23,7 +23,7 @@ json_of : (kind : Kind) (number n : ℕ) (line : List ℕ) (fault : RunFault) �
 json_of kind number n line fault h = elim h [ inl r ↦ subst IsOfEngine (sym r.2) tt | inr t ↦ subst IsOfEngine (sym t.0) tt ]
 
 hex_of : (n : ℕ) (line : List ℕ) (fault : RunFault) → IsBadHex n line fault → IsOfEngine fault
-hex_of n line fault (place, within, is) = subst IsOfEngine (sym is) tt
+hex_of n line fault is = subst IsOfEngine (sym is) tt
 
 bad_of : (form : Form) (kind : Kind) (number n : ℕ) (line : List ℕ) (fault : RunFault) → IsBad form kind number n line fault → IsOfEngine fault
 bad_of Json kind number n line fault h = json_of kind number n line fault h
@@ -36,23 +36,23 @@ long_of_engine Hex n = tt
 long_of_engine Bin n = tt
 
 part_of : (task : Task) (number : ℕ) (p : Part) → IsPart task number p → AreOfEngine (fault_of p)
-part_of task number (item lines bytes text) h = tt
-part_of task number (broken lines bytes fault text) h = broken_of task.kind number bytes fault h.2
-part_of task number (good_line n line text) h = tt
-part_of task number (bad_line n line fault text) h = bad_of task.from task.kind number n line fault h.0
+part_of task number (item kind lines bytes text) h = tt
+part_of task number (broken kind lines bytes fault text) h = broken_of kind number bytes fault h.3
+part_of task number (good_line kind n line text) h = tt
+part_of task number (bad_line kind n line fault text) h = bad_of task.from kind number n line fault h.1
 part_of task number (long_line n fault text) h = subst IsOfEngine (sym h.0) (long_of_engine task.from n)
 
 noted_of : (a b : Option RunFault) → AreOfEngine a → AreOfEngine b → AreOfEngine (noted a b)
 noted_of None b one more = more
 noted_of (Some fault) b one more = one
 
-parts_of : (task : Task) (k : ℕ) (ps : List Part) → AreParts task k ps → AreOfEngine (first_fault ps)
-parts_of task k [] h = tt
-parts_of task k (p ∷ ps) h = noted_of (fault_of p) (first_fault ps) (part_of task (counted (k + 1)) p h.0) (parts_of task (k + items_of p) ps h.1)
+parts_of : (task : Task) (k : ℕ) (ps : List Part) (next : List Token) → AreParts task k ps next → AreOfEngine (first_fault ps)
+parts_of task k [] next h = tt
+parts_of task k (p ∷ ps) next h = noted_of (fault_of p) (first_fault ps) (part_of task (counted (k + 1)) p h.0) (parts_of task (k + items_of p) ps next h.2)
 
 finished_of : (page foot : List ℕ) (task : Task) (tokens : List Token) (long output : List ℕ) (first : Option RunFault) (fault : RunFault) → Finished page foot task tokens long output first → first ≡ Some fault → IsOfEngine fault
 finished_of page foot task tokens long output first fault (texts, seen, is, output_is, first_is) e =
-    subst AreOfEngine (sym is.first_is ∙ first_is ∙ e) (parts_of task 0 is.parts is.are_parts)
+    subst AreOfEngine (sym is.first_is ∙ first_is ∙ e) (parts_of task 0 is.parts [] is.are_parts)
 
 pub breaks_of : (page foot : List ℕ) (task : Task) (given output : List ℕ) (fault : RunFault) → Breaks page foot task given output fault → IsOfEngine fault
 breaks_of page foot task given output fault (form, uncut, h) = finished_of page foot task (map (of_byte 0) given) [] output (Some fault) fault h refl

@@ -6,3 +6,5 @@ pub mod HexLines
 pub mod Memory
 pub mod Faults
 pub mod Cutting
+pub mod Awaiting
+pub mod Joining

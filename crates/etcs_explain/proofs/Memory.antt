@@ -8,7 +8,7 @@ use Rattle.etcs_runs.specs.declared.fault.RunFault.{RunFault}
 use Rattle.etcs_runs.specs.declared.fault.RunFault.TheVariants.{Memory}
 use Rattle.etcs_explain.specs.declared.items.Items.{Items}
 use Rattle.etcs_explain.specs.Inputs.{line_long}
-use Rattle.etcs_explain.specs.Stands.{AddsOne, Takes, LinesTook, next_tokens}
+use Rattle.etcs_explain.specs.Stands.{AddsLine, Takes, LinesTook, next_tokens}
 use Rattle.etcs_explain.proofs.Standing.{took_line, took_too_long}
 
 pub memory_err : {T : Type 0} (done : Result T AllocError) (r : Result T RunFault) (P : Type 0) (Q : RunFault → Type 0) → IfErr r (λ e. (e ≡ Memory) × (done ≡ Err alloc_error)) → OnErr done P → (P → Q Memory) → IfErr r Q
@@ -18,7 +18,7 @@ memory_err done (Err e) P Q (memory, was) h f = subst Q (sym memory) (f (subst (
 on_ok : {T E : Type 0} (done : Result T E) (x : T) (P : Type 0) → done ≡ Ok x → OnOk done P → P
 on_ok done x P was h = subst (λ z. OnOk z P) was h
 
-pub line_ok : {T : Type 0} (done : Result T AllocError) (r : Result T RunFault) (page : List ℕ) (s t : Items) (lines : List (List ℕ)) (raw line output text text' : List ℕ) → IfOk r (λ x. done ≡ Ok x) → LinesTook page s lines (output ++ text) → IsLine raw → line ≡ strip_cr raw → t.explainer.task ≡ s.explainer.task → t.line ≡ s.line + 1 → OnOk done (Takes page s text (next_tokens s line) (line_long (s.line + 1) line) t text') → OnOk done (length t.held.items < 1023) → (s.explainer.task.from ≡ Json → OnOk done (t.held.items ≡ [])) → OnOk r (LinesTook page t (lines ++ raw ∷ []) (output ++ text'))
+pub line_ok : {T : Type 0} (done : Result T AllocError) (r : Result T RunFault) (page : List ℕ) (s t : Items) (lines : List (List ℕ)) (raw line output text text' : List ℕ) → IfOk r (λ x. done ≡ Ok x) → LinesTook page s lines (output ++ text) → IsLine raw → line ≡ strip_cr raw → t.explainer.task ≡ s.explainer.task → t.line ≡ s.line + 1 → OnOk done (Takes page (s.line + 1) s text (next_tokens s line) (line_long (s.line + 1) line) t text') → OnOk done (length t.held.items < 1023) → (s.explainer.task.from ≡ Json → OnOk done (t.held.items ≡ [])) → OnOk r (LinesTook page t (lines ++ raw ∷ []) (output ++ text'))
 line_ok done (Ok x) page s t lines raw line output text text' was h l e te next takes short json =
     took_line page s t lines raw line output text text' h l e te next (on_ok done x _ was takes) (on_ok done x _ was short) (λ j. on_ok done x _ was (json j))
 line_ok done (Err e') page s t lines raw line output text text' was h l e te next takes short json = tt
@@ -27,7 +27,7 @@ pub ends_ok : {T : Type 0} (done : Result T AllocError) (r : Result T RunFault) 
 ends_ok done (Ok x) P Q was f h = f x (subst (λ z. IfOk z P) was h)
 ends_ok done (Err e) P Q was f h = tt
 
-pub long_ok : {T : Type 0} (done : Result T AllocError) (r : Result T RunFault) (page : List ℕ) (s t : Items) (lines : List (List ℕ)) (part output text text' : List ℕ) → IfOk r (λ x. done ≡ Ok x) → LinesTook page s lines (output ++ text) → IsLine part → 1048576 + 1 < length part → t.explainer.task ≡ s.explainer.task → t.line ≡ s.line + 1 → t.lines.items ≡ s.lines.items → t.held.items ≡ s.held.items → OnOk done (AddsOne page s.explainer.task s.explainer.seen t.explainer.seen [] ((s.line + 1) ∷ []) text text') → OnOk r ((rest : List ℕ) → IsLine rest → LinesTook page t (lines ++ (part ++ rest) ∷ []) (output ++ text'))
+pub long_ok : {T : Type 0} (done : Result T AllocError) (r : Result T RunFault) (page : List ℕ) (s t : Items) (lines : List (List ℕ)) (part output text text' : List ℕ) → IfOk r (λ x. done ≡ Ok x) → LinesTook page s lines (output ++ text) → IsLine part → 1048576 + 1 < length part → t.explainer.task ≡ s.explainer.task → t.line ≡ s.line + 1 → t.lines.items ≡ s.lines.items → t.held.items ≡ s.held.items → OnOk done (AddsLine page s.explainer.task s.explainer.seen t.explainer.seen [] ((s.line + 1) ∷ []) text text') → OnOk r ((rest : List ℕ) → IsLine rest → LinesTook page t (lines ++ (part ++ rest) ∷ []) (output ++ text'))
 long_ok done (Ok x) page s t lines part output text text' was h l m te next le he a = λ rest r. took_too_long page s t lines part rest output text text' h l m te next le he (on_ok done x _ was a) r
 long_ok done (Err e) page s t lines part output text text' was h l m te next le he a = tt
 

@@ -15,12 +15,12 @@ abbrev pub has_some : List Part → Bool
 has_some [] = false
 has_some (p ∷ ps) = true
 
--- these tokens, and the numbers of lines that are too long, are those of some parts, one after another, and this is their
--- text, after the head of a page if there is a part; seen has whether there is one, how many items they have, and the first
--- fault
-pub record Explained (page : List ℕ) (task : Task) (seen : Seen) (tokens : List Token) (long : List ℕ) (output : List ℕ) : Type 0 where
+-- these tokens, and the numbers of lines that are too long, are those of some parts, one after another, before the tokens
+-- next, and this is their text, after the head of a page if there is a part; seen has whether there is one, how many items
+-- they have, and the first fault
+pub record Explained (page : List ℕ) (task : Task) (seen : Seen) (tokens next : List Token) (long : List ℕ) (output : List ℕ) : Type 0 where
   pub parts : List Part
-  pub are_parts : AreParts task 0 parts
+  pub are_parts : AreParts task 0 parts next
   pub tokens_are : tokens ≡ flat_map tokens_of parts
   pub long_is : long ≡ flat_map long_of parts
   pub output_is : output ≡ written (edge task.layout page) parts
@@ -30,15 +30,15 @@ pub record Explained (page : List ℕ) (task : Task) (seen : Seen) (tokens : Lis
 
 -- all that is there of an input was explained, but for the last bytes, fewer than 1,023
 abbrev pub Outputs : List ℕ → Task → List ℕ → List ℕ → Type 0
-Outputs page task given output = (tokens : List Token) × (lines held : List ℕ) × (long : List ℕ) × (seen : Seen) × SoFar task.kind task.from given (tokens ++ placed lines held) long × (length held < 1023) × Explained page task seen tokens long output
+Outputs page task given output = (tokens : List Token) × (lines held : List ℕ) × (long : List ℕ) × (seen : Seen) × SoFar task.kind task.from given (tokens ++ placed lines held) long × (length held < 1023) × Explained page task seen tokens (placed lines held) long output
 
 -- some first parts of what every input has that begins so were explained
 abbrev pub OutputsFirst : List ℕ → Task → List ℕ → List ℕ → Type 0
-OutputsFirst page task given output = (tokens rest : List Token) × (long more : List ℕ) × (seen : Seen) × Begins task.kind task.from given (tokens ++ rest) (long ++ more) × Explained page task seen tokens long output
+OutputsFirst page task given output = (tokens rest : List Token) × (long more : List ℕ) × (seen : Seen) × Begins task.kind task.from given (tokens ++ rest) (long ++ more) × Explained page task seen tokens rest long output
 
 -- all of these tokens and long lines were explained, between the head and the foot of a page, and this was wrong first
 abbrev pub Finished : List ℕ → List ℕ → Task → List Token → List ℕ → List ℕ → Option RunFault → Type 0
-Finished page foot task tokens long output first = (texts : List ℕ) × (seen : Seen) × Explained page task seen tokens long texts × (output ≡ texts ++ (missing seen.is_begun (edge task.layout page) ++ edge task.layout foot)) × (seen.first ≡ first)
+Finished page foot task tokens long output first = (texts : List ℕ) × (seen : Seen) × Explained page task seen tokens [] long texts × (output ≡ texts ++ (missing seen.is_begun (edge task.layout page) ++ edge task.layout foot)) × (seen.first ≡ first)
 
 -- a whole input was explained, and this was wrong first
 abbrev pub Ends : List ℕ → List ℕ → Task → List ℕ → List ℕ → Option RunFault → Type 0

@@ -1,3 +1,4 @@
+pub mod Kinds
 pub mod Inputs
 pub mod Parts
 pub mod Cuts

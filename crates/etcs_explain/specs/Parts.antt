@@ -1,6 +1,7 @@
 -- What an input is cut into, one after another; each has one text.
-use Rattle.std.specs.Prelude.{◌≡◌, ℕ, ◌+◌, ◌*◌, ◌<◌, ◌≤◌, ◌⊎◌, min, Bool, true, false, List, [], ◌∷◌, ◌++◌, length, flat_map, take, slice_index, codes, Option, Some, None}
+use Rattle.std.specs.Prelude.{◌≡◌, ℕ, ◌+◌, ◌*◌, ◌<◌, ◌⊎◌, min, if◌then◌else◌, Bool, true, false, List, [], ◌∷◌, ◌++◌, length, flat_map, take, slice_index, codes, Option, Some, None}
 use Rattle.std.specs.Fmt.{decimal}
+use Rattle.hex.specs.Hex.{is_hex_digit}
 use Rattle.etcs_bits.specs.Bits.{bits}
 use Rattle.etcs_vars.specs.declared.var.Var.{Var}
 use Rattle.etcs_vars.specs.Reading.{Viable, InLanguage, readings_of}
@@ -19,33 +20,37 @@ use Rattle.etcs_runs.specs.declared.fault.RunFault.TheVariants.{Refused, Truncat
 use Rattle.etcs_reasons.specs.declared.sheet.Layout.{Layout}
 use Rattle.etcs_reasons.specs.declared.sheet.Layout.TheVariants.{Text, Html}
 use Rattle.etcs_explain.specs.declared.task.Task.{Task}
+use Rattle.etcs_runs.specs.Digits.{line_digits}
 use Rattle.etcs_explain.specs.Inputs.{Token, of_line, placed}
+use Rattle.etcs_explain.specs.Kinds.{IsAsked, kind_of}
+use Rattle.etcs_explain.specs.Cuts.{awaited, AreJoined, IsOver}
 
 -- a part of an input: the bytes of an item, each with its line; bytes that are refused or unfinished; a line of JSON, with
--- its number, that is an item; a line that isn't one; the number of a line that is too long. The last of each is its text
+-- its number, that is an item; a line that isn't one; the number of a line that is too long. Each but the last has its kind
+-- first; the last of each is its text
 pub data Part : Type 0 where
-  item : List ℕ → List ℕ → List ℕ → Part
-  broken : List ℕ → List ℕ → RunFault → List ℕ → Part
-  good_line : ℕ → List ℕ → List ℕ → Part
-  bad_line : ℕ → List ℕ → RunFault → List ℕ → Part
+  item : Kind → List ℕ → List ℕ → List ℕ → Part
+  broken : Kind → List ℕ → List ℕ → RunFault → List ℕ → Part
+  good_line : Kind → ℕ → List ℕ → List ℕ → Part
+  bad_line : Kind → ℕ → List ℕ → RunFault → List ℕ → Part
   long_line : ℕ → RunFault → List ℕ → Part
 
 -- ---- What it takes of the input, and of the counts.
 
 -- the tokens of a part: its bytes or its line; none for a line that is too long
 abbrev pub tokens_of : Part → List Token
-tokens_of (item lines bytes text) = placed lines bytes
-tokens_of (broken lines bytes fault text) = placed lines bytes
-tokens_of (good_line n line text) = of_line n line ∷ []
-tokens_of (bad_line n line fault text) = of_line n line ∷ []
+tokens_of (item kind lines bytes text) = placed lines bytes
+tokens_of (broken kind lines bytes fault text) = placed lines bytes
+tokens_of (good_line kind n line text) = of_line n line ∷ []
+tokens_of (bad_line kind n line fault text) = of_line n line ∷ []
 tokens_of (long_line n fault text) = []
 
 -- the number of its line, if that is too long
 abbrev pub long_of : Part → List ℕ
-long_of (item lines bytes text) = []
-long_of (broken lines bytes fault text) = []
-long_of (good_line n line text) = []
-long_of (bad_line n line fault text) = []
+long_of (item kind lines bytes text) = []
+long_of (broken kind lines bytes fault text) = []
+long_of (good_line kind n line text) = []
+long_of (bad_line kind n line fault text) = []
 long_of (long_line n fault text) = n ∷ []
 
 -- 1 if the fault counts an item
@@ -61,26 +66,26 @@ item_of Memory = 0
 
 -- how many items a part counts as
 abbrev pub items_of : Part → ℕ
-items_of (item lines bytes text) = 1
-items_of (broken lines bytes fault text) = 1
-items_of (good_line n line text) = 1
-items_of (bad_line n line fault text) = item_of fault
+items_of (item kind lines bytes text) = 1
+items_of (broken kind lines bytes fault text) = 1
+items_of (good_line kind n line text) = 1
+items_of (bad_line kind n line fault text) = item_of fault
 items_of (long_line n fault text) = 0
 
 -- its fault, if it has one
 abbrev pub fault_of : Part → Option RunFault
-fault_of (item lines bytes text) = None
-fault_of (broken lines bytes fault text) = Some fault
-fault_of (good_line n line text) = None
-fault_of (bad_line n line fault text) = Some fault
+fault_of (item kind lines bytes text) = None
+fault_of (broken kind lines bytes fault text) = Some fault
+fault_of (good_line kind n line text) = None
+fault_of (bad_line kind n line fault text) = Some fault
 fault_of (long_line n fault text) = Some fault
 
 -- its text
 abbrev pub text_of : Part → List ℕ
-text_of (item lines bytes text) = text
-text_of (broken lines bytes fault text) = text
-text_of (good_line n line text) = text
-text_of (bad_line n line fault text) = text
+text_of (item kind lines bytes text) = text
+text_of (broken kind lines bytes fault text) = text
+text_of (good_line kind n line text) = text
+text_of (bad_line kind n line fault text) = text
 text_of (long_line n fault text) = text
 
 -- ---- Its text.
@@ -116,9 +121,20 @@ IsBadJson kind number n line fault =
     ((i : ℕ) × (x : Var) × (fault ≡ Refused number i x) × SaysRefused kind line i x)
     ⊎ ((fault ≡ BadJson n) × ((o : EntryValue) → IsLoose kind o → OfLine (λ d. IsTreeOf o d) line → ⊥))
 
--- the fault has the line's number and some place of the line, or its end
+-- how many digits a line begins with
+abbrev pub first_digits : List ℕ → ℕ
+first_digits [] = 0
+first_digits (c ∷ cs) = if is_hex_digit c then 1 + first_digits cs else 0
+
+-- the place of what is wrong with a line without bytes: the first character that is no digit if it has no digits at its end,
+-- else its end
+abbrev pub bad_place : List ℕ → List ℕ → ℕ
+bad_place [] line = first_digits line
+bad_place (c ∷ digits) line = length line
+
+-- the fault has the line's number and that place
 abbrev pub IsBadHex : ℕ → List ℕ → RunFault → Type 0
-IsBadHex n line fault = (place : ℕ) × (place ≤ length line) × (fault ≡ BadHex n place)
+IsBadHex n line fault = fault ≡ BadHex n (bad_place (line_digits line) line)
 
 -- the fault of a line that is not an item, in an input of this form
 abbrev pub IsBad : Form → Kind → ℕ → ℕ → List ℕ → RunFault → Type 0
@@ -135,22 +151,42 @@ long_fault Bin n = BadHex n 1048576
 -- ---- Parts.
 
 -- the part is as its variant is named, if its item has this number: bytes of an item or with their fault, a line with its fault
--- unless it is an item; and its text begins with its place
+-- unless it is an item. Its kind is asked for or guessed, by its bytes and what comes after an item, and its text begins with
+-- its place
 abbrev pub IsPart : Task → ℕ → Part → Type 0
-IsPart task number (item lines bytes text) = (length lines ≡ length bytes) × (0 < length bytes) × ((e : EntryValue) × IsItem task.kind bytes e) × HasTitle task true number (slice_index lines 0) text
-IsPart task number (broken lines bytes fault text) = (length lines ≡ length bytes) × (0 < length bytes) × IsBroken task.kind number bytes fault × HasTitle task true number (slice_index lines 0) text
-IsPart task number (good_line n line text) = ((e : EntryValue) × SaysItem task.kind line e) × HasTitle task true number n text
-IsPart task number (bad_line n line fault text) = IsBad task.from task.kind number n line fault × HasTitle task false number n text
+IsPart task number (item kind lines bytes text) = ((more : List ℕ) × (kind ≡ kind_of task.kind (bytes ++ more))) × (length lines ≡ length bytes) × (0 < length bytes) × ((e : EntryValue) × IsItem kind bytes e) × HasTitle task true number (slice_index lines 0) text
+IsPart task number (broken kind lines bytes fault text) = (kind ≡ kind_of task.kind bytes) × (length lines ≡ length bytes) × (0 < length bytes) × IsBroken kind number bytes fault × HasTitle task true number (slice_index lines 0) text
+IsPart task number (good_line kind n line text) = IsAsked task.kind kind × ((e : EntryValue) × SaysItem kind line e) × HasTitle task true number n text
+IsPart task number (bad_line kind n line fault text) = IsAsked task.kind kind × IsBad task.from kind number n line fault × HasTitle task false number n text
 IsPart task number (long_line n fault text) = (fault ≡ long_fault task.from n) × HasTitle task false number n text
 
 -- the first fault isn't that of an unfinished item
 abbrev pub IsUncut : Option RunFault → Type 0
 IsUncut first = (number k : ℕ) → first ≡ Some (Truncated number k) → ⊥
 
--- each of them is a part, one after another, after k items
-abbrev pub AreParts : Task → ℕ → List Part → Type 0
-AreParts task k [] = Unit {0}
-AreParts task k (p ∷ ps) = IsPart task (counted (k + 1)) p × AreParts task (k + items_of p) ps
+-- the item goes on, as far as the fault says: it is unfinished, or refused before all of its bytes are there
+abbrev pub GoesOn : RunFault → Kind → List ℕ → Type 0
+GoesOn (Refused number i x) kind bytes = length bytes < awaited kind bytes
+GoesOn (Truncated number k) kind bytes = Unit {0}
+GoesOn (BadHex n place) kind bytes = ⊥
+GoesOn (BadJson n) kind bytes = ⊥
+GoesOn Read kind bytes = ⊥
+GoesOn (Write sent) kind bytes = ⊥
+GoesOn Endless kind bytes = ⊥
+GoesOn Memory kind bytes = ⊥
+
+-- lines of hexadecimal are cut where the part ends, and not before, if these follow
+abbrev pub Fits : Form → Option Kind → Part → List Token → Type 0
+Fits form asked (item kind lines bytes text) next = form ≡ Hex → AreJoined asked lines bytes next
+Fits form asked (broken kind lines bytes fault text) next = form ≡ Hex → AreJoined asked lines bytes next × IsOver asked lines bytes (GoesOn fault kind bytes) next
+Fits form asked (good_line kind n line text) next = Unit {0}
+Fits form asked (bad_line kind n line fault text) next = Unit {0}
+Fits form asked (long_line n fault text) next = Unit {0}
+
+-- each of them is a part, one after another, after k items, and then these follow
+abbrev pub AreParts : Task → ℕ → List Part → List Token → Type 0
+AreParts task k [] next = Unit {0}
+AreParts task k (p ∷ ps) next = IsPart task (counted (k + 1)) p × Fits task.from task.kind p (flat_map tokens_of ps ++ next) × AreParts task (k + items_of p) ps next
 
 -- ---- All of them.
 

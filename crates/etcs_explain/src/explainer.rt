@@ -1,6 +1,6 @@
 //! Parts of an input explained, one after another.
 
-ghost use Rattle.std.specs.Prelude.{◌≡◌, ◌+◌, ◌<◌, ◌≤◌, ◌++◌, ◌∷◌, ◌⊎◌, ◌↔◌, ℕ, List, [], true, false, Some, None, length, string_bytes, take, IfOk, IsTrue, OnErr, OnOk};
+ghost use Rattle.std.specs.Prelude.{◌≡◌, ◌+◌, ◌<◌, ◌≤◌, ◌++◌, ◌∷◌, ◌⊎◌, ◌↔◌, ℕ, Bool, List, [], true, false, Some, None, Err, length, string_bytes, drop, take, IfOk, IsTrue, OnErr, OnOk};
 ghost use Rattle.etcs_bits.specs.Bits.{bits};
 ghost use Rattle.etcs_vars.specs.Reading.{readings_of};
 ghost use Rattle.etcs_text.specs.Entries.{EntryReads};
@@ -10,21 +10,27 @@ ghost use Rattle.etcs_runs.specs.declared.form.Form.TheVariants as form;
 ghost use Rattle.etcs_text.specs.declared.account.End.{End};
 ghost use Rattle.etcs_text.specs.declared.account.Part.{Part};
 ghost use Rattle.etcs_text.specs.Accounts.{Accounts};
-ghost use Rattle.etcs_explain.specs.Inputs.{of_line, placed};
-ghost use Rattle.etcs_explain.specs.Parts.{IsUncut, edge, long_fault, missing, opening, place};
-ghost use Rattle.etcs_explain.specs.Stands.{AddsOne, Explains, ExplainsSome, IsAfter, ItemPart, Writes};
+ghost use Rattle.etcs_explain.specs.Inputs.{Token, of_line, placed};
+ghost use Rattle.etcs_runs.specs.Answers.{Says};
+ghost use Rattle.etcs_runs.specs.Digits.{line_digits};
+ghost use Rattle.etcs_explain.specs.Kinds.{kind_of};
+ghost use Rattle.etcs_explain.specs.Cuts.{AreFew, awaited};
+ghost use Rattle.etcs_explain.specs.Parts.{IsUncut, bad_place, edge, first_digits, long_fault, missing, opening, place};
+ghost use Rattle.etcs_explain.specs.Stands.{AddsLine, AddsOne, AreReady, Explains, ExplainsSome, IsAfter, ItemPart, Writes};
 
 use crate::hints::last_telegram;
 use crate::json::write_no_item;
+use crate::kinds::{kind_of, kind_of_json};
 use crate::seen::Seen;
 use crate::task::Task;
-use crate::titles::{wanted, write_heading, write_title};
+use crate::titles::{awaited, write_heading, write_title};
 use etcs_json::{JsonFault, from_line};
 use etcs_packet_text::inner::Page;
 use etcs_reasons::inner::{
     FOOT, HEAD, MOST_BYTES, Sheet, way_of, write_bytes, write_cause, write_no_bytes, write_table,
 };
 use etcs_reasons::{Account, End, Layout, Part};
+use etcs_runs::inner::is_digit;
 use etcs_runs::{Form, MOST_LINE, NoBytes, RunFault};
 use etcs_text::{Entry, Kind, encoded};
 use std::alloc::{AllocError, Global};
@@ -165,6 +171,7 @@ impl Explainer {
     /// If memory runs out. Nothing was appended.
     fn write_item(
         &mut self,
+        kind: Kind,
         bytes: &[u8],
         account: &Account,
         line: u64,
@@ -176,7 +183,7 @@ impl Explainer {
         ensures err { OnErr result (page.new ≡ page.old) }
     {
         self.clear();
-        let Task { kind, layout, .. } = self.task;
+        let layout = self.task.layout;
         match layout {
             Layout::Text => write_title(kind, bytes, account.end, &mut self.sheet.meaning),
             Layout::Html => write_heading(kind, bytes, account, &mut self.sheet.meaning),
@@ -188,7 +195,7 @@ impl Explainer {
         write_table(way_of(kind), bytes, account, &mut self.sheet);
         self.sheet.clear();
         let usual = write_cause(kind, bytes, account, &mut self.sheet.meaning)?;
-        let often = last_telegram(self.alloc, self.task, bytes, account.end)?.or(usual);
+        let often = last_telegram(self.alloc, self.task.from, kind, bytes, account.end)?.or(usual);
         self.sheet.close_item(often);
         self.pass_on(true, line, page)
     }
@@ -225,6 +232,7 @@ impl Explainer {
     /// If memory runs out. Nothing was appended.
     fn item(
         &mut self,
+        kind: Kind,
         bytes: &[u8],
         lines: &[u64],
         account: &Account,
@@ -232,19 +240,35 @@ impl Explainer {
     ) -> Result<usize, AllocError>
         requires some { 0 < length bytes.now }
         requires even { length lines.now ≡ length bytes.now }
-        requires account { Accounts (readings_of (EntryReads self.old.task.kind)) account.now.fields.items account.now.end (take 8184 (bits bytes.now)) }
+        requires kind { kind ≡ kind_of self.old.task.kind bytes.now }
+        requires account { Accounts (readings_of (EntryReads kind)) account.now.fields.items account.now.end (take 8184 (bits bytes.now)) }
         ensures task { self.new.task ≡ self.old.task }
         ensures some { IfOk result (λ n. 0 < n) }
         ensures most { IfOk result (λ n. n ≤ length bytes.now) }
-        ensures ok { IfOk result (λ n. AddsOne HEAD.now self.old.task self.old.seen self.new.seen (placed (take n lines.now) (take n bytes.now)) [] page.old page.new) }
+        ensures ok { IfOk result (λ n. (last : Bool) (next : List Token) → AreReady last self.old.task lines.now bytes.now next → (last ≡ false → awaited kind bytes.now ≤ length bytes.now) → AddsOne HEAD.now self.old.task self.old.seen self.new.seen (placed (take n lines.now) (take n bytes.now)) (placed (drop n lines.now) (drop n bytes.now) ++ next) [] page.old page.new × AreReady last self.old.task (drop n lines.now) (drop n bytes.now) next) }
         ensures uncut { ((part : Part) → account.now.end ≡ End.Open part → ⊥) → IsUncut self.old.seen.first → OnOk result (IsUncut self.new.seen.first) }
+        ensures kept { (fault : RunFault) → self.old.seen.first ≡ Some fault → OnOk result (self.new.seen.first ≡ Some fault) }
         ensures err { OnErr result (page.new ≡ page.old) }
     {
-        let (count, fault) = item_part(self.task.kind, bytes, account, self.number());
+        let (count, fault) = item_part(kind, bytes, account, self.number());
         let shown = &bytes[..count.min(MOST_BYTES)];
-        self.write_item(shown, account, lines[0], page)?;
+        self.write_item(kind, shown, account, lines[0], page)?;
         self.seen = self.seen.after(1, fault);
         Ok(count)
+    }
+
+    /// How many bytes have to be there before an item of this kind is explained: as many as it has. In an input of bytes a
+    /// guess needs more, so nothing depends on how reads were cut.
+    fn needed(&self, kind: Kind, bytes: &[u8]) -> usize
+        ensures most { result ≤ 1023 }
+        ensures least { awaited kind bytes.now ≤ result }
+        ensures hex { self.now.task.from ≡ form.Hex → result ≡ awaited kind bytes.now }
+    {
+        let count = awaited(kind, bytes);
+        match (self.task.kind, kind) {
+            (None, Kind::Short | Kind::Long) if self.task.from == Form::Bin => count.max(105),
+            _ => count,
+        }
     }
 
     /// Explains the items that bytes begin with, one after another, and returns how many bytes they have: all of them if no
@@ -267,20 +291,22 @@ impl Explainer {
         ensures last { IsTrue is_last → IfOk result (λ n. n ≡ length bytes.now) }
         ensures uncut { is_last ≡ false → IsUncut self.old.seen.first → OnOk result (IsUncut self.new.seen.first) }
         ensures kept { (fault : RunFault) → self.old.seen.first ≡ Some fault → OnOk result (self.new.seen.first ≡ Some fault) }
-        ensures ok { IfOk result (λ n. Explains HEAD.now self.old.task self.old.seen page.old (placed (take n lines.now) (take n bytes.now)) self.new.seen page.new) }
-        ensures err { OnErr result (ExplainsSome HEAD.now self.old.task self.old.seen page.old (placed lines.now bytes.now) page.new) }
+        ensures held { is_last ≡ false → self.old.task.from ≡ form.Hex → IfOk result (λ n. AreFew self.old.task.kind (drop n bytes.now)) }
+        ensures ok { IfOk result (λ n. (next : List Token) → AreReady is_last self.old.task lines.now bytes.now next → Explains HEAD.now self.old.task self.old.seen page.old (placed (take n lines.now) (take n bytes.now)) (placed (drop n lines.now) (drop n bytes.now) ++ next) self.new.seen page.new × AreReady is_last self.old.task (drop n lines.now) (drop n bytes.now) next) }
+        ensures err { OnErr result ((next : List Token) → AreReady is_last self.old.task lines.now bytes.now next → ExplainsSome HEAD.now self.old.task self.old.seen page.old (placed lines.now bytes.now) next page.new) }
     {
         let mut at = 0;
         while at < bytes.len() {
             let rest = &bytes[at..];
-            if !is_last && rest.len() < wanted(self.task.kind, rest) {
+            let kind = kind_of(self.task.kind, rest);
+            if !is_last && rest.len() < self.needed(kind, rest) {
                 break;
             }
-            let account = Account::read(self.alloc, self.task.kind, rest)?;
+            let account = Account::read(self.alloc, kind, rest)?;
             if !is_last && waits(self.task.from, &account, rest.len()) {
                 break;
             }
-            at += self.item(rest, &lines[at..], &account, page)?;
+            at += self.item(kind, rest, &lines[at..], &account, page)?;
         }
         Ok(at)
     }
@@ -298,15 +324,17 @@ impl Explainer {
     ) -> Result<(), AllocError>
         requires json { self.old.task.from ≡ form.Json }
         ensures task { self.new.task ≡ self.old.task }
-        ensures ok { OnOk result (AddsOne HEAD.now self.old.task self.old.seen self.new.seen (of_line number line.now ∷ []) [] page.old page.new) }
+        ensures ok { OnOk result (AddsLine HEAD.now self.old.task self.old.seen self.new.seen (of_line number line.now ∷ []) [] page.old page.new) }
         ensures err { OnErr result (page.new ≡ page.old) }
     {
-        let fault = match from_line(self.alloc, self.task.kind, line) {
-            Ok(entry) => return self.json_item(&entry, number, page),
+        let kind = kind_of_json(self.task.kind, line);
+        let fault = match from_line(self.alloc, kind, line) {
+            Ok(entry) => return self.json_item(kind, &entry, number, page),
             Err(fault) => fault,
         };
         self.clear();
-        write_no_item(self.task.kind, line, fault, &mut self.sheet.meaning);
+        let is_guessed = self.task.kind.is_none();
+        write_no_item(kind, is_guessed, line, fault, &mut self.sheet.meaning);
         match fault {
             JsonFault::Refused { bit, var } => {
                 let item = self.number();
@@ -324,7 +352,13 @@ impl Explainer {
     /// # Errors
     ///
     /// If memory runs out. Nothing was appended.
-    fn json_item(&mut self, entry: &Entry, number: u64, page: &mut Page) -> Result<(), AllocError>
+    fn json_item(
+        &mut self,
+        kind: Kind,
+        entry: &Entry,
+        number: u64,
+        page: &mut Page,
+    ) -> Result<(), AllocError>
         ensures task { self.new.task ≡ self.old.task }
         ensures seen { OnOk result (IsAfter self.old.seen 1 None self.new.seen) }
         ensures ok { OnOk result (Writes HEAD.now self.old.task self.old.seen.is_begun true (counted (self.old.seen.items + 1)) number page.old page.new) }
@@ -332,8 +366,8 @@ impl Explainer {
     {
         let mut bytes = Vec::new(self.alloc);
         encoded(entry, &mut bytes)?;
-        let account = Account::read(self.alloc, self.task.kind, bytes.as_slice())?;
-        self.write_item(bytes.as_slice(), &account, number, page)?;
+        let account = Account::read(self.alloc, kind, bytes.as_slice())?;
+        self.write_item(kind, bytes.as_slice(), &account, number, page)?;
         self.seen = self.seen.after(1, None);
         Ok(())
     }
@@ -351,27 +385,20 @@ impl Explainer {
         page: &mut Page,
     ) -> Result<(), AllocError>
         requires lines { self.old.task.from ≡ form.Json → ⊥ }
+        requires why { Says (line_digits line.now) (Err why) [] }
         ensures task { self.new.task ≡ self.old.task }
-        ensures ok { OnOk result (AddsOne HEAD.now self.old.task self.old.seen self.new.seen (of_line number line.now ∷ []) [] page.old page.new) }
+        ensures ok { OnOk result (AddsLine HEAD.now self.old.task self.old.seen self.new.seen (of_line number line.now ∷ []) [] page.old page.new) }
         ensures err { OnErr result (page.new ≡ page.old) }
     {
         self.clear();
         let mut reason = String::new(self.alloc);
         write_no_bytes(why, &mut reason)?;
         self.sheet.meaning.push(reason.as_str());
-        let place = match line.iter().position(|c| !c.is_ascii_hexdigit()) {
-            Some(place) if why == NoBytes::NoDigits => place,
-            _ => line.len(),
-        } as u64;
-        self.write_wrong(
-            RunFault::BadHex {
-                line: number,
-                place,
-            },
-            0,
-            number,
-            page,
-        )
+        let fault = RunFault::BadHex {
+            line: number,
+            place: bad_place(line, why) as u64,
+        };
+        self.write_wrong(fault, 0, number, page)
     }
 
     /// Reports that a line is too long.
@@ -381,7 +408,7 @@ impl Explainer {
     /// If memory runs out. Nothing was appended.
     pub(crate) fn long_line(&mut self, number: u64, page: &mut Page) -> Result<(), AllocError>
         ensures task { self.new.task ≡ self.old.task }
-        ensures ok { OnOk result (AddsOne HEAD.now self.old.task self.old.seen self.new.seen [] (number ∷ []) page.old page.new) }
+        ensures ok { OnOk result (AddsLine HEAD.now self.old.task self.old.seen self.new.seen [] (number ∷ []) page.old page.new) }
         ensures err { OnErr result (page.new ≡ page.old) }
     {
         self.clear();
@@ -407,6 +434,28 @@ impl Explainer {
     }
 }
 
+/// The place of what is wrong with a line without bytes.
+fn bad_place(line: &[u8], why: NoBytes) -> usize
+    requires { Says (line_digits line.now) (Err why) [] }
+    ensures { result ≡ bad_place (line_digits line.now) line.now }
+{
+    match why {
+        NoBytes::NoDigits => first_digits(line),
+        _ => line.len(),
+    }
+}
+
+/// How many digits a line begins with.
+fn first_digits(line: &[u8]) -> usize
+    ensures { result ≡ first_digits line.now }
+{
+    let mut count = 0;
+    while count < line.len() && is_digit(line[count]) {
+        count += 1;
+    }
+    count
+}
+
 /// The fault of a line of this number that is too long.
 fn long_fault(from: Form, line: u64) -> RunFault
     ensures { result ≡ long_fault from line }
@@ -425,6 +474,7 @@ fn waits(from: Form, account: &Account, count: usize) -> bool
     ensures whole { account.now.end ≡ End.Whole → result ≡ false }
     ensures refused { (bit : ℕ) (part : Part) → account.now.end ≡ End.Refused bit part → IsTrue result ↔ ((from ≡ form.Bin) × (count < 1023)) }
     ensures other { result ≡ false → (part : Part) → account.now.end ≡ End.Open part → ⊥ }
+    ensures hex { from ≡ form.Hex → IsTrue result → (part : Part) × (account.now.end ≡ End.Open part) }
 {
     match account.end {
         End::Whole => false,

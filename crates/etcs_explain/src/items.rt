@@ -1,15 +1,17 @@
 //! The items of bytes and of lines.
 
-ghost use Rattle.std.specs.Prelude.{◌≡◌, ◌+◌, ◌*◌, ◌^◌, ◌<◌, ◌≤◌, ◌∷◌, ℕ, List, Err, Ok, [], alloc_error, Some, false, drop, length, map, IfErr, IfOk, IsTrue, OnErr, OnOk};
+ghost use Rattle.std.specs.Prelude.{◌≡◌, ◌+◌, ◌*◌, ◌^◌, ◌<◌, ◌≤◌, ◌∷◌, ◌++◌, ℕ, List, replicate, Err, Ok, [], alloc_error, Some, false, drop, length, map, IfErr, IfOk, IsTrue, OnErr, OnOk};
 ghost use Rattle.etcs_runs.specs.declared.fault.RunFault.{RunFault};
 ghost use Rattle.etcs_runs.specs.declared.form.Form.TheVariants as form;
 ghost use Rattle.etcs_reasons.specs.declared.page.TheConstants.{FOOT, HEAD};
+ghost use Rattle.etcs_runs.specs.Digits.{without_mark};
 
 use crate::cut::is_cut;
 use crate::explainer::Explainer;
+use crate::kinds::say_bits;
 use crate::task::Task;
 use etcs_packet_text::inner::Page;
-use etcs_reasons::inner::{FOOT, HEAD, are_bits, packed};
+use etcs_reasons::inner::{FOOT, HEAD, packed};
 use etcs_runs::inner::{Engine, LineHandler, MOST_READ};
 use etcs_runs::{Form, MOST_LINE, NoBytes, RunFault, line_bytes, without_cr};
 use std::alloc::{AllocError, Global};
@@ -46,11 +48,24 @@ fn or_memory<T>(done: Result<T, AllocError>) -> Result<T, RunFault>
     }
 }
 
+/// A line without the byte order mark in front.
+fn without_mark(line: &[u8]) -> &[u8]
+    ensures { result.now ≡ without_mark line.now }
+{
+    if line.len() > 2 && line[0] == 0xEF && line[1] == 0xBB && line[2] == 0xBF {
+        &line[3..]
+    } else {
+        line
+    }
+}
+
 impl Items {
-    ghost use Rattle.etcs_explain.specs.Inputs.{of_byte, of_line, digits_say, hex_tokens, line_long, short_tokens};
+    ghost use Rattle.etcs_explain.specs.Inputs.{Token, of_byte, of_line, digits_say, hex_tokens, json_tokens, line_long, short_tokens};
     ghost use Rattle.etcs_explain.specs.Parts.{IsUncut};
     ghost use Rattle.etcs_explain.specs.Cuts.{IsCut};
-    ghost use Rattle.etcs_explain.specs.Stands.{BytesStand, Finishes, LinesTook, Takes, TakesSome, next_tokens};
+    ghost use Rattle.etcs_runs.specs.Answers.{Says};
+    ghost use Rattle.etcs_runs.specs.Digits.{line_digits};
+    ghost use Rattle.etcs_explain.specs.Stands.{BytesStand, EndsCut, EndsSome, Finishes, LinesTook, Passes, PassesSome, SomeBefore, Stays, Takes, TakesBefore, TakesSome, next_tokens};
 
     /// Nothing has come yet.
     pub(crate) fn new(alloc: Global, task: Task) -> Items
@@ -71,7 +86,8 @@ impl Items {
     fn add(&mut self, bytes: &[u8]) -> Result<(), AllocError>
         ensures same { (self.new.explainer.task ≡ self.old.explainer.task) × (self.new.line ≡ self.old.line) }
         ensures seen { self.new.explainer.seen ≡ self.old.explainer.seen }
-        ensures ok { OnOk result ((text : List ℕ) → Takes HEAD.now self.old text (map (of_byte self.old.line) bytes.now) [] self.new text) }
+        ensures held { OnOk result ((self.new.held.items ≡ self.old.held.items ++ bytes.now) × (self.new.lines.items ≡ self.old.lines.items ++ replicate (length bytes.now) self.old.line)) }
+        ensures ok { OnOk result ((text : List ℕ) (next : List Token) → TakesBefore HEAD.now self.old text (map (of_byte self.old.line) bytes.now) next [] self.new text) }
     {
         self.held.extend_from_slice(bytes)?;
         match self.lines.resize(self.held.len(), self.line) {
@@ -90,8 +106,8 @@ impl Items {
         ensures last { IsTrue is_last → OnOk result (self.new.held.items ≡ []) }
         ensures uncut { is_last ≡ false → IsUncut self.old.explainer.seen.first → OnOk result (IsUncut self.new.explainer.seen.first) }
         ensures kept { (fault : RunFault) → self.old.explainer.seen.first ≡ Some fault → OnOk result (self.new.explainer.seen.first ≡ Some fault) }
-        ensures ok { OnOk result (Takes HEAD.now self.old page.old [] [] self.new page.new) }
-        ensures err { OnErr result (TakesSome HEAD.now self.old page.old [] [] self.new page.new) }
+        ensures ok { OnOk result (Passes HEAD.now is_last self.old page.old self.new page.new) }
+        ensures err { OnErr result (PassesSome HEAD.now is_last self.old page.old self.new page.new) }
     {
         let count = self
             .explainer
@@ -103,16 +119,17 @@ impl Items {
 
     /// Explains what is held, if it was cut short before these bytes of the last line.
     fn end_cut(&mut self, bytes: &[u8], page: &mut Page) -> Result<(), AllocError>
+        requires some { 0 < length bytes.now }
         ensures same { (self.new.explainer.task ≡ self.old.explainer.task) × (self.new.line ≡ self.old.line) }
-        ensures rest { (IsCut self.old.explainer.task.kind self.old.held.items bytes.now → ⊥) → OnOk result ((self.new.held.items ≡ self.old.held.items) × (page.new ≡ page.old)) }
-        ensures ok { OnOk result (Takes HEAD.now self.old page.old [] [] self.new page.new) }
-        ensures err { OnErr result (TakesSome HEAD.now self.old page.old [] [] self.new page.new) }
+        ensures uncut { OnOk result (IsCut self.old.explainer.task.kind self.new.held.items bytes.now → ⊥) }
+        ensures ok { OnOk result (EndsCut HEAD.now self.old page.old (map (of_byte self.old.line) bytes.now) self.new page.new) }
+        ensures err { OnErr result (EndsSome HEAD.now self.old page.old (map (of_byte self.old.line) bytes.now) self.new page.new) }
     {
         if self.held.is_empty() {
             return Ok(());
         }
-        let kind = self.explainer.task.kind;
-        if is_cut(self.explainer.alloc, kind, self.held.as_slice(), bytes)? {
+        let asked = self.explainer.task.kind;
+        if is_cut(self.explainer.alloc, asked, self.held.as_slice(), bytes)? {
             return self.pass(true, page);
         }
         Ok(())
@@ -120,10 +137,11 @@ impl Items {
 
     /// Takes the bytes of the last line, which are the rest of the item that is held or begin another.
     fn take(&mut self, bytes: &[u8], page: &mut Page) -> Result<(), AllocError>
+        requires some { 0 < length bytes.now }
         ensures same { (self.new.explainer.task ≡ self.old.explainer.task) × (self.new.line ≡ self.old.line) }
         ensures short { OnOk result (length self.new.held.items < 1023) }
-        ensures ok { OnOk result (Takes HEAD.now self.old page.old (map (of_byte self.old.line) bytes.now) [] self.new page.new) }
-        ensures err { OnErr result (TakesSome HEAD.now self.old page.old (map (of_byte self.old.line) bytes.now) [] self.new page.new) }
+        ensures ok { OnOk result (Takes HEAD.now self.old.line self.old page.old (map (of_byte self.old.line) bytes.now) [] self.new page.new) }
+        ensures err { OnErr result (TakesSome HEAD.now self.old.line self.old page.old (map (of_byte self.old.line) bytes.now) [] self.new page.new) }
     {
         self.end_cut(bytes, page)?;
         self.add(bytes)?;
@@ -132,12 +150,13 @@ impl Items {
 
     /// Takes the bytes of the last line's digits; or, if the digits are the bits of a telegram, the bytes of these bits.
     fn take_digits(&mut self, bytes: &[u8], page: &mut Page) -> Result<(), AllocError>
+        requires some { 0 < length bytes.now }
         ensures same { (self.new.explainer.task ≡ self.old.explainer.task) × (self.new.line ≡ self.old.line) }
         ensures short { OnOk result (length self.new.held.items < 1023) }
-        ensures ok { OnOk result (Takes HEAD.now self.old page.old (map (of_byte self.old.line) (digits_say self.old.explainer.task.kind bytes.now)) [] self.new page.new) }
-        ensures err { OnErr result (TakesSome HEAD.now self.old page.old (map (of_byte self.old.line) (digits_say self.old.explainer.task.kind bytes.now)) [] self.new page.new) }
+        ensures ok { OnOk result (Takes HEAD.now self.old.line self.old page.old (map (of_byte self.old.line) (digits_say self.old.explainer.task.kind bytes.now)) [] self.new page.new) }
+        ensures err { OnErr result (TakesSome HEAD.now self.old.line self.old page.old (map (of_byte self.old.line) (digits_say self.old.explainer.task.kind bytes.now)) [] self.new page.new) }
     {
-        if are_bits(self.explainer.task.kind, bytes) {
+        if say_bits(self.explainer.task.kind, bytes) {
             let packed = packed(bytes);
             return self.take(&packed[..(bytes.len() + 3) / 4], page);
         }
@@ -150,8 +169,8 @@ impl Items {
         requires short { length self.old.held.items < 1023 }
         ensures same { (self.new.explainer.task ≡ self.old.explainer.task) × (self.new.line ≡ self.old.line) }
         ensures short { OnOk result (length self.new.held.items < 1023) }
-        ensures ok { OnOk result (Takes HEAD.now self.old page.old (hex_tokens self.old.explainer.task.kind self.old.line line.now) [] self.new page.new) }
-        ensures err { OnErr result (TakesSome HEAD.now self.old page.old (hex_tokens self.old.explainer.task.kind self.old.line line.now) [] self.new page.new) }
+        ensures ok { OnOk result (Takes HEAD.now self.old.line self.old page.old (hex_tokens self.old.explainer.task.kind self.old.line line.now) [] self.new page.new) }
+        ensures err { OnErr result (TakesSome HEAD.now self.old.line self.old page.old (hex_tokens self.old.explainer.task.kind self.old.line line.now) [] self.new page.new) }
     {
         let mut buffer = Vec::new(self.explainer.alloc);
         buffer.resize(line.len() / 2 + 1, 0)?;
@@ -170,8 +189,8 @@ impl Items {
         requires short { length self.old.held.items < 1023 }
         ensures same { (self.new.explainer.task ≡ self.old.explainer.task) × (self.new.line ≡ self.old.line) }
         ensures short { OnOk result (length self.new.held.items < 1023) }
-        ensures ok { OnOk result (Takes HEAD.now self.old page.old (hex_tokens self.old.explainer.task.kind self.old.line line.now) [] self.new page.new) }
-        ensures err { OnErr result (TakesSome HEAD.now self.old page.old (hex_tokens self.old.explainer.task.kind self.old.line line.now) [] self.new page.new) }
+        ensures ok { OnOk result (Takes HEAD.now self.old.line self.old page.old (hex_tokens self.old.explainer.task.kind self.old.line line.now) [] self.new page.new) }
+        ensures err { OnErr result (TakesSome HEAD.now self.old.line self.old page.old (hex_tokens self.old.explainer.task.kind self.old.line line.now) [] self.new page.new) }
     {
         match line_bytes(line, buffer) {
             Ok(count) => {
@@ -189,13 +208,30 @@ impl Items {
     /// Explains what is held, and reports why the last line has no bytes.
     fn bad_hex(&mut self, line: &[u8], why: NoBytes, page: &mut Page) -> Result<(), AllocError>
         requires lines { self.old.explainer.task.from ≡ form.Json → ⊥ }
+        requires why { Says (line_digits line.now) (Err why) [] }
         ensures same { (self.new.explainer.task ≡ self.old.explainer.task) × (self.new.line ≡ self.old.line) }
         ensures short { OnOk result (length self.new.held.items < 1023) }
-        ensures ok { OnOk result (Takes HEAD.now self.old page.old (of_line self.old.line line.now ∷ []) [] self.new page.new) }
-        ensures err { OnErr result (TakesSome HEAD.now self.old page.old (of_line self.old.line line.now ∷ []) [] self.new page.new) }
+        ensures ok { OnOk result (Takes HEAD.now self.old.line self.old page.old (of_line self.old.line line.now ∷ []) [] self.new page.new) }
+        ensures err { OnErr result (TakesSome HEAD.now self.old.line self.old page.old (of_line self.old.line line.now ∷ []) [] self.new page.new) }
     {
         self.pass(true, page)?;
         self.explainer.bad_hex(line, self.line, why, page)?;
+        Ok(())
+    }
+
+    /// Takes the last line, of JSON.
+    fn json_line(&mut self, line: &[u8], page: &mut Page) -> Result<(), AllocError>
+        requires form { self.old.explainer.task.from ≡ form.Json }
+        requires none { self.old.held.items ≡ [] }
+        ensures same { (self.new.explainer.task ≡ self.old.explainer.task) × (self.new.line ≡ self.old.line) }
+        ensures none { self.new.held.items ≡ [] }
+        ensures ok { OnOk result (Takes HEAD.now self.old.line self.old page.old (json_tokens self.old.line line.now) [] self.new page.new) }
+        ensures err { OnErr result (TakesSome HEAD.now self.old.line self.old page.old (json_tokens self.old.line line.now) [] self.new page.new) }
+    {
+        if line.is_empty() {
+            return Ok(());
+        }
+        self.explainer.json_line(line, self.line, page)?;
         Ok(())
     }
 
@@ -206,15 +242,11 @@ impl Items {
         ensures same { (self.new.explainer.task ≡ self.old.explainer.task) × (self.new.line ≡ self.old.line) }
         ensures short { OnOk result (length self.new.held.items < 1023) }
         ensures json { self.old.explainer.task.from ≡ form.Json → OnOk result (self.new.held.items ≡ []) }
-        ensures ok { OnOk result (Takes HEAD.now self.old page.old (short_tokens self.old.explainer.task.kind self.old.explainer.task.from self.old.line line.now) [] self.new page.new) }
-        ensures err { OnErr result (TakesSome HEAD.now self.old page.old (short_tokens self.old.explainer.task.kind self.old.explainer.task.from self.old.line line.now) [] self.new page.new) }
+        ensures ok { OnOk result (Takes HEAD.now self.old.line self.old page.old (short_tokens self.old.explainer.task.kind self.old.explainer.task.from self.old.line line.now) [] self.new page.new) }
+        ensures err { OnErr result (TakesSome HEAD.now self.old.line self.old page.old (short_tokens self.old.explainer.task.kind self.old.explainer.task.from self.old.line line.now) [] self.new page.new) }
     {
         match self.explainer.task.from {
-            Form::Json if line.is_empty() => Ok(()),
-            Form::Json => {
-                self.explainer.json_line(line, self.line, page)?;
-                Ok(())
-            }
+            Form::Json => self.json_line(without_mark(line), page),
             Form::Hex => self.hex_line(line, page),
             Form::Bin => self.hex_line(line, page),
         }
@@ -229,8 +261,8 @@ impl Items {
         ensures line { self.new.line ≡ self.old.line + 1 }
         ensures short { OnOk result (length self.new.held.items < 1023) }
         ensures json { self.old.explainer.task.from ≡ form.Json → OnOk result (self.new.held.items ≡ []) }
-        ensures ok { OnOk result (Takes HEAD.now self.old page.old (next_tokens self.old line.now) (line_long (self.old.line + 1) line.now) self.new page.new) }
-        ensures err { OnErr result (TakesSome HEAD.now self.old page.old (next_tokens self.old line.now) (line_long (self.old.line + 1) line.now) self.new page.new) }
+        ensures ok { OnOk result (Takes HEAD.now (self.old.line + 1) self.old page.old (next_tokens self.old line.now) (line_long (self.old.line + 1) line.now) self.new page.new) }
+        ensures err { OnErr result (TakesSome HEAD.now (self.old.line + 1) self.old page.old (next_tokens self.old line.now) (line_long (self.old.line + 1) line.now) self.new page.new) }
     {
         self.line += 1;
         if line.len() > MOST_LINE {
@@ -245,7 +277,7 @@ impl Items {
         ensures task { self.new.explainer.task ≡ self.old.explainer.task }
         ensures kept { (fault : RunFault) → self.old.explainer.seen.first ≡ Some fault → IfOk result (λ first. first ≡ Some fault) }
         ensures ok { IfOk result (λ first. Finishes HEAD.now FOOT.now self.old page.old page.new first) }
-        ensures err { OnErr result (TakesSome HEAD.now self.old page.old [] [] self.new page.new) }
+        ensures err { OnErr result (Stays self.old [] → SomeBefore HEAD.now self.old page.old [] [] [] self.new page.new) }
     {
         self.pass(true, page)?;
         self.explainer.end(page)?;

@@ -360,6 +360,9 @@ impl<'a> Part<'a> {
         if member.value.as_str() == Some(word) {
             return Some(());
         }
+        if out.is_guessed {
+            wrong!(member, out; expected ["\"long\", \"short\", \"radio\" or \"train\""] found Brief(member.value));
+        }
         wrong!(member, out; expected ["\"{word}\""] [", as in --kind"] found Brief(member.value))
     }
 
@@ -533,11 +536,18 @@ pub(crate) fn write_why(
     }
 }
 
-/// Appends why a line of JSON is not an item, after this fault.
-pub(crate) fn write_no_item(kind: Kind, line: &[u8], fault: JsonFault, out: &mut Text)
+/// Appends why a line of JSON is not an item of this kind, which may be guessed, after this fault.
+pub(crate) fn write_no_item(
+    kind: Kind,
+    is_guessed: bool,
+    line: &[u8],
+    fault: JsonFault,
+    out: &mut Text,
+)
     ensures { IsWritten out.new }
 {
     let mut misfit = Misfit::new(out.alloc());
+    misfit.is_guessed = is_guessed;
     write_why(kind, line, fault, &mut misfit, out);
 }
 

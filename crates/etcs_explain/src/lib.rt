@@ -8,6 +8,7 @@ mod explainer;
 mod hints;
 mod items;
 mod json;
+mod kinds;
 mod line_reason;
 mod no_json;
 mod quoted;

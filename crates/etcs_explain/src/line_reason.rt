@@ -124,6 +124,8 @@ pub(crate) struct Misfit {
     pub(crate) found: Text,
     /// What the reason has between what is expected and what is found; all of it if nothing is expected.
     pub(crate) rest: Text,
+    /// Whether no kind was asked for.
+    pub(crate) is_guessed: bool,
 }
 
 impl Misfit {
@@ -135,6 +137,7 @@ impl Misfit {
             expected: Text::new(alloc),
             found: Text::new(alloc),
             rest: Text::new(alloc),
+            is_guessed: false,
         }
     }
 

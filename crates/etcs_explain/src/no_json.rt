@@ -150,7 +150,7 @@ impl Front {
 }
 
 /// The front of bytes that is UTF-8.
-fn text_of(bytes: &[u8]) -> &str {
+pub(crate) fn text_of(bytes: &[u8]) -> &str {
     match std::str::from_utf8(bytes) {
         Ok(text) => text,
         Err(error) => std::str::from_utf8(
@@ -204,5 +204,8 @@ pub(crate) fn write_stop(line: &[u8], misfit: &mut Misfit, out: &mut Text) -> bo
         ),
     }
     write!(out, " at column {column}");
+    if rest.first() == Some(&b'\'') {
+        out.push("; this looks like Python, whose json.dumps writes JSON");
+    }
     true
 }

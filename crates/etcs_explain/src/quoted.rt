@@ -39,17 +39,32 @@ fn write_escaped<W: fmt::Write>(character: char, f: &mut fmt::Formatter<W>) -> f
         '\t' => f.write_str("\\t"),
         '\u{8}' => f.write_str("\\b"),
         '\u{c}' => f.write_str("\\f"),
-        _ if is_unseen(character) => write!(f, "\\u{:04x}", u32::from(character)),
+        _ if is_unseen(character) => write_unit(u32::from(character), f),
         _ => f.write_char(character),
     }
 }
 
-/// Whether a terminal may act on a character: a control, or a mark of the direction of writing.
+/// Writes a character as JSON escapes it: one unit of UTF-16, or two from U+10000 on.
+fn write_unit<W: fmt::Write>(character: u32, f: &mut fmt::Formatter<W>) -> fmt::Result {
+    match character.checked_sub(0x10000) {
+        None => write!(f, "\\u{character:04x}"),
+        Some(rest) => write!(
+            f,
+            "\\u{:04x}\\u{:04x}",
+            0xd800 | rest >> 10,
+            0xdc00 | rest & 0x3ff
+        ),
+    }
+}
+
+/// Whether a character doesn't show, or a terminal may act on it: a control, a mark of the direction of writing, a mark or a
+/// blank without width, or a tag.
 fn is_unseen(character: char) -> bool {
     character.is_control()
         || matches!(
             character,
-            '\u{61c}' | '\u{200e}' | '\u{200f}' | '\u{2028}'..='\u{202e}' | '\u{2066}'..='\u{2069}'
+            '\u{ad}' | '\u{61c}' | '\u{180e}' | '\u{200b}'..='\u{200f}' | '\u{2028}'..='\u{202e}'
+                | '\u{2060}'..='\u{206f}' | '\u{feff}' | '\u{e0000}'..='\u{e007f}'
         )
 }
 

@@ -18,7 +18,7 @@ const MOST_READS: u64 = 1 << 49;
 /// Explains the items of an input, one after another: each variable with its bits, its number and its meaning, and for what
 /// is refused, everything before the refused bit, and why. The bytes of a line of hexadecimal are those that `line_bytes`
 /// finds, or, if its digits are the bits of a telegram of the kind, the bytes of these bits; an item may have several such
-/// lines. Each line of JSON is explained by itself. Blank lines are skipped, and comments in hexadecimal.
+/// lines. Each line of JSON is explained by itself, without a byte order mark. Blank lines are skipped, and comments in hexadecimal.
 ///
 /// The input is cut into parts, without gaps:
 ///
@@ -28,9 +28,12 @@ const MOST_READS: u64 = 1 << 49;
 /// - a line that isn't: JSON that no item has, or one with a bit that is refused; or hexadecimal without bytes;
 /// - a line of more than 1,048,576 characters.
 ///
+/// Lines of hexadecimal are cut so (`AreParts`): as long as an item isn't all there, it goes on with the next line, unless it
+/// is refused with it and that line begins another item; a line without bytes ends it, too. Without a kind that of each item is
+/// guessed (`kind_of`).
+///
 /// Each part has one text, which begins with `item` and the item's number in an input of bytes, else with `line` and the
-/// number of the line, for bytes that of their first line. No clause says what follows there, nor where lines of hexadecimal
-/// are cut into parts.
+/// number of the line, for bytes that of their first line. No clause says what follows there.
 ///
 /// - `Ok`: the source is at its end, and no part has a fault. The sink took the texts of all parts in order, between the head
 ///   and the foot of a page if it is one, and was flushed.

@@ -1,6 +1,7 @@
 //! The title of an item, and how many bytes the item has.
 
-ghost use Rattle.std.specs.Prelude.{◌≤◌};
+ghost use Rattle.std.specs.Prelude.{◌≡◌, ◌≤◌};
+ghost use Rattle.etcs_explain.specs.Cuts.{awaited};
 
 use etcs_reasons::inner::{MOST_BYTES, Text, message_name, wanted_bytes};
 use etcs_reasons::{Account, End};
@@ -86,8 +87,9 @@ fn write_whole(kind: Kind, count: usize, out: &mut Text) {
 }
 
 /// How many bytes the item has that these begin, as far as that is known.
-pub(crate) fn wanted(kind: Kind, bytes: &[u8]) -> usize
-    ensures { result ≤ 1023 }
+pub(crate) fn awaited(kind: Kind, bytes: &[u8]) -> usize
+    ensures most { result ≤ 1023 }
+    ensures value { result ≡ awaited kind bytes.now }
 {
     wanted_bytes(kind, bytes).unwrap_or(3).clamp(3, MOST_BYTES)
 }

@@ -6,7 +6,7 @@ use Rattle.etcs_runs.specs.declared.digits.NoBytes.TheVariants.{NoDigits, OddDig
 use Rattle.etcs_reasons.specs.declared.page.TheConstants.{HEAD}
 use Rattle.etcs_explain.specs.Inputs.{of_byte, digits_say}
 use Rattle.etcs_explain.proofs.HexLines.{hex_ok, hex_empty, hex_bad}
-use Rattle.etcs_explain.proofs.Taking.{some_same, takes_at, takes_none}
+use Rattle.etcs_explain.proofs.Taking.{some_same, takes_at, takes_nothing}
 use Rattle.etcs_explain.proofs.items.Items.hex_bytes.Goals as goal
 
 pub returns-in-Ok-clause-ok : goal.returns-in-Ok-clause-ok
@@ -30,7 +30,7 @@ returns-in-Err-Empty-clause-ok c =
     let s = c.args.self.now in
     let is = c.in-Err-Empty.is ∙ ap Err c.in-Err-Empty.field-0-is in
     let none = hex_empty s.explainer.task.kind s.line c.args.line.now c.line_bytes.new.buffer c.line_bytes.result is c.line_bytes.ensures.digits in
-    takes_at (sym none) (takes_none HEAD.now s c.args.page.now)
+    takes_at (sym none) (takes_nothing HEAD.now s.line s c.args.page.now)
 
 pub returns-in-Err-NoDigits-clause-ok : goal.returns-in-Err-NoDigits-clause-ok
 returns-in-Err-NoDigits-clause-ok c =

@@ -1,6 +1,10 @@
 pub mod Answering
 pub mod Counting
+pub mod Another
+pub mod Picked
 pub mod Printed
+pub mod Reporting
+pub mod Walking
 pub mod Endings
 pub mod Shown
 pub mod VisibleExamples

@@ -13,7 +13,3 @@ use Rattle.etcs_log.specs.Visible.{visible}
 abbrev pub json_item : ℕ → List ℕ → EntryValue → List ℕ
 json_item number front e =
     codes "{\"line\":" ++ (decimal number ++ (codes ",\"front\":" ++ (visible (compact_text (string (utf8_lossy front))) ++ (codes ",\"item\":" ++ (compact_text (json_tree e) ++ codes "}\n")))))
-
--- the text is the line of this item
-abbrev pub IsJsonItem : ℕ → List ℕ → EntryValue → List ℕ → Type 0
-IsJsonItem number front e text = text ≡ json_item number front e

@@ -3,10 +3,16 @@ pub mod Counts
 pub mod JsonLines
 pub mod LogGroups
 pub mod Logs
+pub mod Needed
 pub mod Notes
+pub mod Numbers
+pub mod Picks
+pub mod Reports
+pub mod Texts
 pub mod Tries
 pub mod Values
 pub mod Stands
 pub mod Promised
 pub mod Visible
+pub mod Walks
 pub mod laws

@@ -1,91 +1,141 @@
 -- What is reported of the lines of a log.
-use Rattle.std.specs.Prelude.{◌≡◌, ℕ, ◌+◌, ◌<◌, ◌≤◌, ◌%◌, Bool, true, false, ◌==◌, List, [], ◌∷◌, ◌++◌, length, take, if◌then◌else◌, codes, ◌⊎◌, Some, Ok, All}
+use Rattle.std.specs.Prelude.{◌≡◌, ℕ, ◌+◌, ◌<◌, ◌≤◌, ◌%◌, Bool, true, false, not, ◌&&◌, ◌||◌, ◌==◌, List, [], ◌∷◌, ◌++◌, length, take, if◌then◌else◌, codes, ◌⊎◌, Option, Some, None, Result, Ok, Err, All}
 use Rattle.std.specs.Fmt.{decimal}
-use Rattle.hex.specs.Hex.{decode_of, encode_upper}
+use Rattle.std.specs.List.{AllZip}
+use Rattle.hex.specs.Hex.{decode_of}
+use Rattle.hex.specs.declared.error.FromHexError.{FromHexError}
 use Rattle.etcs_bits.specs.Bits.{bits}
 use Rattle.etcs_vars.specs.Reading.{readings_of}
 use Rattle.etcs_rows.specs.Refusals.{FindsRefusal}
-use Rattle.etcs_runs.specs.Digits.{is_passed_over, line_digits, line_front}
+use Rattle.etcs_runs.specs.Digits.{is_passed_over, text_digits}
+use Rattle.etcs_runs.specs.LineRuns.{line_runs}
 use Rattle.etcs_runs.specs.Lines.{IsLine, lines_text, strip_cr}
 use Rattle.etcs_text.specs.declared.entry.Kind.{Kind}
-use Rattle.etcs_text.specs.declared.entry.Kind.TheVariants.{Radio}
-use Rattle.etcs_reasons.specs.Kinds.{wanted_bytes}
+use Rattle.etcs_text.specs.declared.entry.Kind.TheVariants.{Long, Short}
 use Rattle.etcs_text.specs.Entries.{EntryReads, EntryValue}
-use Rattle.etcs_text.specs.Encodings.{IsEncoded}
 use Rattle.etcs_log.specs.declared.job.Good.{Good}
 use Rattle.etcs_log.specs.declared.job.Good.TheVariants.{Left, Digits, Json}
 use Rattle.etcs_log.specs.declared.job.LogJob.{LogJob}
 use Rattle.etcs_log.specs.declared.job.LogTally.{LogTally}
 use Rattle.etcs_log.specs.declared.kinds.Kinds.{Kinds}
 use Rattle.etcs_log.specs.declared.notes.Note.{Note}
-use Rattle.etcs_log.specs.declared.notes.Note.TheVariants.{TooLong, NoDigits, OddDigits, Bytes, Refused, Other}
+use Rattle.etcs_log.specs.declared.notes.Note.TheVariants.{TooLong, NoDigits, OddDigits, Bytes, Refused, Other, OtherBits, Another}
 use Rattle.etcs_log.specs.declared.seen.Seen.{Seen}
 use Rattle.etcs_telegram.specs.Telegrams.{TelegramValue}
 use Rattle.etcs_group.specs.declared.groups.Group.{Group}
 use Rattle.etcs_group.specs.GroupLines.{AreGroupLines}
+use Rattle.etcs_reasons.specs.BitDigits.{are_bits}
 use Rattle.etcs_log.specs.LogGroups.{AreGroups, telegram_of}
-use Rattle.etcs_log.specs.Candidates.{AreNone, Candidate, IsFirst, candidates, is_other, named, whole_bytes}
-use Rattle.etcs_log.specs.JsonLines.{IsJsonItem}
-use Rattle.etcs_log.specs.Notes.{note_text}
+use Rattle.etcs_log.specs.Candidates.{AreNone, Candidate, IsFirst, is_asked, is_wanted, line_candidates, text_candidates, whole_bytes}
+use Rattle.etcs_log.specs.JsonLines.{json_item}
+use Rattle.etcs_log.specs.Needed.{needs_of}
+use Rattle.etcs_log.specs.Notes.{count_of, note_text}
+use Rattle.etcs_log.specs.Picks.{picks}
+use Rattle.etcs_log.specs.Texts.{are_named, are_text}
+use Rattle.etcs_log.specs.Values.{digits_line}
 
--- what a line is: passed over; this item of this kind, after this front; of another kind, with this number of bytes; bad,
--- and why
+-- what a line is: passed over; these bytes, which are this item, and perhaps those of another item before it; of another
+-- kind; plain text; bad, and why
 pub data Answer : Type 0 where
   passed : Answer
-  item : Kind → List ℕ → EntryValue → Answer
-  other : ℕ → Answer
+  item : Candidate → EntryValue → Option Candidate → Answer
+  other : Note → Answer
+  plain : Answer
   bad : Note → Answer
 
--- the line has at most 1,048,576 characters, isn't passed over, and its digits are those of these bytes
-pub record SaysBytes (line bytes : List ℕ) : Type 0 where
-  pub short : length line ≤ 1048576
-  pub read : is_passed_over line ≡ false
-  pub digits : decode_of (line_digits line) ≡ Ok bytes
+-- ---- What a line is.
 
--- none of the candidates among these bytes is an item, and no other kind has their number
-abbrev pub AreBad : Kinds → List ℕ → Type 0
-AreBad kinds bytes = AreNone (candidates kinds bytes) × (is_other kinds bytes ≡ false)
+-- these bytes, if they are such ones
+abbrev pub some_if : Bool → List ℕ → Option (List ℕ)
+some_if such bytes = if such then Some bytes else None
+
+-- the same, or else what comes after them
+abbrev pub such_bytes : (List ℕ → Bool) → Result (List ℕ) FromHexError → Option (List ℕ) → Option (List ℕ)
+such_bytes p (Ok bytes) others = if p bytes then Some bytes else others
+such_bytes p (Err e) others = others
+
+-- of the bytes at the ends of these texts, the first such ones
+abbrev pub first_bytes : (List ℕ → Bool) → List (List ℕ) → Option (List ℕ)
+first_bytes p [] = None
+first_bytes p (text ∷ texts) = such_bytes p (decode_of (text_digits text)) (first_bytes p texts)
+
+-- none of those that are asked for, but these
+abbrev pub unless_asked : Option (List ℕ) → Option (List ℕ) → Option (List ℕ)
+unless_asked None wanted = wanted
+unless_asked (Some bytes) wanted = None
+
+-- the bytes of which only a kind that isn't asked for has the length, if there are any, and none of a length that is asked for
+abbrev pub other_bytes : Kinds → List (List ℕ) → Option (List ℕ)
+other_bytes kinds texts = unless_asked (first_bytes (is_asked kinds) texts) (first_bytes is_wanted texts)
+
+-- what is reported of bytes of another kind
+abbrev pub other_note : Bool → List ℕ → Note
+other_note named bytes = if are_bits Long bytes then OtherBits Long else if are_bits Short bytes then OtherBits Short else Other (count_of named bytes)
 
 -- why these bytes are no item: they are refused as one of a kind, at the first bit with which no item of the kind continues;
 -- or how many they are
-abbrev pub IsBytesNote : Kinds → List ℕ → Note → Type 0
-IsBytesNote kinds bytes TooLong = ⊥
-IsBytesNote kinds bytes NoDigits = ⊥
-IsBytesNote kinds bytes (OddDigits n) = ⊥
-IsBytesNote kinds bytes (Bytes asked n wanted) = (asked ≡ kinds) × (n ≡ length bytes) × (wanted ≡ wanted_bytes Radio (bits bytes))
-IsBytesNote kinds bytes (Refused kind r) = FindsRefusal (readings_of (EntryReads kind)) (take 8184 (bits (whole_bytes kind bytes))) (Some r)
-IsBytesNote kinds bytes (Other n) = ⊥
+abbrev pub IsBytesNote : Kinds → Bool → List ℕ → Note → Type 0
+IsBytesNote kinds named bytes TooLong = ⊥
+IsBytesNote kinds named bytes NoDigits = ⊥
+IsBytesNote kinds named bytes (OddDigits n) = ⊥
+IsBytesNote kinds named bytes (Bytes needs count) = (needs ≡ needs_of kinds bytes) × (count ≡ count_of named bytes)
+IsBytesNote kinds named bytes (Refused kind r) = FindsRefusal (readings_of (EntryReads kind)) (take 8184 (bits (whole_bytes kind bytes))) (Some r)
+IsBytesNote kinds named bytes (Other count) = ⊥
+IsBytesNote kinds named bytes (OtherBits kind) = ⊥
+IsBytesNote kinds named bytes (Another count) = ⊥
 
--- why a line is no item: it is too long, has no digits, or an odd number of them; or what its bytes are
-abbrev pub IsNote : Kinds → List ℕ → Note → Type 0
-IsNote kinds line TooLong = 1048576 < length line
-IsNote kinds line NoDigits = line_digits line ≡ []
-IsNote kinds line (OddDigits n) = (n ≡ length (line_digits line)) × (n % 2 ≡ 1)
-IsNote kinds line (Bytes asked n wanted) = (bytes : List ℕ) × SaysBytes line bytes × IsBytesNote kinds bytes (Bytes asked n wanted)
-IsNote kinds line (Refused kind r) = (bytes : List ℕ) × SaysBytes line bytes × IsBytesNote kinds bytes (Refused kind r)
-IsNote kinds line (Other n) = ⊥
+-- why the digits of a text are no item: there are none, or an odd number of them; or what their bytes are
+abbrev pub IsTextNote : Kinds → Bool → List ℕ → Note → Type 0
+IsTextNote kinds named text TooLong = ⊥
+IsTextNote kinds named text NoDigits = text_digits text ≡ []
+IsTextNote kinds named text (OddDigits n) = (n ≡ length (text_digits text)) × (n % 2 ≡ 1)
+IsTextNote kinds named text (Bytes needs count) = (bytes : List ℕ) × (decode_of (text_digits text) ≡ Ok bytes) × IsBytesNote kinds named bytes (Bytes needs count)
+IsTextNote kinds named text (Refused kind r) = (bytes : List ℕ) × (decode_of (text_digits text) ≡ Ok bytes) × IsBytesNote kinds named bytes (Refused kind r)
+IsTextNote kinds named text (Other count) = ⊥
+IsTextNote kinds named text (OtherBits kind) = ⊥
+IsTextNote kinds named text (Another count) = ⊥
 
--- what these bytes of a line are, with this before their digits: the first candidate that is an item; of another kind if
--- none is, and by their number; else bad
-abbrev pub IsBytesAnswer : Kinds → List ℕ → List ℕ → Answer → Type 0
-IsBytesAnswer kinds front bytes passed = ⊥
-IsBytesAnswer kinds front bytes (item kind before e) = (before ≡ front) × IsFirst (candidates kinds bytes) kind e
-IsBytesAnswer kinds front bytes (other count) = AreNone (candidates kinds bytes) × (is_other kinds bytes ≡ true) × (count ≡ length bytes)
-IsBytesAnswer kinds front bytes (bad note) = AreBad kinds bytes × IsBytesNote kinds bytes note
+-- why a line with these texts is bad: it is of the first bytes of a length that is asked for, if there are any, and else of
+-- the first text
+abbrev pub IsNoteOf : Kinds → Bool → Option (List ℕ) → List (List ℕ) → Note → Type 0
+IsNoteOf kinds named (Some bytes) texts note = IsBytesNote kinds named bytes note
+IsNoteOf kinds named None [] note = ⊥
+IsNoteOf kinds named None (text ∷ texts) note = IsTextNote kinds named text note
 
--- what a line is: a bad one is too long or isn't passed over, if it has bytes they are bad, and the note says why
-abbrev pub IsAnswer : Kinds → List ℕ → Answer → Type 0
-IsAnswer kinds line passed = (length line ≤ 1048576) × (is_passed_over line ≡ true)
-IsAnswer kinds line (item kind before e) = (bytes : List ℕ) × SaysBytes line bytes × IsBytesAnswer kinds (line_front line) bytes (item kind before e)
-IsAnswer kinds line (other count) = (bytes : List ℕ) × SaysBytes line bytes × IsBytesAnswer kinds (line_front line) bytes (other count)
-IsAnswer kinds line (bad note) = ((1048576 < length line) ⊎ (is_passed_over line ≡ false)) × ((bytes : List ℕ) → SaysBytes line bytes → AreBad kinds bytes) × IsNote kinds line note
+-- the line is only text, and that isn't bad
+abbrev pub lets : LogJob → List (List ℕ) → Bool
+lets job texts = not job.strict && are_text texts
+
+-- the first of the texts whose digits are an item has this one, and these texts come after it
+abbrev pub IsItemOf : Kinds → List (List ℕ) → Candidate → EntryValue → List (List ℕ) → Type 0
+IsItemOf kinds [] c e others = ⊥
+IsItemOf kinds (text ∷ texts) c e others = (IsFirst (text_candidates kinds text) c e × (others ≡ texts)) ⊎ (AreNone (text_candidates kinds text) × IsItemOf kinds texts c e others)
+
+-- these texts have another item, or none
+abbrev pub IsAnother : Kinds → List (List ℕ) → Option Candidate → Type 0
+IsAnother kinds texts None = AreNone (line_candidates kinds texts)
+IsAnother kinds texts (Some c) = (e : EntryValue) × IsFirst (line_candidates kinds texts) c e
+
+-- what a line with these texts is: the first candidate that is an item, and perhaps another before it, unless lines aren't
+-- reported; of another kind if none is, by its length; else text, or bad
+abbrev pub IsTextsAnswer : LogJob → List (List ℕ) → Answer → Type 0
+IsTextsAnswer job texts passed = ⊥
+IsTextsAnswer job texts (item c e another) = (others : List (List ℕ)) × IsItemOf job.kinds texts c e others × (job.quiet ≡ true → another ≡ None) × (job.quiet ≡ false → IsAnother job.kinds others another)
+IsTextsAnswer job texts (other note) = AreNone (line_candidates job.kinds texts) × ((bytes : List ℕ) × (other_bytes job.kinds texts ≡ Some bytes) × (note ≡ other_note (are_named texts) bytes))
+IsTextsAnswer job texts plain = AreNone (line_candidates job.kinds texts) × (other_bytes job.kinds texts ≡ None) × (lets job texts ≡ true)
+IsTextsAnswer job texts (bad note) = AreNone (line_candidates job.kinds texts) × (other_bytes job.kinds texts ≡ None) × (lets job texts ≡ false) × IsNoteOf job.kinds (are_named texts) (first_bytes (is_asked job.kinds) texts) texts note
+
+-- what a line is: it may be too long; blank or a comment; and else it is what its texts are
+abbrev pub IsAnswer : LogJob → List ℕ → Answer → Type 0
+IsAnswer job line a =
+    ((1048576 < length line) × (a ≡ bad TooLong))
+    ⊎ ((length line ≤ 1048576) × (((is_passed_over line ≡ true) × (a ≡ passed)) ⊎ ((is_passed_over line ≡ false) × IsTextsAnswer job (line_runs line) a)))
 
 -- one result for each line, in order; a CR at its end isn't a character of it
-abbrev pub AreAnswers : Kinds → List (List ℕ) → List Answer → Type 0
-AreAnswers kinds [] [] = Unit {0}
-AreAnswers kinds [] (a ∷ others) = ⊥
-AreAnswers kinds (line ∷ lines) [] = ⊥
-AreAnswers kinds (line ∷ lines) (a ∷ others) = IsAnswer kinds (strip_cr line) a × AreAnswers kinds lines others
+abbrev pub AreAnswers : LogJob → List (List ℕ) → List Answer → Type 0
+AreAnswers job lines answers = AllZip (λ line a. IsAnswer job (strip_cr line) a) lines answers
+
+-- ---- What is written of it.
 
 -- good lines are written
 abbrev pub is_written : Good → Bool
@@ -94,67 +144,75 @@ is_written Digits = true
 is_written Json = true
 
 -- what is written of an item: nothing; its digits in upper case, and before them its kind if there are several; or JSON
-abbrev pub GoodText : Good → Kinds → ℕ → Kind → List ℕ → EntryValue → List ℕ → Type 0
-GoodText Left kinds n kind before e text = text ≡ []
-GoodText Digits kinds n kind before e text = (bytes : List ℕ) × IsEncoded e bytes × (text ≡ named kinds kind ++ (encode_upper bytes ++ 10 ∷ []))
-GoodText Json kinds n kind before e text = IsJsonItem n before e text
+abbrev pub good_text : LogJob → ℕ → Candidate → EntryValue → Good → List ℕ
+good_text job n c e Left = []
+good_text job n c e Digits = digits_line job.kinds c.kind c.bytes
+good_text job n c e Json = json_item n c.front e
 
 -- what is written of the line of this number, which is no item: nothing if good lines are
 abbrev pub reported : LogJob → ℕ → Note → List ℕ
-reported job n note = if is_written job.good then [] else note_text job.good n note
+reported job n note = if job.quiet || is_written job.good then [] else note_text job.good n note
+
+-- what is written of another item before the item of the line
+abbrev pub another_said : LogJob → ℕ → Option Candidate → List ℕ
+another_said job n None = []
+another_said job n (Some c) = reported job n (Another (count_of true c.bytes))
 
 -- what is written of the line of this number: only of good lines if they are written, else only of bad lines and of those
 -- of another kind
-abbrev pub IsSaid : LogJob → ℕ → Answer → List ℕ → Type 0
-IsSaid job n passed text = text ≡ []
-IsSaid job n (item kind before e) text = GoodText job.good job.kinds n kind before e text
-IsSaid job n (other count) text = text ≡ reported job n (Other count)
-IsSaid job n (bad note) text = text ≡ reported job n note
+abbrev pub said : LogJob → ℕ → Answer → List ℕ
+said job n passed = []
+said job n (item c e another) = (if picks job e then good_text job n c e job.good else []) ++ another_said job n another
+said job n (other note) = reported job n note
+said job n plain = []
+said job n (bad note) = reported job n note
 
 -- what is written of lines one after another, of which the first has this number
-abbrev pub Outputs : LogJob → ℕ → List Answer → List ℕ → Type 0
-Outputs job n [] text = text ≡ []
-Outputs job n (a ∷ others) text = (said : List ℕ) × (rest : List ℕ) × IsSaid job n a said × (text ≡ said ++ rest) × Outputs job (n + 1) others rest
+abbrev pub output_of : LogJob → ℕ → List Answer → List ℕ
+output_of job n [] = []
+output_of job n (a ∷ others) = said job n a ++ output_of job (n + 1) others
 
--- how many lines are items
-abbrev pub items_in : List Answer → ℕ
-items_in [] = 0
-items_in (passed ∷ others) = items_in others
-items_in (item kind before e ∷ others) = 1 + items_in others
-items_in (other count ∷ others) = items_in others
-items_in (bad note ∷ others) = items_in others
+-- ---- How it is counted.
 
--- how many lines are bad
-abbrev pub bad_in : List Answer → ℕ
-bad_in [] = 0
-bad_in (passed ∷ others) = bad_in others
-bad_in (item kind before e ∷ others) = bad_in others
-bad_in (other count ∷ others) = bad_in others
-bad_in (bad note ∷ others) = 1 + bad_in others
+-- a line more was counted
+abbrev pub tallied : LogTally → Answer → LogTally
+tallied t passed = t
+tallied t (item c e another) = record t { items = t.items + 1 }
+tallied t (other note) = record t { other = t.other + 1 }
+tallied t plain = record t { text = t.text + 1 }
+tallied t (bad note) = record t { bad = t.bad + 1 }
 
--- how many lines are of another kind
-abbrev pub other_in : List Answer → ℕ
-other_in [] = 0
-other_in (passed ∷ others) = other_in others
-other_in (item kind before e ∷ others) = other_in others
-other_in (other count ∷ others) = 1 + other_in others
-other_in (bad note ∷ others) = other_in others
+-- no line was counted
+abbrev pub no_lines : LogTally
+no_lines = record { items = 0; bad = 0; other = 0; text = 0 }
+
+-- lines were counted, one after another
+abbrev pub tally_of : LogTally → List Answer → LogTally
+tally_of t [] = t
+tally_of t (a ∷ others) = tally_of (tallied t a) others
+
+-- how many lines were counted
+abbrev pub lines_in : LogTally → ℕ
+lines_in t = t.items + t.bad + t.other + t.text
 
 -- the telegrams among the items, in order
 abbrev pub telegrams_in : List Answer → List TelegramValue
 telegrams_in [] = []
 telegrams_in (passed ∷ others) = telegrams_in others
-telegrams_in (item kind before e ∷ others) = telegram_of e ++ telegrams_in others
-telegrams_in (other count ∷ others) = telegrams_in others
+telegrams_in (item c e another ∷ others) = telegram_of e ++ telegrams_in others
+telegrams_in (other note ∷ others) = telegrams_in others
+telegrams_in (plain ∷ others) = telegrams_in others
 telegrams_in (bad note ∷ others) = telegrams_in others
 
--- the line with how many lines are of other kinds, if there are any
-abbrev pub other_count : ℕ → List ℕ
-other_count count = if count == 0 then [] else codes "other " ++ decimal count ++ codes "\n"
+-- ---- What comes after the last line.
 
--- how many lines are items, how many are bad and, if any, how many are of other kinds, one count per line
+-- a line with this count, unless it is 0
+abbrev pub count_line : List ℕ → ℕ → List ℕ
+count_line name count = if count == 0 then [] else name ++ decimal count ++ codes "\n"
+
+-- how many lines are items, how many are bad and, if any, how many are of other kinds, and text, one count per line
 abbrev pub counts_front : LogTally → List ℕ
-counts_front tally = codes "items " ++ decimal tally.items ++ codes "\nbad " ++ decimal tally.bad ++ codes "\n" ++ other_count tally.other
+counts_front tally = codes "items " ++ decimal tally.items ++ codes "\nbad " ++ decimal tally.bad ++ codes "\n" ++ count_line (codes "other ") tally.other ++ count_line (codes "text ") tally.text
 
 -- what is written after the last line: these counts and some further text if counts are asked for and good lines aren't
 -- written, else nothing
@@ -173,9 +231,11 @@ GroupsText job gs text =
 abbrev pub EndText : LogJob → LogTally → List Group → List ℕ → Type 0
 EndText job tally gs text = (counts : List ℕ) × (lines : List ℕ) × CountsText job tally counts × GroupsText job gs lines × (text ≡ counts ++ lines)
 
+-- ---- What a line does.
+
 -- the result for the line of this number, the text written about it, and how it is counted
 abbrev pub Counted : LogJob → ℕ → Answer → LogTally → LogTally → List ℕ → List ℕ → Type 0
-Counted job n a before after text text' = (said : List ℕ) × IsSaid job n a said × (text' ≡ text ++ said) × (after.items ≡ before.items + items_in (a ∷ [])) × (after.bad ≡ before.bad + bad_in (a ∷ [])) × (after.other ≡ before.other + other_in (a ∷ []))
+Counted job n a before after text text' = (text' ≡ text ++ said job n a) × (after ≡ tallied before a)
 
 -- if groups are asked for, the telegram of the line, if it is one, was added to them
 abbrev pub Grouped : LogJob → Answer → List Group → List Group → Type 0
@@ -187,34 +247,35 @@ Noted job n a before after text text' = Counted job n a before.tally after.tally
 
 -- a line was classified and counted
 abbrev pub Answered : LogJob → ℕ → List ℕ → Seen → Seen → List ℕ → List ℕ → Type 0
-Answered job n line before after text text' = (a : Answer) × IsAnswer job.kinds line a × Noted job n a before after text text'
+Answered job n line before after text text' = (a : Answer) × IsAnswer job line a × Noted job n a before after text text'
 
--- the same of the bytes of a line, with what is before their digits
-abbrev pub BytesAnswered : LogJob → ℕ → List ℕ → List ℕ → Seen → Seen → List ℕ → List ℕ → Type 0
-BytesAnswered job n front bytes before after text text' = (a : Answer) × IsBytesAnswer job.kinds front bytes a × Noted job n a before after text text'
+-- if lines are reported, another item before the last of these texts was, if there is one
+abbrev pub AnotherSaid : LogJob → ℕ → List (List ℕ) → List ℕ → List ℕ → Type 0
+AnotherSaid job n [] text text' = ⊥
+AnotherSaid job n (last ∷ texts) text text' = (another : Option Candidate) × (job.quiet ≡ true → another ≡ None) × (job.quiet ≡ false → IsAnother job.kinds texts another) × (text' ≡ text ++ another_said job n another)
+
+-- the same of a line with these texts
+abbrev pub TextsAnswered : LogJob → ℕ → List (List ℕ) → Seen → Seen → List ℕ → List ℕ → Type 0
+TextsAnswered job n texts before after text text' = (a : Answer) × IsTextsAnswer job texts a × Noted job n a before after text text'
 
 -- these were tried: the first item among them was counted, or there is none, and nothing was
-abbrev pub Tried : List Candidate → Bool → LogJob → ℕ → List ℕ → Seen → Seen → List ℕ → List ℕ → Type 0
-Tried cs true job n front before after text text' = (kind : Kind) × (e : EntryValue) × IsFirst cs kind e × Noted job n (item kind front e) before after text text'
-Tried cs false job n front before after text text' = AreNone cs × (after ≡ before) × (text' ≡ text)
+abbrev pub Tried : List Candidate → Bool → LogJob → ℕ → Seen → Seen → List ℕ → List ℕ → Type 0
+Tried cs true job n before after text text' = (c : Candidate) × (e : EntryValue) × IsFirst cs c e × Noted job n (item c e None) before after text text'
+Tried cs false job n before after text text' = AreNone cs × (after ≡ before) × (text' ≡ text)
 
 -- a whole log: the bytes given are its lines, of which the last has no LF and may be empty. Each gets one result, in
--- order. Output is what is written of them, then the counts and the groups; the tally has how many are items, bad, and of
--- other kinds
+-- order. Output is what is written of them, then the counts and the groups; the tally has how many are items, bad, of
+-- other kinds, and text
 pub record IsLog (job : LogJob) (given output : List ℕ) (tally : LogTally) : Type 0 where
   pub lines : List (List ℕ)
   pub last : List ℕ
   pub given_is : given ≡ lines_text lines ++ last
   pub are_lines : All IsLine lines × IsLine last
   pub answers : List Answer
-  pub are_answers : AreAnswers job.kinds (lines ++ last ∷ []) answers
-  pub text : List ℕ
+  pub are_answers : AreAnswers job (lines ++ last ∷ []) answers
   pub groups : List Group
   pub end : List ℕ
-  pub output_is : output ≡ text ++ end
-  pub outputs : Outputs job 1 answers text
+  pub output_is : output ≡ output_of job 1 answers ++ end
   pub end_is : EndText job tally groups end
   pub groups_are : job.groups ≡ true → AreGroups (telegrams_in answers) groups
-  pub items_are : tally.items ≡ items_in answers
-  pub bad_are : tally.bad ≡ bad_in answers
-  pub other_are : tally.other ≡ other_in answers
+  pub tally_is : tally ≡ tally_of no_lines answers

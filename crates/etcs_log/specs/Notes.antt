@@ -1,6 +1,6 @@
 -- What is reported of lines that are no items.
-use Rattle.std.specs.Prelude.{ℕ, Bool, true, false, ◌||◌, ◌==◌, List, [], ◌++◌, if◌then◌else◌, codes, Option, None, Some}
-use Rattle.std.specs.Fmt.{decimal}
+use Rattle.std.specs.Prelude.{ℕ, ◌/◌, ◌%◌, ◌==◌, Bool, true, length, slice_index, ◌∷◌, List, [], ◌++◌, if◌then◌else◌, codes, Option, None, Some}
+use Rattle.std.specs.Fmt.{decimal, digits}
 use Rattle.etcs_vars.specs.Vars.{name}
 use Rattle.etcs_rows.specs.declared.cause.Cause.{Cause}
 use Rattle.etcs_rows.specs.declared.cause.Cause.TheVariants.{Spare, Unfit}
@@ -8,12 +8,17 @@ use Rattle.etcs_rows.specs.declared.here.Here.{Here}
 use Rattle.etcs_rows.specs.declared.here.Here.TheVariants.{Any, MessageLength, PacketNumber, PacketLength, Row}
 use Rattle.etcs_rows.specs.declared.refusal.Refusal.{Refusal}
 use Rattle.etcs_rows.specs.Words.{words}
+use Rattle.etcs_reasons.specs.Kinds.{user_bits}
+use Rattle.etcs_text.specs.declared.entry.Kind.{Kind}
+use Rattle.etcs_text.specs.declared.entry.Kind.TheVariants.{Long, Short, Radio, Train}
 use Rattle.etcs_log.specs.Candidates.{kind_name}
 use Rattle.etcs_log.specs.declared.job.Good.{Good}
 use Rattle.etcs_log.specs.declared.job.Good.TheVariants.{Left, Digits, Json}
-use Rattle.etcs_log.specs.declared.kinds.Kinds.{Kinds}
+use Rattle.etcs_log.specs.declared.needs.Needs.{Needs}
+use Rattle.etcs_log.specs.declared.needs.Needs.TheVariants.{LongTelegram, ShortTelegram, Message, AnyItem}
+use Rattle.etcs_log.specs.declared.byte_count.ByteCount.{ByteCount}
 use Rattle.etcs_log.specs.declared.notes.Note.{Note}
-use Rattle.etcs_log.specs.declared.notes.Note.TheVariants.{TooLong, NoDigits, OddDigits, Bytes, Refused, Other}
+use Rattle.etcs_log.specs.declared.notes.Note.TheVariants.{TooLong, NoDigits, OddDigits, Bytes, Refused, Other, OtherBits, Another}
 
 -- ---- In words.
 
@@ -21,36 +26,61 @@ use Rattle.etcs_log.specs.declared.notes.Note.TheVariants.{TooLong, NoDigits, Od
 abbrev pub plural : ℕ → List ℕ
 plural n = if n == 1 then [] else codes "s"
 
--- how many bytes a message needs, whose L_MESSAGE this is, where other kinds may be asked for, too
-unfoldable pub message_text : Bool → Option ℕ → List ℕ
-message_text true None = codes ", which no item of these kinds has"
-message_text true (Some n) = codes ", which no item of these kinds has: L_MESSAGE is " ++ decimal n
-message_text false None = codes ", but a radio message has at least 3"
-message_text false (Some n) = codes ", but L_MESSAGE is " ++ decimal n
+-- how many bytes there are, with the first four of them, and whether these are named
+abbrev pub count_of : Bool → List ℕ → ByteCount
+count_of named bytes = record { count = length bytes; first = slice_index bytes 0 ∷ slice_index bytes 1 ∷ slice_index bytes 2 ∷ slice_index bytes 3 ∷ []; named = named }
 
--- how many bytes a telegram needs, if a long or a short one alone is asked for
-abbrev pub telegram_words : Bool → Bool → List ℕ
-telegram_words true true = codes ", which no item of these kinds has"
-telegram_words true false = codes ", but a long telegram has 104"
-telegram_words false true = codes ", but a short telegram has 27"
-telegram_words false false = codes ", which no item of these kinds has"
+-- the two digits of a byte
+abbrev pub byte_text : ℕ → List ℕ
+byte_text b = digits 16 true (b / 16) ++ digits 16 true (b % 16)
 
--- how many bytes an item of these kinds needs
-unfoldable pub needed_text : Kinds → Option ℕ → List ℕ
-needed_text kinds wanted = if kinds.radio || kinds.train then message_text (kinds.long || kinds.short) wanted else telegram_words kinds.long kinds.short
+-- the digits of the n-th of the first bytes
+abbrev pub digits_at : ℕ → ByteCount → List ℕ
+digits_at n c = byte_text (slice_index c.first n)
+
+-- the first bytes, up to four, and two dots if there are more
+unfoldable pub named_text : ByteCount → List ℕ
+named_text c =
+    if c.count == 1 then codes " (" ++ (digits_at 0 c ++ codes ")") else
+    if c.count == 2 then codes " (" ++ (digits_at 0 c ++ (digits_at 1 c ++ codes ")")) else
+    if c.count == 3 then codes " (" ++ (digits_at 0 c ++ (digits_at 1 c ++ (digits_at 2 c ++ codes ")"))) else
+    if c.count == 4 then codes " (" ++ (digits_at 0 c ++ (digits_at 1 c ++ (digits_at 2 c ++ (digits_at 3 c ++ codes ")")))) else
+    codes " (" ++ (digits_at 0 c ++ (digits_at 1 c ++ (digits_at 2 c ++ (digits_at 3 c ++ codes "..)"))))
+
+-- how many bytes there are, and the first of them if they are named
+unfoldable pub count_text : ByteCount → List ℕ
+count_text c = (decimal c.count ++ (codes " byte" ++ plural c.count)) ++ (if c.named then named_text c else [])
+
+-- how many bytes an item needs
+unfoldable pub needed_text : Needs → List ℕ
+needed_text LongTelegram = codes ", but a long telegram has 104"
+needed_text ShortTelegram = codes ", but a short telegram has 27"
+needed_text (Message None) = codes ", but a radio message has at least 3"
+needed_text (Message (Some n)) = codes ", but L_MESSAGE is " ++ decimal n
+needed_text (AnyItem None) = codes ", which no item of these kinds has"
+needed_text (AnyItem (Some n)) = codes ", which no item of these kinds has: L_MESSAGE is " ++ decimal n
 
 -- which items have this number of bytes
 abbrev pub other_words : ℕ → List ℕ
-other_words n = if n == 104 then codes " bytes, as a long telegram has" else if n == 27 then codes " bytes, as a short telegram has" else codes " bytes, as a radio message whose L_MESSAGE says so"
+other_words n = if n == 104 then codes ", as a long telegram has" else if n == 27 then codes ", as a short telegram has" else codes ", as a radio message whose L_MESSAGE says so"
+
+-- which telegram has as many bits
+abbrev pub other_bits_words : Kind → List ℕ
+other_bits_words Long = codes "830 bits, as a long telegram has"
+other_bits_words Short = codes "210 bits, as a short telegram has"
+other_bits_words Radio = []
+other_bits_words Train = []
 
 -- why a line is no item
 unfoldable pub reason : Note → List ℕ
 reason TooLong = codes "line longer than 1,048,576 characters"
 reason NoDigits = codes "no hexadecimal digits at its end"
 reason (OddDigits n) = decimal n ++ (codes " digit" ++ (plural n ++ codes ", an odd number"))
-reason (Bytes kinds n wanted) = (decimal n ++ (codes " byte" ++ plural n)) ++ needed_text kinds wanted
+reason (Bytes needs c) = count_text c ++ needed_text needs
 reason (Refused kind r) = words r
-reason (Other n) = decimal n ++ other_words n
+reason (Other c) = count_text c ++ other_words c.count
+reason (OtherBits kind) = other_bits_words kind
+reason (Another c) = codes "another item before it: " ++ count_text c
 
 -- ---- As members of an object of JSON.
 
@@ -83,9 +113,11 @@ unfoldable pub members : Note → List ℕ
 members TooLong = codes ",\"cause\":\"too long\""
 members NoDigits = codes ",\"cause\":\"no digits\""
 members (OddDigits n) = codes ",\"cause\":\"odd digits\",\"digits\":" ++ decimal n
-members (Bytes kinds n wanted) = codes ",\"cause\":\"bytes\",\"bytes\":" ++ decimal n
+members (Bytes needs c) = codes ",\"cause\":\"bytes\",\"bytes\":" ++ decimal c.count
 members (Refused kind r) = (codes ",\"kind\":\"" ++ (kind_name kind ++ codes "\"")) ++ refusal_members r
-members (Other n) = codes ",\"cause\":\"other\",\"bytes\":" ++ decimal n
+members (Other c) = codes ",\"cause\":\"other\",\"bytes\":" ++ decimal c.count
+members (Another c) = codes ",\"cause\":\"another item\",\"bytes\":" ++ decimal c.count
+members (OtherBits kind) = codes ",\"cause\":\"other\",\"bits\":" ++ decimal (user_bits kind)
 
 -- ---- A line of the notes.
 
@@ -94,9 +126,11 @@ unfoldable pub label : Note → List ℕ
 label TooLong = []
 label NoDigits = []
 label (OddDigits n) = []
-label (Bytes kinds n wanted) = []
+label (Bytes needs c) = []
 label (Refused kind r) = codes "refused at bit " ++ (decimal r.bit ++ (codes ", " ++ (name r.var ++ codes ": ")))
-label (Other n) = codes "other: "
+label (Other c) = codes "other: "
+label (OtherBits kind) = codes "other: "
+label (Another c) = []
 
 -- in words
 unfoldable pub plain_text : ℕ → Note → List ℕ

@@ -5,13 +5,13 @@ use Rattle.etcs_runs.specs.Promises.{Promises}
 use Rattle.etcs_runs.specs.declared.fault.RunFault.TheVariants.{Memory}
 use Rattle.etcs_log.specs.declared.job.LogJob.{LogJob}
 use Rattle.etcs_log.specs.declared.job.LogTally.{LogTally}
-use Rattle.etcs_log.specs.Logs.{Answer, AreAnswers, Outputs, IsLog}
+use Rattle.etcs_log.specs.Logs.{Answer, AreAnswers, IsLog, output_of}
 
 -- each of these lines gets its result, and this is what is written of them, one after another
 pub record LinesOutput (job : LogJob) (lines : List (List ℕ)) (output : List ℕ) : Type 0 where
   pub answers : List Answer
-  pub are_answers : AreAnswers job.kinds lines answers
-  pub outputs : Outputs job 1 answers output
+  pub are_answers : AreAnswers job lines answers
+  pub output_is : output ≡ output_of job 1 answers
 
 -- what is written of some first lines of an input, all before the rest, each with a LF; or also of a part of the next one,
 -- which is too long however it continues

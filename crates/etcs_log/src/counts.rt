@@ -2,18 +2,19 @@
 
 ghost use Rattle.std.specs.Prelude.{◌≡◌, ◌<◌, ◌++◌, OnOk};
 ghost use Rattle.std.specs.Fmt.{decimal};
-ghost use Rattle.etcs_log.specs.Logs.{counts_front, other_count};
+ghost use Rattle.etcs_log.specs.Logs.{count_line, counts_front};
 
 use crate::job::LogTally;
-use crate::kinds::{Kinds, kind_name};
+use crate::kinds::{Kinds, is_message_number, kind_name};
 use crate::notes::Note;
 use crate::refusals::{RefusalCount, count};
 use etcs_packet_text::inner::write_decimal;
 use etcs_packets::inner::AnyPacket;
-use etcs_reasons::inner::way_of_message;
+use etcs_reasons::inner::{message_name, packet_name, way_of_message};
 use etcs_tables::Way;
 use etcs_text::{Entry, Kind};
 use std::alloc::{AllocError, Global};
+use std::fmt;
 
 /// All kinds, in the order in which they are counted.
 const KINDS: [Kind; 4] = [Kind::Long, Kind::Short, Kind::Radio, Kind::Train];
@@ -26,7 +27,11 @@ pub(crate) struct Counts {
     items: [u64; 4],
     /// Messages that are kept as bits.
     kept: u64,
+    /// Messages whose number SUBSET-026 doesn't have.
+    unknown: u64,
+    /// Packets to the train and to the track, by number.
     packets: [u64; 256],
+    track: [u64; 256],
     messages: [u64; 256],
     refusals: Vec<RefusalCount>,
 }
@@ -38,21 +43,42 @@ fn count_packets<P: AnyPacket>(packets: &[P], counts: &mut [u64; 256]) {
     }
 }
 
-/// Appends a line for each packet's number that was counted.
-fn write_packets(counts: &[u64; 256], out: &mut String) -> Result<(), AllocError> {
+/// What is written of a number beside its count: its name, and which way it goes.
+#[derive(Clone, Copy)]
+struct Named {
+    /// The name in the standard, if it has the number.
+    name: Option<&'static str>,
+    way: &'static str,
+}
+
+impl fmt::Display for Named {
+    fn fmt<W: fmt::Write>(&self, f: &mut fmt::Formatter<W>) -> fmt::Result {
+        write!(f, "{}{}", self.name.unwrap_or("no such number"), self.way)
+    }
+}
+
+/// Appends a line for each number of packets of a way that was counted.
+fn write_packets(way: Way, counts: &[u64; 256], out: &mut String) -> Result<(), AllocError> {
     for number in 0..256 {
         if counts[number] > 0 {
-            writeln!(out, "packet {number} {}", counts[number])?;
+            let named = Named {
+                name: packet_name(way, number as u64),
+                way: match way {
+                    Way::ToTrain => "",
+                    Way::ToTrack => ", to the track",
+                },
+            };
+            writeln!(out, "packet {number} {} ({named})", counts[number])?;
         }
     }
     Ok(())
 }
 
-/// What is added to a message's number of the other way, if that isn't asked for.
-fn other_way(kinds: Kinds, number: u8) -> &'static str {
+/// What is added to the name of a message: that it goes to the track; or to the train, if that isn't asked for.
+fn message_way(kinds: Kinds, number: u8) -> &'static str {
     match way_of_message(number) {
-        Some(Way::ToTrack) if !kinds.train => " (to the track)",
-        Some(Way::ToTrain) if !kinds.radio => " (to the train)",
+        Some(Way::ToTrack) => ", to the track",
+        Some(Way::ToTrain) if !kinds.radio => ", to the train",
         _ => "",
     }
 }
@@ -61,8 +87,14 @@ fn other_way(kinds: Kinds, number: u8) -> &'static str {
 fn write_messages(kinds: Kinds, counts: &[u64; 256], out: &mut String) -> Result<(), AllocError> {
     for number in 0..256 {
         if counts[number] > 0 {
-            let way = other_way(kinds, number as u8);
-            writeln!(out, "message {number} {}{way}", counts[number])?;
+            let name = message_name(number as u64);
+            let way = if name.is_some() {
+                message_way(kinds, number as u8)
+            } else {
+                ""
+            };
+            let named = Named { name, way };
+            writeln!(out, "message {number} {} ({named})", counts[number])?;
         }
     }
     Ok(())
@@ -97,7 +129,9 @@ impl Counts {
             asked,
             items: [0; 4],
             kept: 0,
+            unknown: 0,
             packets: [0; 256],
+            track: [0; 256],
             messages: [0; 256],
             refusals: Vec::new(alloc),
         }
@@ -117,7 +151,7 @@ impl Counts {
             }
             Entry::Train(message) => {
                 self.add_message(message.nid(), message.kept_bits().is_some());
-                count_packets(message.packets(), &mut self.packets);
+                count_packets(message.packets(), &mut self.track);
             }
         }
     }
@@ -125,6 +159,9 @@ impl Counts {
     /// Counts a message of this number, which may be kept as bits.
     fn add_message(&mut self, number: u8, kept: bool) {
         count(&mut self.messages[usize::from(number)]);
+        if !is_message_number(number) {
+            count(&mut self.unknown);
+        }
         if kept {
             count(&mut self.kept);
         }
@@ -153,8 +190,8 @@ impl Counts {
         Ok(())
     }
 
-    /// Appends a line for each of several kinds, and for each count that isn't 0: messages kept as bits, packets by number,
-    /// messages by number, refusals by variable and cause.
+    /// Appends a line for each of several kinds, and for each count that isn't 0: messages kept as bits, messages of
+    /// unknown numbers, packets by way and number, messages by number, refusals by variable and cause.
     ///
     /// # Errors
     ///
@@ -164,7 +201,11 @@ impl Counts {
         if self.kept > 0 {
             writeln!(out, "kept {}", self.kept)?;
         }
-        write_packets(&self.packets, out)?;
+        if self.unknown > 0 {
+            writeln!(out, "unknown {}", self.unknown)?;
+        }
+        write_packets(Way::ToTrain, &self.packets, out)?;
+        write_packets(Way::ToTrack, &self.track, out)?;
         write_messages(kinds, &self.messages, out)?;
         for refusals in &self.refusals {
             writeln!(out, "{refusals}")?;
@@ -191,23 +232,24 @@ pub(crate) fn write_tally(
     out.extend_from_slice(b"\nbad ")?;
     write_decimal(tally.bad, out)?;
     out.extend_from_slice(b"\n")?;
-    write_other(tally.other, out)?;
+    write_count(b"other ", tally.other, out)?;
+    write_count(b"text ", tally.text, out)?;
     out.extend_from_slice(further.as_bytes())
 }
 
-/// Appends how many lines are of another kind, if there are any.
+/// Appends a line with this count, unless it is 0.
 ///
 /// # Errors
 ///
 /// If memory runs out.
 #[tactic(auto, using(std::proofs::Common::append_assoc))]
-fn write_other(count: u64, out: &mut Vec<u8>) -> Result<(), AllocError>
-    ensures { OnOk result (out.new.items ≡ out.old.items ++ other_count count) }
+fn write_count(name: &[u8], count: u64, out: &mut Vec<u8>) -> Result<(), AllocError>
+    ensures { OnOk result (out.new.items ≡ out.old.items ++ count_line name.now count) }
 {
     if count == 0 {
         return Ok(());
     }
-    out.extend_from_slice(b"other ")?;
+    out.extend_from_slice(name)?;
     write_decimal(count, out)?;
     out.extend_from_slice(b"\n")
 }

@@ -2,9 +2,10 @@
 
 ghost use Rattle.std.specs.Prelude.{◌≡◌};
 ghost use Rattle.etcs_log.specs.Logs.{is_written};
-ghost use Rattle.etcs_log.specs.Values.{needs_values};
+ghost use Rattle.etcs_log.specs.Values.{has_variables, needs_values};
 
 use crate::kinds::Kinds;
+use crate::numbers::NumberSet;
 
 /// What is written of good lines.
 #[derive(Clone, Copy, Debug, PartialEq, Eq)]
@@ -29,6 +30,17 @@ impl Good {
             Good::Digits | Good::Json => true,
         }
     }
+
+    /// Whether they are written variable by variable.
+    #[inline]
+    pub(crate) fn has_variables(self) -> bool
+        ensures { result ≡ has_variables self }
+    {
+        match self {
+            Good::Left | Good::Digits => false,
+            Good::Json => true,
+        }
+    }
 }
 
 /// What to do with a log.
@@ -42,15 +54,23 @@ pub struct LogJob {
     pub summary: bool,
     /// Whether a line for each balise group is written after that.
     pub groups: bool,
+    /// Whether text is bad.
+    pub strict: bool,
+    /// Whether nothing is reported of single lines.
+    pub quiet: bool,
+    /// The packets of which a good item has one, if it is written; if there are none, any.
+    pub packets: NumberSet,
+    /// The messages that are written as good lines; if there are none, all.
+    pub messages: NumberSet,
 }
 
 impl LogJob {
-    /// Whether it needs the values of items, and not only their bytes: for counts, groups or JSON.
+    /// Whether it needs the values of items, and not only their bytes: for counts, groups, a selection or JSON.
     #[inline]
-    pub(crate) fn needs_values(self) -> bool
-        ensures { result ≡ needs_values self }
+    pub(crate) fn needs_values(&self) -> bool
+        ensures { result ≡ needs_values self.now }
     {
-        self.summary || self.groups || self.good == Good::Json
+        self.picks_some() || self.summary || self.groups || self.good.has_variables()
     }
 }
 
@@ -63,4 +83,6 @@ pub struct LogTally {
     pub bad: u64,
     /// How many aren't an item of the kinds, and have a number of bytes that only items of a kind that isn't asked for have.
     pub other: u64,
+    /// How many are text without an item: without digits at their end, or with few after a letter.
+    pub text: u64,
 }

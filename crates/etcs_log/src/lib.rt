@@ -3,6 +3,7 @@
 //! [`LogTally`] has the counts.
 #![tactic(auto)]
 
+mod byte_count;
 mod counts;
 mod job;
 mod json_lines;
@@ -10,13 +11,19 @@ mod kinds;
 mod lines;
 mod log;
 mod members;
+mod needs;
 mod notes;
+mod numbers;
+mod others;
+mod picks;
 mod readers;
 mod refusals;
+mod reports;
 mod runs;
 mod seen;
 mod strings;
 
 pub use job::{Good, LogJob, LogTally};
 pub use kinds::Kinds;
+pub use numbers::NumberSet;
 pub use runs::run_log;

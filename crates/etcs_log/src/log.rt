@@ -1,7 +1,7 @@
 //! A log: lines one after another, each read by itself.
 
 ghost use Rattle.std.specs.Prelude.{◌≡◌, ◌+◌, ◌<◌, ◌≤◌, ◌^◌, ◌++◌, ◌∷◌, ℕ, List, [], IfErr, IfOk, OnErr, OnOk, length, ⊤};
-ghost use Rattle.etcs_log.specs.Logs.{Answered, EndText};
+ghost use Rattle.etcs_log.specs.Logs.{Answered, EndText, lines_in};
 ghost use Rattle.etcs_log.specs.Promised.{log_promises};
 ghost use Rattle.etcs_runs.specs.declared.fault.RunFault.{RunFault};
 ghost use Rattle.etcs_log.specs.Stands.{LogTook};
@@ -74,9 +74,7 @@ impl LogLines {
     /// If memory runs out.
     fn write_line(&mut self, line: &[u8]) -> Result<(), AllocError>
         requires line { self.old.answers.line < 2 ^ 63 }
-        requires items { self.old.answers.seen.tally.items < 2 ^ 63 }
-        requires bad { self.old.answers.seen.tally.bad < 2 ^ 63 }
-        requires other { self.old.answers.seen.tally.other < 2 ^ 63 }
+        requires few { lines_in self.old.answers.seen.tally < 2 ^ 63 }
         ensures job { self.new.answers.job ≡ self.old.answers.job }
         ensures line { self.new.answers.line ≡ self.old.answers.line + 1 }
         ensures ok { OnOk result (Answered self.old.answers.job (self.old.answers.line + 1) line.now self.old.answers.seen self.new.answers.seen [] self.new.text.items) }
@@ -98,9 +96,7 @@ impl LogLines {
     /// If memory runs out. Nothing was appended.
     fn take(&mut self, line: &[u8], page: &mut Page) -> Result<(), AllocError>
         requires line { self.old.answers.line < 2 ^ 63 }
-        requires items { self.old.answers.seen.tally.items < 2 ^ 63 }
-        requires bad { self.old.answers.seen.tally.bad < 2 ^ 63 }
-        requires other { self.old.answers.seen.tally.other < 2 ^ 63 }
+        requires few { lines_in self.old.answers.seen.tally < 2 ^ 63 }
         ensures job { self.new.answers.job ≡ self.old.answers.job }
         ensures line { self.new.answers.line ≡ self.old.answers.line + 1 }
         ensures ok { OnOk result (Answered self.old.answers.job (self.old.answers.line + 1) line.now self.old.answers.seen self.new.answers.seen page.old page.new) }

@@ -5,6 +5,7 @@ ghost use Rattle.etcs_log.specs.Notes.{cause_name, here_members, members, number
 
 use crate::kinds::kind_name;
 use crate::notes::Note;
+use etcs_reasons::inner::user_bits;
 use etcs_rows::{Cause, Here, Refusal};
 use std::alloc::AllocError;
 
@@ -86,11 +87,17 @@ pub(crate) fn write_members(note: &Note, out: &mut String) -> Result<(), AllocEr
         Note::TooLong => out.push_str(",\"cause\":\"too long\""),
         Note::NoDigits => out.push_str(",\"cause\":\"no digits\""),
         Note::OddDigits(count) => write!(out, ",\"cause\":\"odd digits\",\"digits\":{count}"),
-        Note::Bytes(_, count, _) => write!(out, ",\"cause\":\"bytes\",\"bytes\":{count}"),
+        Note::Bytes(_, bytes) => write!(out, ",\"cause\":\"bytes\",\"bytes\":{}", bytes.count),
         Note::Refused(kind, refusal) => {
             write!(out, ",\"kind\":\"{}\"", kind_name(*kind))?;
             write_refusal(refusal, out)
         }
-        Note::Other(count) => write!(out, ",\"cause\":\"other\",\"bytes\":{count}"),
+        Note::Other(bytes) => write!(out, ",\"cause\":\"other\",\"bytes\":{}", bytes.count),
+        Note::OtherBits(kind) => {
+            write!(out, ",\"cause\":\"other\",\"bits\":{}", user_bits(*kind))
+        }
+        Note::Another(bytes) => {
+            write!(out, ",\"cause\":\"another item\",\"bytes\":{}", bytes.count)
+        }
     }
 }

@@ -7,13 +7,15 @@ ghost use Rattle.etcs_vars.specs.Reading.{readings_of};
 ghost use Rattle.etcs_rows.specs.Refusals.{FindsRefusal};
 ghost use Rattle.etcs_text.specs.Entries.{EntryReads};
 ghost use Rattle.etcs_log.specs.Candidates.{whole_bytes};
-ghost use Rattle.etcs_log.specs.Logs.{IsBytesNote};
-ghost use Rattle.etcs_log.specs.Notes.{label, message_text, needed_text, note_text, other_words, plural, reason, telegram_words};
+ghost use Rattle.etcs_log.specs.Logs.{IsBytesNote, other_note};
+ghost use Rattle.etcs_log.specs.Notes.{label, note_text, other_bits_words, other_words, reason};
 
+use crate::byte_count::{ByteCount, plural};
 use crate::job::Good;
-use crate::kinds::{Kinds, says_length, telegram_bytes};
+use crate::kinds::{Kinds, has_length, says_length, telegram_bytes};
 use crate::members::write_members;
-use etcs_reasons::inner::{are_bits, packed, wanted_bytes};
+use crate::needs::{Needs, needs_of};
+use etcs_reasons::inner::{are_bits, packed};
 use etcs_rows::Refusal;
 use etcs_text::Kind;
 use etcs_text::inner::refusal_at;
@@ -29,70 +31,16 @@ pub(crate) enum Note {
     NoDigits,
     /// It ends with this number of digits, which is odd.
     OddDigits(usize),
-    /// It has this number of bytes, which no item of these kinds has; and the number of L_MESSAGE, if the bytes are a message
-    /// that has it.
-    Bytes(Kinds, usize, Option<usize>),
+    /// It has this number of bytes, but an item needs another.
+    Bytes(Needs, ByteCount),
     /// Its bytes, or the bits that its digits are, are refused as an item of this kind.
     Refused(Kind, Refusal),
     /// It has this number of bytes, which only items of a kind that isn't asked for have.
-    Other(usize),
-}
-
-/// The ending of a noun after this number.
-fn plural(count: usize) -> &'static str
-    ensures { result.now ≡ plural count }
-{
-    if count == 1 { "" } else { "s" }
-}
-
-/// Writes how many bytes a message needs, where other kinds may be asked for, too.
-#[tactic(auto, using(std::proofs::Common::append_assoc), unfolding(crate::specs::Notes::message_text))]
-fn write_message<W: fmt::Write>(
-    others: bool,
-    wanted: Option<usize>,
-    f: &mut fmt::Formatter<W>,
-) -> fmt::Result
-    ensures { WritesOnOk W.write_str_gives f.old result (message_text others wanted) f.new }
-{
-    if others {
-        return match wanted {
-            Some(count) => write!(
-                f,
-                ", which no item of these kinds has: L_MESSAGE is {count}"
-            ),
-            None => f.write_str(", which no item of these kinds has"),
-        };
-    }
-    match wanted {
-        Some(count) => write!(f, ", but L_MESSAGE is {count}"),
-        None => f.write_str(", but a radio message has at least 3"),
-    }
-}
-
-/// How many bytes a telegram needs, if one size alone is asked for.
-fn telegram_words(long: bool, short: bool) -> &'static str
-    ensures { result.now ≡ telegram_words long short }
-{
-    match (long, short) {
-        (true, false) => ", but a long telegram has 104",
-        (false, true) => ", but a short telegram has 27",
-        _ => ", which no item of these kinds has",
-    }
-}
-
-/// Writes how many bytes an item of these kinds needs.
-#[tactic(auto, unfolding(crate::specs::Notes::needed_text))]
-fn write_needed<W: fmt::Write>(
-    kinds: Kinds,
-    wanted: Option<usize>,
-    f: &mut fmt::Formatter<W>,
-) -> fmt::Result
-    ensures { WritesOnOk W.write_str_gives f.old result (needed_text kinds wanted) f.new }
-{
-    if kinds.radio || kinds.train {
-        return write_message(kinds.long || kinds.short, wanted, f);
-    }
-    f.write_str(telegram_words(kinds.long, kinds.short))
+    Other(ByteCount),
+    /// It has the bits of a telegram of this kind, which isn't asked for.
+    OtherBits(Kind),
+    /// It has an item, and before that another one of this number of bytes.
+    Another(ByteCount),
 }
 
 /// Which items have this number of bytes.
@@ -100,9 +48,20 @@ fn other_words(count: usize) -> &'static str
     ensures { result.now ≡ other_words count }
 {
     match count {
-        104 => " bytes, as a long telegram has",
-        27 => " bytes, as a short telegram has",
-        _ => " bytes, as a radio message whose L_MESSAGE says so",
+        104 => ", as a long telegram has",
+        27 => ", as a short telegram has",
+        _ => ", as a radio message whose L_MESSAGE says so",
+    }
+}
+
+/// Which telegram has as many bits.
+fn other_bits_words(kind: Kind) -> &'static str
+    ensures { result.now ≡ other_bits_words kind }
+{
+    match kind {
+        Kind::Long => "830 bits, as a long telegram has",
+        Kind::Short => "210 bits, as a short telegram has",
+        Kind::Radio | Kind::Train => "",
     }
 }
 
@@ -117,25 +76,24 @@ impl fmt::Display for Note {
             Note::OddDigits(count) => {
                 write!(f, "{count} digit{}, an odd number", plural(*count))
             }
-            Note::Bytes(kinds, count, wanted) => {
-                write!(f, "{count} byte{}", plural(*count))?;
-                write_needed(*kinds, *wanted, f)
-            }
+            Note::Bytes(needs, count) => write!(f, "{count}{needs}"),
             Note::Refused(_, refusal) => write!(f, "{refusal}"),
-            Note::Other(count) => write!(f, "{count}{}", other_words(*count)),
+            Note::Other(count) => write!(f, "{count}{}", other_words(count.count)),
+            Note::OtherBits(kind) => f.write_str(other_bits_words(*kind)),
+            Note::Another(count) => write!(f, "another item before it: {count}"),
         }
     }
 }
 
 /// The first kind of those asked for that has items of as many bytes, or of as many bits as there are digits.
 fn kind_of_length(kinds: Kinds, bytes: &[u8]) -> Option<Kind> {
-    if kinds.long && (are_bits(Kind::Long, bytes) || bytes.len() == 104) {
+    if kinds.long && has_length(Kind::Long, bytes) {
         return Some(Kind::Long);
     }
-    if kinds.short && (are_bits(Kind::Short, bytes) || bytes.len() == 27) {
+    if kinds.short && has_length(Kind::Short, bytes) {
         return Some(Kind::Short);
     }
-    if (kinds.radio || kinds.train) && says_length(bytes) {
+    if kinds.asks_message(bytes) && says_length(bytes) {
         return Some(kinds.message_way(bytes));
     }
     None
@@ -152,9 +110,9 @@ fn refusal_of(kind: Kind, bytes: &[u8]) -> Option<Refusal>
 }
 
 /// Why these bytes are no item of the kinds: why the first kind that has this number of bytes refuses them; if none has, how
-/// many there are.
-pub(crate) fn note_of(kinds: Kinds, bytes: &[u8]) -> Note
-    ensures { IsBytesNote kinds bytes.now result }
+/// many there are, and the first of them if they are named.
+pub(crate) fn note_of(kinds: Kinds, named: bool, bytes: &[u8]) -> Note
+    ensures { IsBytesNote kinds named bytes.now result }
 {
     if let Some(kind) = kind_of_length(kinds, bytes) {
         // there always is one: of a length that the kind has, bytes that are no item are refused
@@ -162,7 +120,20 @@ pub(crate) fn note_of(kinds: Kinds, bytes: &[u8]) -> Note
             return Note::Refused(kind, refusal);
         }
     }
-    Note::Bytes(kinds, bytes.len(), wanted_bytes(Kind::Radio, bytes))
+    Note::Bytes(needs_of(kinds, bytes), ByteCount::of(named, bytes))
+}
+
+/// What is reported of bytes of another kind: how many they are, or the bits that their digits are.
+pub(crate) fn other_note(named: bool, bytes: &[u8]) -> Note
+    ensures { result ≡ other_note named bytes.now }
+{
+    if are_bits(Kind::Long, bytes) {
+        return Note::OtherBits(Kind::Long);
+    }
+    if are_bits(Kind::Short, bytes) {
+        return Note::OtherBits(Kind::Short);
+    }
+    Note::Other(ByteCount::of(named, bytes))
 }
 
 /// Appends where the line is refused, or that it isn't bad.
@@ -175,11 +146,15 @@ fn write_label(note: &Note, out: &mut String) -> Result<(), AllocError>
     ensures { OnOk result (string_bytes out.new ≡ string_bytes out.old ++ label note.now) }
 {
     match note {
-        Note::TooLong | Note::NoDigits | Note::OddDigits(_) | Note::Bytes(_, _, _) => Ok(()),
+        Note::TooLong
+        | Note::NoDigits
+        | Note::OddDigits(_)
+        | Note::Bytes(_, _)
+        | Note::Another(_) => Ok(()),
         Note::Refused(_, refusal) => {
             write!(out, "refused at bit {}, {}: ", refusal.bit, refusal.var)
         }
-        Note::Other(_) => out.push_str("other: "),
+        Note::Other(_) | Note::OtherBits(_) => out.push_str("other: "),
     }
 }
 

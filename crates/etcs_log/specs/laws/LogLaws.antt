@@ -13,7 +13,7 @@ use Rattle.etcs_log.specs.Stands.{AreAnswered, LogTook}
 use Rattle.etcs_log.specs.Promised.{FrontOutput, LinesOutput, WholeOutput, log_promises}
 
 lines_output : (job : LogJob) (lines : List (List ℕ)) (seen : Seen) (output : List ℕ) → AreAnswered job lines seen output → LinesOutput job lines output
-lines_output job lines seen output h = record { answers = h.answers; are_answers = h.are_answers; outputs = h.outputs }
+lines_output job lines seen output h = record { answers = h.answers; are_answers = h.are_answers; output_is = h.output_is }
 
 -- what is the text of an input's front is that of a longer one's
 front_longer : (job : LogJob) (given rest more output : List ℕ) → FrontOutput job given rest output → FrontOutput job (given ++ more) (rest ++ more) output

@@ -6,7 +6,7 @@ pub take-requires : goal.take-requires
 take-requires c =
     let s = c.args.self.now.answers in
     let few = took_few s.job s.line s.seen c.requires.took in
-    record { line = few.0; items = few.1; bad = few.2; other = few.3 }
+    record { line = few.0; few = few.1 }
 
 pub returns-in-Ok-clause-ok : goal.returns-in-Ok-clause-ok
 returns-in-Ok-clause-ok c lines raw output h l e =

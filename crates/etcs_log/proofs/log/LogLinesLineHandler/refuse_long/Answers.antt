@@ -15,7 +15,7 @@ overflow_add-self c =
 pub refuse-requires : goal.refuse-requires
 refuse-requires c =
     let s = c.args.self.now.answers in
-    record { bad = (took_few s.job s.line s.seen c.requires.took).2 }
+    record { few = (took_few s.job s.line s.seen c.requires.took).1 }
 
 pub returns-clause-ok : goal.returns-clause-ok
 returns-clause-ok c lines part output h l long rest k =
@@ -23,7 +23,7 @@ returns-clause-ok c lines part output h l long rest k =
     let n = c.refuse.new.self in
     let raw = part ++ rest in
     let noted = rw c.clear.ensures.items at c.in_ok-refuse.ensures.ok in
-    let answered = answered_on s.job (s.line + 1) (strip_cr raw) s.seen n.seen c.refuse.new.text.items c.args.page.now c.pass_on.new.page (bad TooLong, long_more s.job.kinds part rest long, noted) c.in_ok-pass_on.ensures.ok in
+    let answered = answered_on s.job (s.line + 1) (strip_cr raw) s.seen n.seen c.refuse.new.text.items c.args.page.now c.pass_on.new.page (bad TooLong, long_more s.job part rest long, noted) c.in_ok-pass_on.ensures.ok in
     rw c.pass_on.ensures.answers (took_more s.job n.job s.line n.line s.seen n.seen lines raw (strip_cr raw) output c.args.page.now c.pass_on.new.page h (All-append (λ c. c ≡ 10 → ⊥) part rest l k) refl c.refuse.ensures.job c.refuse.ensures.line answered)
 
 pub returns-in_err-refuse-clause-err : goal.returns-in_err-refuse-clause-err

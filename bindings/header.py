@@ -24,7 +24,7 @@ HEADER_H, HEADER_HPP = "bindings/c/etcs.h", "bindings/c/etcs.hpp"
 # Where else a version is given.
 VERSIONS = {
     "crates/etcs_c/src/lib.rt": r'^const VERSION: &\[u8\] = b"(.*)\\0";$',
-    "crates/etcs_reasons/src/page.rt": r"^<footer>etcs (.*)</footer>$",
+    "crates/etcs_reasons/src/page.rt": r"^<footer>etcs (.*) proved</footer>$",
     "bindings/python/pyproject.toml": r'^version = "(.*)"$',
     "bindings/python/src/etcs/__init__.py": r'^__version__ = "(.*)"$',
 }
@@ -36,7 +36,7 @@ NAMES = {
 C_TYPES = {
     "u32": ["uint32_t"], "u64": ["uint64_t"], "usize": ["size_t"], "Global": [],
     "&[u8]": ["const uint8_t *", "size_t"], "&mut [u8]": ["uint8_t *", "size_t"],
-    "&mut EtcsAnswer": ["etcs_answer *"], "&mut [EtcsField]": ["etcs_field *", "size_t"], "&[EtcsField]": ["const etcs_field *", "size_t"], "[u8; 32]": ["char", "[32]"],
+    "&mut EtcsAnswer": ["etcs_answer *"], "&mut [EtcsField]": ["etcs_field *", "size_t"], "&[EtcsField]": ["const etcs_field *", "size_t"], "&mut [EtcsPlace]": ["etcs_place *", "size_t"], "[u8; 32]": ["char", "[32]"],
     "&[EtcsTelegram]": ["const etcs_telegram *", "size_t"], "&mut EtcsGroup": ["etcs_group *"], "&mut EtcsReason": ["etcs_reason *"],
     "[u8; 104]": ["uint8_t", "[104]"], "[u8; 8]": ["uint8_t", "[8]"],
 }
@@ -177,7 +177,7 @@ def main():
             wrong.append(f"{path} has {', '.join(sorted(found))}")
     wrong += [f"{HEADER_HPP} doesn't call {name}" for name in ours if f"::{name}(" not in source(HEADER_HPP)]
     groups, reason = source("crates/etcs_c/src/groups.rt"), source("crates/etcs_c/src/reason.rt")
-    structs = [("etcs_answer", "EtcsAnswer", answer), ("etcs_field", "EtcsField", source("crates/etcs_c/src/fields.rt"))]
+    structs = [("etcs_answer", "EtcsAnswer", answer), ("etcs_field", "EtcsField", source("crates/etcs_c/src/fields.rt")), ("etcs_place", "EtcsPlace", source("crates/etcs_c/src/places.rt"))]
     structs += [("etcs_telegram", "EtcsTelegram", groups), ("etcs_group", "EtcsGroup", groups), ("etcs_reason", "EtcsReason", reason)]
     count = 0
     for c_name, name, text in structs:
@@ -188,7 +188,7 @@ def main():
         count += len(fields)
         if fields != theirs_:
             wrong.append(f"{c_name}: {fields} in the source, {theirs_} in the header")
-    version = re.search(r'VERSION: &str = "([\d.]+) ', source("crates/etcs_cli/src/words.rt")).group(1)
+    version = re.search(r'VERSION: &str = "([\d.]+) ', source("crates/etcs_cli/src/line.rt")).group(1)
     for path, pattern in VERSIONS.items():
         found = re.findall(pattern, source(path), re.M)
         if found != [version]:

@@ -8,6 +8,7 @@ etcs_status __real_etcs_show(etcs_kind kind, uint64_t item, const uint8_t *bytes
 etcs_status __real_etcs_to_json(etcs_kind kind, const uint8_t *bytes, size_t len, uint8_t *out, size_t room, etcs_answer *a);
 etcs_status __real_etcs_from_json(etcs_kind kind, const uint8_t *line, size_t len, uint8_t *out, size_t room, etcs_answer *a);
 etcs_status __real_etcs_from_fields(etcs_kind kind, const etcs_field *fields, size_t len, uint8_t *out, size_t room, etcs_answer *a);
+etcs_status __real_etcs_places(etcs_kind kind, const uint8_t *bytes, size_t len, etcs_place *out, size_t room, etcs_answer *a);
 etcs_status __real_etcs_explain(etcs_kind kind, const uint8_t *bytes, size_t len, uint8_t *out, size_t room, etcs_answer *a);
 etcs_status __real_etcs_refusal(etcs_kind kind, const uint8_t *bytes, size_t len, etcs_reason *reason, etcs_answer *a);
 etcs_status __real_etcs_fields_before(etcs_kind kind, const uint8_t *bytes, size_t len, etcs_field *out, size_t room, etcs_answer *a);
@@ -86,5 +87,14 @@ etcs_status __wrap_etcs_refusal(etcs_kind kind, const uint8_t *bytes, size_t len
     etcs_status status = __real_etcs_refusal(kind, bytes, len, reason, a);
     if (FAULT == 13 && status == ETCS_REFUSED && reason->has & ETCS_HAS_ABOVE)
         reason->above++;
+    return status;
+}
+
+etcs_status __wrap_etcs_places(etcs_kind kind, const uint8_t *bytes, size_t len, etcs_place *out, size_t room, etcs_answer *a)
+{
+    /* what closes an item is in its last packet */
+    etcs_status status = __real_etcs_places(kind, bytes, len, out, room, a);
+    if (FAULT == 14 && status == ETCS_OK && a->written > 1)
+        out[a->written - 1].packet = out[a->written - 2].packet;
     return status;
 }

@@ -113,7 +113,7 @@ static uint8_t *area(int which, size_t size)
 
 static size_t unit_of(int which)
 {
-    return which == FIELDS || which == FIELDS_BEFORE ? sizeof(etcs_field) : 1;
+    return which == FIELDS || which == FIELDS_BEFORE ? sizeof(etcs_field) : which == PLACES ? sizeof(etcs_place) : 1;
 }
 
 /* The number of the item for `show`. */
@@ -139,6 +139,7 @@ static etcs_status call(int which, etcs_kind kind, const uint8_t *in, size_t len
     case TO_JSON: status = etcs_to_json(kind, in, len, out, room, a); break;
     case FROM_JSON: status = etcs_from_json(kind, in, len, out, room, a); break;
     case FIELDS: status = etcs_fields(kind, in, len, (etcs_field *)(void *)out, room, a); break;
+    case PLACES: status = etcs_places(kind, in, len, (etcs_place *)(void *)out, room, a); break;
     case FROM_FIELDS: status = etcs_from_fields(kind, (const etcs_field *)(const void *)in, len, out, room, a); break;
     case MEANING: status = etcs_meaning(kind, asked.var, asked.number, asked_scale, out, room, a); break;
     case LINE_BYTES: status = etcs_line_bytes(in, len, out, room, a); break;
@@ -427,10 +428,10 @@ static void try_respelled(etcs_kind kind, const uint8_t *line, size_t len, const
 /* Bytes after an item are ignored: what is written for it stays the same. */
 static void try_followed(etcs_kind kind, const uint8_t *bytes, size_t taken)
 {
-    static const int calls[] = {SHOW, TO_JSON, FIELDS};
+    static const int calls[] = {SHOW, TO_JSON, FIELDS, PLACES};
     static uint8_t longer[ETCS_MOST_BYTES + 64];
     static uint8_t kept[AREA];
-    int which = calls[chance(3)];
+    int which = calls[chance(4)];
     result alone = ask(which, kind, bytes, taken);
     size_t size = alone.answer.written * unit_of(which), further = 1 + chance(64);
     HOLDS(size <= sizeof kept);
@@ -561,6 +562,25 @@ static void try_telegrams(etcs_kind kind, const uint8_t *bytes, size_t taken)
     try_group(telegrams, count);
 }
 
+/* Whether each NID_PACKET begins the next packet, what is before the first and after the last is in none, and an entry of a list is
+ * the same as that of the field before it, or the next one, or the first. */
+static int are_in_order(const etcs_field *fields, const etcs_place *places, size_t count)
+{
+    etcs_place last = {0};
+    size_t packets = 0;
+    for (size_t i = 0; i < count; last = places[i++]) {
+        etcs_place now = places[i];
+        uint32_t var = fields[i].var;
+        packets += var == ETCS_VAR_NID_PACKET;
+        int is_after = var == ETCS_VAR_FILL || var == ETCS_VAR_PADDING || var == ETCS_VAR_PAD;
+        if (now.packet != (is_after ? 0 : packets) || (now.entry && !now.packet) || (now.inner && !now.entry))
+            return 0;
+        if ((now.entry > 1 && now.entry - last.entry > 1) || (now.inner > 1 && now.inner - last.inner > 1))
+            return 0;
+    }
+    return 1;
+}
+
 /* An item is what its JSON and its fields say, `show` prints it, and no shorter bytes hold it. */
 static void try_item(etcs_kind kind, const uint8_t *bytes, size_t taken)
 {
@@ -577,6 +597,9 @@ static void try_item(etcs_kind kind, const uint8_t *bytes, size_t taken)
     HOLDS(sent.status == ETCS_OK && sent.answer.written <= ETCS_MOST_FIELDS);
     size_t count = sent.answer.written;
     memcpy(fields, sent.out, count * sizeof *fields);
+    result places = ask(PLACES, kind, bytes, taken);
+    HOLDS(places.status == ETCS_OK && places.answer.taken == taken && places.answer.written == count);
+    HOLDS(are_in_order(fields, (const etcs_place *)(const void *)places.out, count));
     result packed = ask(FROM_FIELDS, kind, fields, count);
     HOLDS(packed.status == ETCS_OK && packed.answer.written == taken && !memcmp(packed.out, bytes, taken));
     result text = ask(SHOW, kind, bytes, taken);
@@ -708,10 +731,10 @@ static void try_pieces(etcs_kind kind, const uint8_t *bytes, size_t len)
 
 static void try_bytes(etcs_kind kind, const uint8_t *bytes, size_t len)
 {
-    static const int calls[] = {SHOW, TO_JSON, FIELDS, EXPLAIN, FIELDS_BEFORE};
+    static const int calls[] = {SHOW, TO_JSON, FIELDS, PLACES, EXPLAIN, FIELDS_BEFORE};
     result r = ask(CHECK, kind, bytes, len);
     HOLDS(r.status == ETCS_OK || r.status == ETCS_MORE || r.status == ETCS_REFUSED);
-    int which = calls[chance(5)];
+    int which = calls[chance(6)];
     result other = ask(which, kind, bytes, len);
     HOLDS(is_same(&other, &r));
     if (r.status == ETCS_OK) {

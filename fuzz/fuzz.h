@@ -5,7 +5,7 @@
 #include "etcs_help.h"
 
 /* The calls; those from EXPLAIN on write if input is no item. */
-enum { CHECK, SHOW, TO_JSON, FROM_JSON, FIELDS, FROM_FIELDS, MEANING, LINE_BYTES, VERSION, EXPLAIN, FIELDS_BEFORE, EXPLAIN_JSON, CALLS };
+enum { CHECK, SHOW, TO_JSON, FROM_JSON, FIELDS, PLACES, FROM_FIELDS, MEANING, LINE_BYTES, VERSION, EXPLAIN, FIELDS_BEFORE, EXPLAIN_JSON, CALLS };
 
 /* What follows the first byte of an input, by the two bits above its kind. */
 enum { ITEMS, LINE, SENT };

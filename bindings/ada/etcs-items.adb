@@ -5,6 +5,7 @@ package body Etcs.Items is
 
    package Octets is new System.Address_To_Access_Conversions (Unsigned_8);
    package Variables_At is new System.Address_To_Access_Conversions (Field);
+   package Places_At is new System.Address_To_Access_Conversions (Field_Place);
    package Telegrams_At is new System.Address_To_Access_Conversions (Telegram);
 
    function Octet (At_Address : System.Address) return Octets.Object_Pointer renames Octets.To_Pointer;
@@ -126,6 +127,16 @@ package body Etcs.Items is
       Stop_Unless_Done (S, A, (if S = Refused then Explain (K, Bytes) else ""));
       return Sent (1 .. A.Written);
    end Fields;
+
+   function Places (K : Item_Kind; Bytes : Byte_Array) return Place_Array is
+      Found : Place_Array (1 .. Most_Fields (Bytes));
+      A     : Answer;
+      S     : constant Status :=
+        Places (Of_Kind (K), Octet (Bytes'Address), Bytes'Length, Places_At.To_Pointer (Found'Address), Found'Length, A);
+   begin
+      Stop_Unless_Done (S, A, (if S = Refused then Explain (K, Bytes) else ""));
+      return Found (1 .. A.Written);
+   end Places;
 
    ---- Writing
 

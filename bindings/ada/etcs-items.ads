@@ -8,14 +8,14 @@
 --        when Item_Refused   => bit Verdict.Place.Bit, in the variable Verdict.Place.Name, is refused
 --     end case;
 --
---  The functions that return an item's text, JSON, fields or bytes raise one of the exceptions below if there is no item, with
+--  The functions that return an item's text, JSON, fields, places or bytes raise one of the exceptions below if there is no item, with
 --  the reason as the message, which GNAT cuts after 200 characters; no other function raises an exception because of what
 --  bytes, JSON or fields are. Bytes after the item are ignored. A String is in UTF-8. Arrays may begin at any index, and those
 --  returned begin at 1.
 --
 --  Storage_Error is raised if there is no memory. Any task may call at any time. The calls are those of etcs.h, which describes
 --  them and names what is proved; this package is tested, not proved. It takes the stack that etcs.h names, and for fields up
---  to 128 KiB more, for a line half of its length.
+--  to 128 KiB more, for places up to 192 KiB, for a line half of its length.
 with Ada.Strings.Bounded;
 
 package Etcs.Items is
@@ -62,6 +62,9 @@ package Etcs.Items is
 
    --  The item's variables in the order of sending. Refused_Item or Truncated_Item.
    function Fields (K : Item_Kind; Bytes : Byte_Array) return Field_Array;
+
+   --  The place of each of these, in their order: its packet, and its entry in each repeated group. Refused_Item or Truncated_Item.
+   function Places (K : Item_Kind; Bytes : Byte_Array) return Place_Array;
 
    ---- Writing
 

@@ -50,6 +50,16 @@ package Etcs is
 
    type Field_Array is array (size_t range <>) of aliased Field with Convention => C;
 
+   --  Where a field is: its packet, its entry in a repeated group, and its entry in one inside that, each from 1; 0 if in none.
+   type Field_Place is record
+      Packet      : size_t := 0;
+      Group_Entry : size_t := 0;
+      Inner_Entry : size_t := 0;
+   end record
+     with Convention => C;
+
+   type Place_Array is array (size_t range <>) of aliased Field_Place with Convention => C;
+
    type Telegram is record
       K     : Kind := Long_Telegram;
       Bytes : Byte_Array (0 .. 103) := (others => 0);
@@ -118,6 +128,11 @@ package Etcs is
      (K : Kind; Bytes : access constant Unsigned_8; Len : size_t;
       Output : access Field; Room : size_t; A : in out Answer) return Status
      with Import, Convention => C, External_Name => "etcs_fields";
+
+   function Places
+     (K : Kind; Bytes : access constant Unsigned_8; Len : size_t;
+      Output : access Field_Place; Room : size_t; A : in out Answer) return Status
+     with Import, Convention => C, External_Name => "etcs_places";
 
    function From_Fields
      (K : Kind; Sent : access constant Field; Len : size_t;

@@ -74,6 +74,13 @@ procedure Test_Items is
       procedure Test_Show is new Expect_Raise (Show_Front);
       procedure Test_Json is new Expect_Raise (Json_Front);
       procedure Test_Fields is new Expect_Raise (Fields_Front);
+
+      procedure Places_Front is
+      begin
+         Put_Line (Places (K, Front)'Length'Image);
+      end Places_Front;
+
+      procedure Test_Places is new Expect_Raise (Places_Front);
       Bits : Unsigned_32 := 0;
    begin
       Expect (Verdict.Outcome = Item_Whole and then Verdict.Length = Bytes'Length, "Check " & K'Image);
@@ -95,7 +102,22 @@ procedure Test_Items is
       Test_Show (Truncated_Item'Identity, "the bytes end inside an item", "Show of a front");
       Test_Json (Truncated_Item'Identity, "the bytes end inside an item", "To_Json of a front");
       Test_Fields (Truncated_Item'Identity, "the bytes end inside an item", "Fields of a front");
+      Test_Places (Truncated_Item'Identity, "the bytes end inside an item", "Places of a front");
+      Expect (Places (K, Bytes)'First = 1, "Places from 1");
+      Expect (Places (K, Bytes)'Length = Fields (K, Bytes)'Length, "as many Places as Fields");
    end Test_Item;
+
+   --  Packet 27 of a short telegram: a field in no packet, in no entry, in the second entry of a list, in the second of its list.
+   procedure Test_Nested is
+      Found : constant Place_Array :=
+        Places (Kind_Short, Line_Bytes ("A113140C40FFC6C04620028A002003C54000505A2445062FFFFFC0"));
+   begin
+      Expect (Found'Length = 36, "Places of packet 27:" & Found'Length'Image);
+      Expect (Found (10) = (0, 0, 0) and then Found (36) = (0, 0, 0), "no packet");
+      Expect (Found (11) = (1, 0, 0) and then Found (34) = (2, 0, 0), "packets");
+      Expect (Found (20) = (1, 1, 0) and then Found (27) = (1, 2, 0), "entries");
+      Expect (Found (28) = (1, 2, 1) and then Found (33) = (1, 2, 2), "entries of an entry");
+   end Test_Nested;
 
    procedure Test_Refusals is
       Verdict : constant Check_Result := Check (Kind_Radio, Wrong);
@@ -268,6 +290,7 @@ begin
    Test_Item (Kind_Short, Short);
    Test_Item (Kind_Radio, Kept); --  its text and its JSON are longer than what is tried first
    Expect (Show (Kind_Radio, Kept)'Length > 8_192 and then To_Json (Kind_Radio, Kept)'Length > 8_192, "long texts");
+   Test_Nested;
    Test_Refusals;
    Test_Lines;
    Test_Meanings;

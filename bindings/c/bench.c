@@ -1,5 +1,5 @@
 /* bench CALL KIND FILE COUNT: nanoseconds of processor time for each item, over all items of the file COUNT times.
- * CALL is check, show, to_json, from_json, fields, pack (fields and from_fields), explain, refusal or before (of telegrams
+ * CALL is check, show, to_json, from_json, fields, places, pack (fields and from_fields), explain, refusal or before (of telegrams
  * whose last bit is turned, which is refused), explain_json or json_reason (of lines of JSON without their last byte), or a
  * number: the reader, fed pieces of that many bytes. */
 #include "etcs_help.h"
@@ -10,6 +10,7 @@
 
 static uint8_t out[1 << 18];
 static etcs_field fields[8192];
+static etcs_place places[8192];
 static char line[1 << 18];
 
 int main(int argc, char **argv) {
@@ -81,6 +82,7 @@ int main(int argc, char **argv) {
         for (size_t at = 0; at < len; at += answer.taken, items++) {
             etcs_status status = !strcmp(call, "check") ? etcs_check(kind, bytes + at, len - at, &answer)
                 : !strcmp(call, "show") ? etcs_show(kind, items, bytes + at, len - at, out, sizeof out, &answer)
+                : !strcmp(call, "places") ? etcs_places(kind, bytes + at, len - at, places, 8192, &answer)
                 : !strcmp(call, "fields") || !strcmp(call, "pack") ? etcs_fields(kind, bytes + at, len - at, fields, 8192, &answer)
                 : etcs_to_json(kind, bytes + at, len - at, out, sizeof out, &answer);
             if (status) return 3;

@@ -20,9 +20,9 @@
  * Threads: each call is a function of its arguments, so any thread may call at any time with buffers of its own.
  *
  * What the caller must ensure, since nothing checks it:
- *   - a pointer points to as many bytes, fields or telegrams as its length says, fewer than 2^63 bytes; if its length is
+ *   - a pointer points to as many bytes, fields, places or telegrams as its length says, fewer than 2^63 bytes; if its length is
  *     0 it may be null; answer, group and reason are never null;
- *   - a pointer to an answer, a group, a reason, fields or telegrams is aligned as its type is;
+ *   - a pointer to an answer, a group, a reason, fields, places or telegrams is aligned as its type is;
  *   - out, group, reason and answer overlap neither each other nor what is read;
  *   - no call is made from a signal handler, nor in the forked child of a process with threads;
  *   - there are 32 KiB of stack; for etcs_from_json, etcs_explain_json and etcs_json_reason 64 KiB, since lists and objects
@@ -59,7 +59,7 @@ enum {
     ETCS_OK = 0,           /* done */
     ETCS_MORE = 1,         /* the bytes begin an item but hold no whole one: call again with more bytes after them */
     ETCS_REFUSED = 2,      /* the bit answer.bit, in variable answer.var, is the first that no item can have */
-    ETCS_NO_ROOM = 3,      /* out is shorter than answer.written bytes, or fields, and is unchanged */
+    ETCS_NO_ROOM = 3,      /* out is shorter than answer.written bytes, fields or places, and is unchanged */
     ETCS_NO_MEMORY = 4,    /* out of memory; out is unchanged */
     ETCS_UNKNOWN_KIND = 5, /* the kind is none of the above; out is unchanged */
     ETCS_BAD_JSON = 6,     /* no item of the kind has this JSON */
@@ -87,7 +87,7 @@ typedef uint32_t etcs_status;
  * meaning. Begin with etcs_answer a = {0}. */
 typedef struct etcs_answer {
     size_t taken;   /* how many of the bytes the item takes, or what the call's comment says */
-    size_t written; /* how many bytes, or fields, were written, or with ETCS_NO_ROOM would have been */
+    size_t written; /* how many bytes, fields or places were written, or with ETCS_NO_ROOM would have been */
     size_t bit;     /* the first refused bit, counted from 0, which is the top bit of the first byte */
     char var[32];   /* the name of the variable that holds it, or that the caller named, as a string */
 } etcs_answer;
@@ -99,6 +99,13 @@ typedef struct etcs_field {
     uint32_t var;   /* which variable: ETCS_VAR_... of etcs_vars.h */
     uint32_t width; /* how many bits its number takes: a field begins at the sum of the widths before it */
 } etcs_field;
+
+/* Where a field of an item is. */
+typedef struct etcs_place {
+    size_t packet; /* which packet it is of, counted from 1, packet 255 of a telegram among them; 0 if it is of none */
+    size_t entry;  /* which entry of a repeated group (after N_ITER, or L_TEXT), counted from 1; 0 if it is in none */
+    size_t inner;  /* which entry of a repeated group inside that one, counted from 1; 0 if it is in none */
+} etcs_place;
 
 /* A telegram of either size. */
 typedef struct etcs_telegram {
@@ -174,6 +181,12 @@ etcs_status etcs_to_json(etcs_kind kind, const uint8_t *bytes, size_t len, uint8
 /* The same, and all of the item's fields, in the order of sending.
  *     ETCS_OK, ETCS_NO_ROOM  taken, written; else as etcs_check, and out is unchanged */
 etcs_status etcs_fields(etcs_kind kind, const uint8_t *bytes, size_t len, etcs_field *out, size_t room,
+                        etcs_answer *answer);
+
+/* As etcs_fields, but what is written is the place of each of these fields, in their order: of a packet 5 the first link has
+ * entry 0, and a NID_C with entry 2 is that of the third.
+ *     ETCS_OK, ETCS_NO_ROOM  taken, written; else as etcs_check, and out is unchanged */
+etcs_status etcs_places(etcs_kind kind, const uint8_t *bytes, size_t len, etcs_place *out, size_t room,
                         etcs_answer *answer);
 
 /* The bytes of the item whose JSON this is, at most 1,023. A line may have any length.

@@ -40,6 +40,7 @@ namespace etcs {
 using bytes = std::vector<std::uint8_t>;
 using bytes_view = std::span<const std::uint8_t>;
 using field = ::etcs_field;       /* number, var (of etcs::variable), width */
+using field_place = ::etcs_place; /* packet, entry, inner */
 using telegram = ::etcs_telegram; /* see make_telegram */
 
 enum class kind : etcs_kind {
@@ -134,6 +135,7 @@ namespace detail {
 inline std::uint8_t *octets(std::string &text) { return reinterpret_cast<std::uint8_t *>(text.data()); }
 inline std::uint8_t *octets(bytes &out) { return out.data(); }
 inline field *octets(std::vector<field> &out) { return out.data(); }
+inline field_place *octets(std::vector<field_place> &out) { return out.data(); }
 
 /* A status that isn't a fault of the input is an exception. */
 inline etcs_status checked(etcs_status status)
@@ -240,6 +242,20 @@ inline result<fields_of_item> fields(kind of, bytes_view input)
     if (status != ETCS_OK)
         return detail::fault_of(status, answer);
     found.taken = answer.taken;
+    return found;
+}
+
+/* The place of each of these variables: which packet it is of, and its entry in each repeated group. */
+inline result<std::vector<field_place>> places(kind of, bytes_view input)
+{
+    etcs_answer answer{};
+    std::vector<field_place> found;
+    auto call = [&](field_place *out, std::size_t room, etcs_answer *a) {
+        return ::etcs_places(static_cast<etcs_kind>(of), input.data(), input.size(), out, room, a);
+    };
+    etcs_status status = detail::write(found, detail::field_room, false, answer, call);
+    if (status != ETCS_OK)
+        return detail::fault_of(status, answer);
     return found;
 }
 

@@ -30,6 +30,7 @@ _Static_assert(sizeof(etcs_answer) == 56 && offsetof(etcs_answer, var) == 24, "e
 _Static_assert(sizeof(etcs_telegram) == 108 && offsetof(etcs_telegram, bytes) == 4, "etcs_telegram");
 _Static_assert(sizeof(etcs_group) == 12 && offsetof(etcs_group, is_complete) == 8, "etcs_group");
 _Static_assert(sizeof(etcs_reason) == 72 && offsetof(etcs_reason, count) == 8 && offsetof(etcs_reason, cause) == 56 && offsetof(etcs_reason, has) == 68, "etcs_reason");
+_Static_assert(sizeof(etcs_place) == 24 && offsetof(etcs_place, entry) == 8 && offsetof(etcs_place, inner) == 16, "etcs_place");
 _Static_assert(sizeof(etcs_field) == 16 && offsetof(etcs_field, var) == 8 && offsetof(etcs_field, width) == 12, "etcs_field");
 
 static __thread long left = LONG_MAX;
@@ -70,7 +71,7 @@ static void refused_memory(void)
     _Alignas(16) uint8_t out[8192];
     for (int kind = ETCS_SHORT; kind <= ETCS_TRAIN; kind++) {
         size_t len = item(bytes, kind == ETCS_TRAIN ? TRAIN : kind == ETCS_RADIO ? RADIO : KEPT);
-        for (int call = 0; call < 6; call++) {
+        for (int call = 0; call < 7; call++) {
             etcs_answer a = {0};
             char line[8192];
             etcs_field sent[512];
@@ -86,6 +87,7 @@ static void refused_memory(void)
                     : call == 2 ? etcs_to_json(kind, bytes, len, out, sizeof out, &a)
                     : call == 3 ? etcs_from_json(kind, (uint8_t *)line, line_len, out, sizeof out, &a)
                     : call == 4 ? etcs_fields(kind, bytes, len, (etcs_field *)out, sizeof out / sizeof(etcs_field), &a)
+                    : call == 5 ? etcs_places(kind, bytes, len, (etcs_place *)out, sizeof out / sizeof(etcs_place), &a)
                     : etcs_from_fields(kind, sent, count, out, sizeof out, &a);
                 left = LONG_MAX;
                 if (s == ETCS_OK) { printf("kind %d, call %d: %ld allocations\n", kind, call, n); break; }
@@ -249,6 +251,7 @@ static void statuses(void)
         {0, ETCS_VAR_M_ACK, 1}, {0, ETCS_VAR_NID_LRBG, 24}, {0, ETCS_VAR_PADDING, 5},
     };
     static etcs_field zeros[ETCS_MOST_FIELDS], fields[8];
+    static etcs_place places[8];
     uint8_t out[256], packet[64], front[64];
     size_t packet_len = item(packet, RADIO);
     memcpy(front, packet, packet_len), front[1] = 0xFF, front[2] = 0xC0;   /* L_MESSAGE 1023 */
@@ -290,6 +293,15 @@ static void statuses(void)
     EXPECT(ANSWERS(ETCS_REFUSED, etcs_fields(ETCS_RADIO, eleven, 3, fields, 8, &a)) && IS_REFUSED(17, "L_MESSAGE"));
     EXPECT(STARVES(etcs_fields(ETCS_RADIO, ten, 10, fields, 8, &a)));
     EXPECT(ANSWERS(ETCS_UNKNOWN_KIND, etcs_fields(9, ten, 10, fields, 8, &a)));
+
+    memset(places, 7, sizeof places);
+    EXPECT(ANSWERS(ETCS_NO_ROOM, etcs_places(ETCS_RADIO, ten, 10, places, 5, &a)) && a.taken == 10 && a.written == 6);
+    EXPECT(ANSWERS(ETCS_MORE, etcs_places(ETCS_RADIO, ten, 9, places, 8, &a)));
+    EXPECT(ANSWERS(ETCS_REFUSED, etcs_places(ETCS_RADIO, eleven, 3, places, 8, &a)) && IS_REFUSED(17, "L_MESSAGE"));
+    EXPECT(STARVES(etcs_places(ETCS_RADIO, ten, 10, places, 8, &a)));
+    EXPECT(ANSWERS(ETCS_UNKNOWN_KIND, etcs_places(9, ten, 10, places, 8, &a)) && !memcmp(places, places + 4, 4 * sizeof *places));
+    EXPECT(ANSWERS(ETCS_OK, etcs_places(ETCS_RADIO, ten, 10, places, 8, &a)) && a.taken == 10 && a.written == 6);
+    for (int i = 0; i < 8; i++) EXPECT(i < 6 ? !places[i].packet && !places[i].entry && !places[i].inner : ((uint8_t *)(places + i))[0] == 7);
 
     EXPECT(ANSWERS(ETCS_OK, etcs_from_json(ETCS_RADIO, JSON(line), out, 10, &a)) && a.written == 10 && !memcmp(out, ten, 10));
     EXPECT(ANSWERS(ETCS_NO_ROOM, etcs_from_json(ETCS_RADIO, JSON(line), out, 9, &a)) && a.written == 10 && out[0] == 7);
@@ -363,6 +375,35 @@ static void statuses(void)
     EXPECT(ANSWERS(ETCS_NO_ROOM, etcs_json_reason(ETCS_SHORT, JSON(spare), out, 0, &a)) && IS_REFUSED(74, "Q_SCALE") && a.written > 0);
     EXPECT(STARVES(etcs_json_reason(ETCS_RADIO, JSON("{}"), out, 256, &a)) && out[0] == 7);
     EXPECT(ANSWERS(ETCS_UNKNOWN_KIND, etcs_json_reason(9, JSON(line), out, 256, &a)) && out[0] == 7);
+}
+
+/* The places of the fields of packet 27 by bits, after a header of ten: a first speed with N_ITER 0; N_ITER 2; a speed with N_ITER
+ * 0; a speed with N_ITER 2, for categories of Q_DIFF 1 and 0. After packet 255 are FILL and PAD. Then messages with packets. */
+static void places(void)
+{
+    static const struct { size_t count; etcs_place place; } wanted[] = {
+        {10, {0, 0, 0}}, {9, {1, 0, 0}}, {4, {1, 1, 0}}, {4, {1, 2, 0}}, {3, {1, 2, 1}}, {3, {1, 2, 2}}, {1, {2, 0, 0}}, {2, {0, 0, 0}},
+    };
+    etcs_place found[64], again[64];
+    uint8_t bytes[64];
+    etcs_answer a = {0};
+    size_t len = item(bytes, "A113140C40FFC6C04620028A002003C54000505A2445062FFFFFC0"), at = 0;
+    EXPECT(etcs_places(ETCS_SHORT, bytes, len, found, 64, &a) == ETCS_OK && a.taken == 27 && a.written == 36);
+    for (size_t i = 0; i < sizeof wanted / sizeof *wanted; i++)
+        for (size_t n = 0; n < wanted[i].count; n++, at++) EXPECT(!memcmp(found + at, &wanted[i].place, sizeof *found));
+    for (size_t room = 0; room < 36; room++) {
+        memset(again, 7, sizeof again);
+        EXPECT(etcs_places(ETCS_SHORT, bytes, len, again, room, &a) == ETCS_NO_ROOM && a.written == 36 && a.taken == 27);
+        for (size_t i = 0; i < sizeof again; i++) EXPECT(((uint8_t *)again)[i] == 7);
+    }
+    /* five variables of the message, four of packet 137, PADDING */
+    len = item(bytes, RADIO);
+    EXPECT(etcs_places(ETCS_RADIO, bytes, len, found, 64, &a) == ETCS_OK && a.written == 10);
+    for (size_t i = 0; i < 10; i++) EXPECT(found[i].packet == (i >= 5 && i < 9) && !found[i].entry && !found[i].inner);
+    /* 57 bits of packet 44 are one field, which is in it; 72 bits of FILL are two, and PAD is one */
+    len = item(bytes, KEPT);
+    EXPECT(etcs_places(ETCS_SHORT, bytes, len, found, 64, &a) == ETCS_OK && a.written == 18);
+    for (size_t i = 0; i < 18; i++) EXPECT(found[i].packet == (i < 10 || i > 14 ? 0 : i < 14 ? 1 : 2) && !found[i].entry && !found[i].inner);
 }
 
 /* The same for the calls over lines of hexadecimal and over numbers, with the words of `explain` and the rule of logs. */
@@ -511,6 +552,7 @@ static void no_pointers(void)
     EXPECT(etcs_show(ETCS_RADIO, 1, NULL, 0, NULL, 0, &a) == ETCS_MORE && etcs_show(ETCS_RADIO, 1, bytes, len, NULL, 0, &a) == ETCS_NO_ROOM);
     EXPECT(etcs_to_json(ETCS_RADIO, NULL, 0, NULL, 0, &a) == ETCS_MORE && etcs_to_json(ETCS_RADIO, bytes, len, NULL, 0, &a) == ETCS_NO_ROOM);
     EXPECT(etcs_fields(ETCS_RADIO, NULL, 0, NULL, 0, &a) == ETCS_MORE && etcs_fields(ETCS_RADIO, bytes, len, NULL, 0, &a) == ETCS_NO_ROOM);
+    EXPECT(etcs_places(ETCS_RADIO, NULL, 0, NULL, 0, &a) == ETCS_MORE && etcs_places(ETCS_RADIO, bytes, len, NULL, 0, &a) == ETCS_NO_ROOM);
     EXPECT(etcs_explain(ETCS_RADIO, NULL, 0, NULL, 0, &a) == ETCS_MORE && etcs_explain(ETCS_SHORT, bytes, len, NULL, 0, &a) == ETCS_NO_ROOM);
     etcs_reason reason;
     EXPECT(etcs_refusal(ETCS_RADIO, NULL, 0, &reason, &a) == ETCS_MORE);
@@ -733,6 +775,8 @@ static void *no_item(int call)
     return NULL;
 }
 
+static etcs_place places_found[ETCS_MOST_FIELDS];
+
 static void *all_calls(void *arg)
 {
     etcs_answer a = {0};
@@ -770,6 +814,7 @@ static void *all_calls(void *arg)
         } else if (call > 3) {
             if (etcs_fields(file_kind, file + at, file_len - at, sent, ETCS_MOST_FIELDS, &a)) return (void *)1;
             size_t taken = a.taken;
+            if (call == 4 && etcs_places(file_kind, file + at, taken, places_found, ETCS_MOST_FIELDS, &a)) return (void *)1;
             if (call == 5 && etcs_from_fields(file_kind, sent, a.written, text, sizeof text, &a)) return (void *)1;
             a.taken = taken;
         } else {
@@ -897,9 +942,30 @@ static void exact(const uint8_t *bytes, size_t len, size_t taken)
         EXPECT(etcs_fields(file_kind, in, len, sent, a.written, &a) == ETCS_OK);
         EXPECT(etcs_from_fields(file_kind, sent, a.written, back, taken, &a) == ETCS_OK && !memcmp(back, in, taken));
         free(sent), free(back);
+        EXPECT(etcs_places(file_kind, in, len, (etcs_place *)(void *)in, 0, &a) == ETCS_NO_ROOM);
+        etcs_place *found = malloc(sizeof(etcs_place) * (n = a.written));
+        EXPECT(etcs_places(file_kind, in, len, found, n, &a) == ETCS_OK && a.written == n);
+        free(found);
         exact_line(in, taken);
     }
     free(in);
+}
+
+/* Whether packets, entries and entries inside them follow each other: NID_PACKET begins the next packet, and in a packet an entry
+ * follows the same one, the one before it, or none. */
+static int are_ordered(const etcs_field *fields, const etcs_place *places, size_t count)
+{
+    etcs_place last = {0};
+    size_t packets = 0;
+    for (size_t i = 0; i < count; last = places[i++]) {
+        etcs_place now = places[i];
+        if (fields[i].var == ETCS_VAR_NID_PACKET && (++packets != now.packet || now.entry || now.inner)) return 0;
+        if (now.packet && (now.packet != packets || (now.inner && !now.entry))) return 0;
+        if (!now.packet && (now.entry || now.inner)) return 0;
+        if (now.entry && now.entry != last.entry && now.entry != last.entry + 1 && now.entry != 1) return 0;
+        if (now.inner && now.inner != last.inner && now.inner != last.inner + 1 && now.inner != 1) return 0;
+    }
+    return 1;
 }
 
 /* For each item: the calls against each other, pieces, and each bit turned. */
@@ -917,6 +983,8 @@ static void items(void)
         EXPECT(etcs_fields(file_kind, front, taken, sent, ETCS_MOST_FIELDS, &a) == ETCS_OK && a.taken == taken);
         size_t fields = a.written;
         if (fields > most) most = fields;
+        EXPECT(etcs_places(file_kind, front, taken, places_found, ETCS_MOST_FIELDS, &a) == ETCS_OK && a.taken == taken && a.written == fields);
+        EXPECT(are_ordered(sent, places_found, fields));
         EXPECT(etcs_bit_of(sent, fields) == 8 * taken);
         EXPECT(etcs_from_fields(file_kind, sent, fields, out, sizeof out, &a) == ETCS_OK && a.written == taken && !memcmp(out, front, taken));
         EXPECT(etcs_to_json(file_kind, front, taken, json_text, sizeof json_text, &a) == ETCS_OK);
@@ -963,6 +1031,7 @@ int main(int argc, char **argv)
         reasons();
         statuses();
         lines_and_meanings();
+        places();
         groups();
         no_pointers();
         short_buffers();

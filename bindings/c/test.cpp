@@ -94,6 +94,10 @@ static void test_item(kind of, const etcs::bytes &item)
     EXPECT(etcs::bit_of(sent->fields, sent->fields.size()) == 8 * item.size());
     EXPECT(etcs::fields(of, front).error().why == status::more);
 
+    auto places = etcs::places(of, longer);
+    EXPECT(places && places->size() == sent->fields.size() && places->front().packet == 0 && places->back().packet == 0);
+    EXPECT(etcs::places(of, front).error().why == status::more && starves([&] { etcs::places(of, item); }));
+
     EXPECT(!etcs::explain(of, item) && !etcs::explain(of, front) && !etcs::explain(of, none));
     EXPECT(!etcs::refusal(of, item) && !etcs::refusal(of, front) && !etcs::fields_before(of, item) && !etcs::fields_before(of, none));
 
@@ -101,10 +105,23 @@ static void test_item(kind of, const etcs::bytes &item)
     EXPECT(starves([&] { etcs::from_json(of, json->text); }) && starves([&] { etcs::from_fields(of, sent->fields); }));
 }
 
+/* Packet 27 of a short telegram: NC_CDDIFF is in the second entry of a list, in the second entry of that one's list. */
+static void test_places()
+{
+    static const etcs::bytes nested = of("A113140C40FFC6C04620028A002003C54000505A2445062FFFFFC0");
+    auto sent = etcs::fields(kind::short_telegram, nested);
+    auto places = etcs::places(kind::short_telegram, nested);
+    EXPECT(sent && places && places->size() == 36);
+    auto at = etcs::find(sent->fields, etcs::variable::NC_CDDIFF);
+    EXPECT(at && (*places)[*at].packet == 1 && (*places)[*at].entry == 2 && (*places)[*at].inner == 2);
+    EXPECT((*places)[9].packet == 0 && (*places)[10].packet == 1 && (*places)[10].entry == 0 && (*places)[33].packet == 2);
+}
+
 static void test_refusals()
 {
     EXPECT(is_refused(etcs::check(kind::radio_message, refused).error()) && is_refused(etcs::show(kind::radio_message, refused).error()));
     EXPECT(is_refused(etcs::to_json(kind::radio_message, refused).error()) && is_refused(etcs::fields(kind::radio_message, refused).error()));
+    EXPECT(is_refused(etcs::places(kind::radio_message, refused).error()));
     EXPECT(etcs::explain(kind::radio_message, refused) == sentence);
     auto before = etcs::fields_before(kind::radio_message, refused);
     EXPECT(before && before->size() == 1 && before->front().var == etcs::variable::NID_MESSAGE && before->front().number == 24);
@@ -239,6 +256,7 @@ int main()
     test_item(kind::short_telegram, short_one);
     test_item(kind::radio_message, kept);
     EXPECT(etcs::show(kind::radio_message, kept)->text.size() > 8192); /* longer than what is tried first */
+    test_places();
     test_refusals();
     test_writing();
     test_lines_and_meanings();

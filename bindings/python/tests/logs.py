@@ -30,11 +30,17 @@ def spelled(digits, chance):
 
 
 def line_of(items, chance):
-    """A line of a log, which may be bad, blank or a comment."""
+    """A line of a log, of up to three runs of digits."""
+    count = chance.choice([1, 1, 1, 2, 3])
+    return chance.choice([" ", " id=", ",", "!", " ; ", " # ", " // ", "/", "  \ufeff"]).join(part_of(items, chance) for _ in range(count))
+
+
+def part_of(items, chance):
+    """A line of a log of one run, which may be bad, blank, a comment or text."""
     data, kind = chance.choice(items)
     what = chance.randrange(20)
     if what == 0:
-        return chance.choice(["", " \t", "# noon", "  # A113", "no digits", "ABC", "0x", ",", "A1", "A1 1", "\x00", "é", "FF" * 30, "1" * 210, "0" * 830])
+        return chance.choice(["", " \t", "# noon", "  # A113", "no digits", "ABC", "0x", ",", "A1", "A1 1", "\x00", "é", "FF" * 30, "1" * 210, "0" * 830, "retry 17", "12:00 17", "idle: 123", "state machine: idle"])
     if what < 4:
         turned = bytearray(data)
         turned[chance.randrange(len(turned))] ^= 1 << chance.randrange(8)
@@ -49,9 +55,9 @@ def line_of(items, chance):
     return spelled(digits, chance)
 
 
-def said(program, text, kinds):
+def said(program, text, kinds, strict):
     """Returns what the program says about each line, by its number, and the groups."""
-    words = [program, "log", "--kind", kinds, "--to", "json", "--groups"]
+    words = [program, "log", "--kind", kinds, "--to", "json", "--groups", *["--strict"] * strict]
     ran = subprocess.run(words, input=text, stdout=subprocess.PIPE, stderr=subprocess.PIPE, check=False)
     found, groups = {}, []
     for line in ran.stdout.decode().split("\n")[:-1]:
@@ -62,7 +68,8 @@ def said(program, text, kinds):
             groups.append(line)
         else:
             tree = json.loads(line)
-            found[tree["line"]] = noted(tree)
+            if tree["cause"] != "another item":
+                found[tree["line"]] = noted(tree)
     return found, groups
 
 
@@ -95,9 +102,10 @@ def main():
     lines = [line_of(items, chance) for _ in range(LINES)] + list(grouped(items, chance))
     text = chance.choice(["\n", "\r\n"]).join(lines).encode() + b"\n\xff\xfe A1 " + bytes.fromhex("80").hex().encode() + b"\n"
     wrong = count = 0
-    for kinds in KINDS:
-        found, groups = said(program, text, kinds)
-        read = list(etcs.read_log(text.split(b"\n")[:-1], kinds))
+    for at, kinds in enumerate(KINDS):
+        strict = at % 2 == 1
+        found, groups = said(program, text, kinds, strict)
+        read = list(etcs.read_log(text.split(b"\n")[:-1], kinds, strict=strict))
         mine = {it.number: (it.front, it.item.to_dict()) if it.item is not None else fault_of(it) for it in read}
         count += len(mine)
         for number in sorted({*found, *mine}):

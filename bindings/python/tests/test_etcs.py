@@ -15,7 +15,7 @@ import unittest
 from unittest import mock
 
 import etcs
-from etcs import _fields, _frame, _groups, _library, _log, _meanings, _parts, _values
+from etcs import _fields, _frame, _groups, _library, _log, _meanings, _parts, _runs, _values
 from etcs._blanks import PACKETS
 from etcs._fields import fields_of
 from etcs._variables import VARIABLES, WIDTHS
@@ -123,7 +123,7 @@ def answer_of(call):
 class Tests(unittest.TestCase):
     def test_doc(self):
         attempted = 0
-        for module in (etcs, _fields, _frame, _groups, _library, _log, _meanings, _parts, _values):
+        for module in (etcs, _fields, _frame, _groups, _library, _log, _meanings, _parts, _runs, _values):
             found = doctest.testmod(module, extraglobs={"encode": etcs.encode})
             self.assertEqual(found.failed, 0)
             attempted += found.attempted
@@ -231,14 +231,15 @@ class Tests(unittest.TestCase):
         linking = example("short_linking.hex")[:27].hex()
         log = [f"12:00:03 {linking}\n", "\n", "# noon\n", f'{{"time":"12:00:03","data":"{linking}"}}\n', f"x{linking}", "A1", example("short_no_room.hex").hex(), RADIO.hex()]
         read = list(etcs.read_log(log, "short"))
-        self.assertEqual([(it.number, it.kind, it.item and it.item["NID_BG"]) for it in read], [(1, "short", 511), (4, "short", 511), (5, None, None), (6, None, None), (7, None, None), (8, None, None)])
+        self.assertEqual([(it.number, it.kind, it.item and it.item["NID_BG"]) for it in read], [(1, "short", 511), (4, "short", 511), (6, None, None), (7, None, None), (8, None, None)])
         self.assertEqual((read[0].front, read[1].front), ("12:00:03", '{"time":"12:00:03","data":"'))
-        notes = ["", "", "no hexadecimal digits at its end", "1 byte, but a short telegram has 27", "refused at bit 72, L_PACKET: L_PACKET 153 doesn't fit into the 160 bits that are left, of which packet 255 needs 8; 152 is the greatest that fits",
+        notes = ["", "", "1 byte, but a short telegram has 27", "refused at bit 72, L_PACKET: L_PACKET 153 doesn't fit into the 160 bits that are left, of which packet 255 needs 8; 152 is the greatest that fits",
                  "other: 13 bytes, as a radio message whose L_MESSAGE says so"]
         self.assertEqual([it.note for it in read], notes)
-        self.assertEqual([type(it.fault) for it in read[2:]], [etcs.BadLine, etcs.BadLine, etcs.Refused, etcs.OtherKind])
+        self.assertEqual([type(it.fault) for it in read[2:]], [etcs.BadLine, etcs.Refused, etcs.OtherKind])
+        self.assertEqual([(it.number, it.note) for it in etcs.read_log(log, "short", strict=True)][2], (5, "no hexadecimal digits at its end"))
         self.assertEqual([(*it[:4], it.note) for it in etcs.read_log(map(str.encode, log), ["short"])], [(*it[:4], it.note) for it in read])
-        self.assertEqual([it.kind for it in etcs.read_log(log, "radio,short")], ["short", "short", None, None, None, "radio"])
+        self.assertEqual([it.kind for it in etcs.read_log(log, "radio,short")], ["short", "short", None, None, "radio"])
         self.assertEqual([(*it[:4], it.note) for it in pickle.loads(pickle.dumps(read))], [(*it[:4], it.note) for it in read])
         for wrong in ("tram", "", [], "short,"):
             with self.assertRaises(etcs.BadArgument):
@@ -247,7 +248,7 @@ class Tests(unittest.TestCase):
     def test_lines(self):
         """A line is text or bytes, of 2**20 bytes at most; numbers are none, though bytes() takes them."""
         for line in ("12:00 A1\r\n", b"12:00 A1\n", bytearray(b"12:00 A1"), memoryview(b"12:00 A1\r\n"), memoryview(b"12:00 A1").cast("c")):
-            self.assertEqual([(it.front, it.note) for it in etcs.read_log([line], "short")], [("12:00", "1 byte, but a short telegram has 27")])
+            self.assertEqual([(it.front, it.note) for it in etcs.read_log([line], "short")], [("12:00", "1 byte (A1), but a short telegram has 27")])
         for wrong in ([65, 49], (65, 49), [], 3, 0, True, None, 1.5, range(3), [b"A1"], memoryview(b"A1A1").cast("I"), object()):
             with self.assertRaisesRegex(TypeError, "^expected bytes, a bytearray or a memoryview of bytes, not "):
                 list(etcs.read_log([wrong], "short"))
@@ -260,7 +261,7 @@ class Tests(unittest.TestCase):
                 etcs.read_log(wrong, "short")
         whole, too_long = "524288 bytes, but a short telegram has 27", "line longer than 1,048,576 characters"
         for line, note in (("A1" * 2**19, whole), ("A1" * 2**19 + "\n", whole), ("A1" * 2**19 + "\r\n", whole), ("A1" * 2**19 + "1", too_long),
-                           ("A1" * 2**19 + "1\r\n", too_long), ("\u00e9" * (2**19 - 1) + "A1", "1 byte, but a short telegram has 27"), ("\u00e9" * 2**19 + "1", too_long)):
+                           ("A1" * 2**19 + "1\r\n", too_long), ("\u00e9" * (2**19 - 1) + "A1", "1 byte (A1), but a short telegram has 27"), ("\u00e9" * 2**19 + "1", too_long)):
             for form in (line, line.encode(), memoryview(line.encode())):
                 self.assertEqual([it.note for it in etcs.read_log([form], "short")], [note])
 

@@ -84,7 +84,7 @@ class Bytes(unittest.TestCase):
                 text = type("Text", (str,), {"encode": lambda self, *how, liar=liar: liar(LINE), "__len__": lambda self: HUGE})
                 if "__buffer__" not in vars(liar):
                     self.assertEqual(etcs.from_json(text("{}")), item)
-                    self.assertEqual(len(list(etcs.read_log([text("A1")], "short"))), 1)
+                    self.assertEqual(len(list(etcs.read_log([text("A1")], "short", strict=True))), 1)
         for wrong in ("{}", None, 5, [123], memoryview(array.array("I", [1]))):
             text = type("Text", (str,), {"encode": lambda self, *how: wrong})
             for call in (etcs.from_json, lambda line: list(etcs.read_log([line], "short"))):

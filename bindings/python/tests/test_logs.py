@@ -17,7 +17,7 @@ from test_etcs import RADIO, SHORT, example
 EXAMPLES = os.path.join(os.path.dirname(os.path.abspath(__file__)), "..", "..", "..", "examples")
 LINKING = example("short_linking.hex")[:27]
 LOG = f"12:00:03 {LINKING.hex()}\r\n\n# noon\n12:00:04 é A1\n12:00:05 {RADIO.hex()}\n"
-READ = [(1, "12:00:03", "short", ""), (4, "12:00:04 é", None, "1 byte, which no item of these kinds has"), (5, "12:00:05", "radio", "")]
+READ = [(1, "12:00:03", "short", ""), (4, "12:00:04 é", None, "1 byte (A1), but a short telegram has 27"), (5, "12:00:05", "radio", "")]
 
 
 def told(log):
@@ -95,7 +95,67 @@ class Logs(unittest.TestCase):
             # with a digit that is no bit, they are hexadecimal
             note = {"short": "105 bytes, but a short telegram has 27", "long": "415 bytes, but a long telegram has 104"}[kind]
             self.assertEqual([it.note for it in etcs.read_log([f"2{digits[1:]}"], kind)], [note])
+            # of another kind, whatever is in front of them
+            other = "long" if kind == "short" else "short"
+            self.assertEqual(told(etcs.read_log([f"12:00:03 {digits}"], other)), [(1, "12:00:03", None, f"other: {count} bits, as a {kind} telegram has")])
 
+    def test_text(self):
+        """Text isn't bad unless `strict` is true: without digits, or with fewer than 20 and a letter before them."""
+        text = ["state machine: idle", f"x{LINKING.hex()}", "retry 17", "idle: 123"]
+        self.assertEqual(told(etcs.read_log(["", *text, "# A1"], "short")), [])
+        missing = "no hexadecimal digits at its end"
+        self.assertEqual(told(etcs.read_log(["", *text, "# A1"], "short", strict=True)), [
+            (2, text[0], None, missing), (3, text[1], None, missing), (4, "retry", None, "1 byte (17), but a short telegram has 27"),
+            (5, "idle:", None, "3 digits, an odd number")])
+        self.assertEqual(told(etcs.read_log(["12:00:03 A113", "12:00:03 A11"], "short")), [
+            (1, "12:00:03", None, "2 bytes (A113), but a short telegram has 27"), (2, "12:00:03", None, "3 digits, an odd number")])
+        self.assertEqual([it.note for it in etcs.read_log([f"retry {'0' * 20}"], "short")], ["10 bytes (00000000..), but a short telegram has 27"])
+
+    def test_runs(self):
+        """An item may be in any run of 20 digits or more of a line; the last one counts."""
+        item, ident = LINKING.hex(), "4bf92f3577b34da6a3ce929d0e0e4736"
+        for line, front in (
+            (f"12:00:03 {item} {ident}", "12:00:03"), (f"12:00:03 id={ident} {item}", f"12:00:03 id={ident}"),
+            (f"12:00:03 {item} ; {ident} x {ident}", "12:00:03"), (f"12:00 # 7 {item} x {ident}", "12:00 # 7"), (f"{ident}/{item}!{ident}1", f"{ident}/"),
+            # more bytes than the telegram has, in the last run and in one before it
+            ("len=27 " + LINKING.hex(" "), "len=27"), (f"len=27 {LINKING.hex(' ')} x {ident}", "len=27"), (f"12:00:03 0102{item}", "12:00:03 0102"),
+            (f"12:00:03 0102{item} x {ident}", "12:00:03 0102"), ("01 " + " ".join(f"0x{it:02X}" for it in LINKING), "01"),
+            # another one before it isn't told
+            (f"{RADIO.hex()} {item}", RADIO.hex()),
+        ):
+            for end in "", "\r\n":
+                self.assertEqual([(it.front, it.kind, it.item) for it in etcs.read_log([line + end], "long,short")], [(front, "short", etcs.decode(LINKING, "short"))], line)
+        # too few digits are no run, and after them none is searched for
+        self.assertEqual([it.note for it in etcs.read_log([f"12:00 {item}1 {ident}"], "short")], ["16 bytes (4BF92F35..), but a short telegram has 27"])
+        # the first run from the end that has a length of the kinds says why it is bad
+        refused = f"20{item[2:]}"
+        read = list(etcs.read_log([f"12:00 {item[:-2]} {refused} {ident}", f"{RADIO.hex()} {ident}"], "short"))
+        self.assertEqual([(it.front, type(it.fault)) for it in read], [(f"12:00 {item[:-2]} {refused}", etcs.Refused), (RADIO.hex(), etcs.OtherKind)])
+        self.assertEqual(read[1].note, f"other: 13 bytes ({RADIO.hex()[:8].upper()}..), as a radio message whose L_MESSAGE says so")
+
+    def test_needs(self):
+        """What another number of bytes needs: bytes that begin as a telegram does are one that was cut."""
+        for count, begin, kinds, words in (
+            (26, "A1", "short", "26 bytes, but a short telegram has 27"), (26, "A0", "long,short,radio", "26 bytes, but a short telegram has 27"),
+            (65, "A1", "long,short", "65 bytes, but a short telegram has 27"), (66, "A1", "long,short", "66 bytes, but a long telegram has 104"),
+            (26, "A1", "long,train", "26 bytes, but a long telegram has 104"), (26, "A2", "long,short", "26 bytes, which no item of these kinds has"),
+            (26, "A2", "short", "26 bytes, but a short telegram has 27"), (26, "18", "short,radio", "26 bytes, which no item of these kinds has: L_MESSAGE is 0"),
+            (26, "01", "short,radio", "26 bytes, which no item of these kinds has"), (26, "01", "radio", "26 bytes, but L_MESSAGE is 0"),
+            (2, "18", "radio,train", "2 bytes, but a radio message has at least 3"),
+        ):
+            self.assertEqual([it.note for it in etcs.read_log([begin + "00" * (count - 1)], kinds)], [words])
+
+    def test_numbers(self):
+        """A message with a number that SUBSET-026 doesn't have is no item beside telegrams."""
+        unknown = bytes([1]) + RADIO[1:]
+        self.assertEqual([it.kind for it in etcs.read_log([unknown.hex()], "radio")], ["radio"])
+        self.assertEqual(told(etcs.read_log([unknown.hex()], "short,radio")), [(1, "", None, "13 bytes, which no item of these kinds has")])
+
+    def test_many_runs(self):
+        """A line of many runs is read in time that grows with its length."""
+        for joint in " ", "!":
+            line = joint.join(["A113140C40FFC1402712"] * 20000)
+            self.assertEqual([it.note for it in etcs.read_log([line + joint + LINKING.hex() + joint + line], "long")], ["other: 27 bytes (A113140C..), as a short telegram has"])
 
     def test_threads(self):
         """Threads that read the same item get the same members, whichever they read first."""

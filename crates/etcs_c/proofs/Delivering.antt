@@ -1,4 +1,4 @@
--- What is said where an encoding is delivered.
+-- A call that writes an encoding keeps its clause: where it was made it is written, else memory ran out.
 use Rattle.std.proofs.Common.{ℕ, List, Result, Ok, Err, inl, inr}
 use Rattle.std.specs.Prelude.{◌⊎◌, IfOk, MatchResult}
 use Rattle.etcs_text.specs.declared.entry.Kind.{Kind}

@@ -7,8 +7,8 @@ use Rattle.etcs_text.specs.Entries.{EntryReads, EntryValue}
 use Rattle.etcs_text.specs.Readers.{Feeds, Progress, finished}
 
 -- the item that was fed, which is this one
-pub first_whole : (kind : Kind) (b : List Bool) (k : ℕ) (at : Progress) (v : EntryValue) → Feeds (EntryReads kind) [] b (Ok (Done k)) at → at ≡ finished v → IsOutcome (EntryReads kind) b (done v (8 * k))
-first_whole kind b k at v (e, at_e, le, o) is =
+pub first_whole : (kind : Kind) (b : List Bool) (k : ℕ) (at : Progress) (v : EntryValue) → Feeds kind [] b (Ok (Done k)) at → at ≡ finished v → IsOutcome (EntryReads kind) b (done v (8 * k))
+first_whole kind b k at v (e, at_e, any, le, o) is =
     let same : finished v ≡ finished e = sym is ∙ at_e in
     let one : e ≡ v = cc in
     let none : 0 + 8 * k ≡ 8 * k = omega arith in

@@ -6,7 +6,6 @@ pub mod Packing
 pub mod Packs
 pub mod Readings
 pub mod Refusals
-pub mod Rooms
 pub mod Saying
 pub mod Whole
 pub mod Equality

@@ -1,4 +1,4 @@
--- What is said of bits, said otherwise.
+-- A clause about bits, from one with other parts.
 use Rattle.std.proofs.Common.{◌≡◌, ℕ, ◌*◌, Bool, List, refl, sym, ap, ◌∙◌, inl, inr}
 use Rattle.etcs_vars.specs.declared.var.Var.{Var}
 use Rattle.etcs_vars.specs.Reading.{Reading, IsOutcome, done, refused, more}

@@ -1,6 +1,7 @@
 pub mod Answers
 pub mod Built
 pub mod Explained
+pub mod FieldPlaces
 pub mod Groups
 pub mod ItemFields
 pub mod Lines

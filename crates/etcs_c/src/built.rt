@@ -1,8 +1,9 @@
 //! Items built from their fields.
 
-ghost use Rattle.std.specs.Prelude.{◌≡◌, ◌+◌, ◌-◌, ◌≤◌, ◌<◌, ◌⊎◌, All, min, length, take};
+ghost use Rattle.std.specs.Prelude.{◌≡◌, ◌≤◌, ◌<◌, ◌⊎◌, All, length, take};
 ghost use Rattle.std.specs.Bool.{Decides};
-ghost use Rattle.etcs_bits.specs.Bits.{bits, num, replaced};
+ghost use Rattle.etcs_bits.specs.Bits.{bits, num};
+ghost use Rattle.etcs_vars.specs.WordSinks.{and_bits};
 ghost use Rattle.etcs_c.specs.Built.{IsBuilt};
 ghost use Rattle.etcs_c.specs.Fields.{fields_of};
 ghost use Rattle.etcs_c.specs.ItemFields.{AreFit, IsFit, packed, whole_bytes};
@@ -11,8 +12,8 @@ ghost use Rattle.etcs_c.specs.Writes.{Starves, Writes};
 use crate::answer::{BAD_FIELDS, EtcsAnswer, NO_MEMORY, WHOLE, write_out};
 use crate::fields::{EtcsField, fields_in};
 use crate::found::variables_of;
-use etcs_bits::inner::write;
 use etcs_text::{Account, Kind};
+use etcs_vars::WordSink;
 use std::alloc::{AllocError, Global};
 
 /// How many bytes the longest item has.
@@ -37,39 +38,34 @@ fn are_fit(fields: &[EtcsField]) -> bool
     fields.iter().all(|field| is_fit(field))
 }
 
-/// Writes the number of a field at the bit `place`, or only its first bits if there is no room for more, and returns the
-/// place after them.
-#[tactic(auto, using(crate::proofs::Rooms::bits_of_bytes))]
-fn put(field: &EtcsField, place: usize, out: &mut [u8]) -> usize
-    requires fit { IsFit field.now }
-    requires room { length out.old ≡ 1023 }
-    requires inside { place ≤ 8184 }
-    ensures room { length out.new ≡ length out.old }
-    ensures beyond { result ≡ min (place + field.now.width) 8184 }
-    ensures bits { bits out.new ≡ replaced place (take (8184 - place) (num field.now.width field.now.number)) (bits out.old) }
+/// Puts the number of a field after the bits before.
+fn put(field: &EtcsField, sink: &mut WordSink<'_>)
+    requires { IsFit field.now }
+    ensures { sink.new ≡ and_bits sink.old (num field.now.width field.now.number) }
 {
-    let width = field.width as usize;
-    let count = width.min(8 * LONGEST - place);
-    if count == 0 {
-        return place;
+    if field.width > 0 {
+        sink.put(field.width as usize, field.number);
     }
-    write(out, place, count, field.number >> (width - count));
-    place + count
 }
 
-/// Writes the numbers of fields one after another, as far as there is room, and returns how many whole bytes they are.
+/// Writes the numbers of fields one after another, as far as an item has bits, and returns how many whole bytes they are.
 fn pack(fields: &[EtcsField], out: &mut [u8]) -> usize
     requires fit { AreFit fields.now }
-    requires room { length out.old ≡ 1023 }
-    ensures room { length out.new ≡ length out.old }
+    requires room { length out.old ≡ 1031 }
     ensures inside { result ≤ length out.new }
     ensures bits { bits (take result out.new) ≡ take 8184 (whole_bytes (packed fields.now)) }
 {
-    let mut place = 0;
+    let mut sink = WordSink::new(out);
+    let mut bits = 0;
     for field in fields {
-        place = put(field, place, out);
+        if bits >= 8 * LONGEST {
+            break;
+        }
+        put(field, &mut sink);
+        bits += field.width as usize;
     }
-    place / 8
+    sink.finish();
+    bits.min(8 * LONGEST) / 8
 }
 
 /// For callers: each byte is below 256.
@@ -115,7 +111,7 @@ pub(crate) fn from_fields(
     if !are_fit(fields) {
         return BAD_FIELDS;
     }
-    let mut room = [0; LONGEST];
+    let mut room = [0; LONGEST + 8];
     let count = pack(fields, &mut room);
     let bytes = &room[..count];
     are_bytes(bytes);

@@ -1,10 +1,10 @@
 //! Each status of each call, over items and fields that are worked out by hand from the tables.
 
 use crate::{
-    EtcsAnswer, EtcsField, EtcsGroup, EtcsReason, EtcsTelegram, etcs_assemble, etcs_check,
-    etcs_explain, etcs_explain_json, etcs_fields, etcs_fields_before, etcs_from_fields,
-    etcs_from_json, etcs_json_reason, etcs_line_bytes, etcs_line_front, etcs_meaning, etcs_refusal,
-    etcs_show, etcs_to_json, etcs_version,
+    EtcsAnswer, EtcsField, EtcsGroup, EtcsPlace, EtcsReason, EtcsTelegram, etcs_assemble,
+    etcs_check, etcs_explain, etcs_explain_json, etcs_fields, etcs_fields_before, etcs_from_fields,
+    etcs_from_json, etcs_json_reason, etcs_line_bytes, etcs_line_front, etcs_meaning, etcs_places,
+    etcs_refusal, etcs_show, etcs_to_json, etcs_version,
 };
 use etcs_fakes::starve;
 use std::alloc::{AllocError, Global};
@@ -40,6 +40,32 @@ const SPARE: &[u8] =
 /// What isn't promised isn't compared.
 const ANY: usize = usize::MAX;
 
+/// A short telegram with packet 27, by bits: a first speed with N_ITER 0; N_ITER 2; a speed with N_ITER 0; a speed with N_ITER
+/// 2, for categories of Q_DIFF 1 and 0. After packet 255 are 12 bits of FILL and 6 of PAD.
+const NESTED: &[u8] = &[
+    0xA1, 0x13, 0x14, 0x0C, 0x40, 0xFF, 0xC6, 0xC0, 0x46, 0x20, 0x02, 0x8A, 0x00, 0x20, 0x03, 0xC5,
+    0x40, 0x00, 0x50, 0x5A, 0x24, 0x45, 0x06, 0x2F, 0xFF, 0xFF, 0xC0,
+];
+
+/// How many of its fields one after another are in a packet, an entry, and an entry inside that.
+static NESTED_PLACES: &[(usize, usize, usize, usize)] = &[
+    (10, 0, 0, 0),
+    (9, 1, 0, 0),
+    (4, 1, 1, 0),
+    (4, 1, 2, 0),
+    (3, 1, 2, 1),
+    (3, 1, 2, 2),
+    (1, 2, 0, 0),
+    (2, 0, 0, 0),
+];
+
+/// Outside of packets.
+const OUTSIDE: EtcsPlace = EtcsPlace {
+    packet: 0,
+    entry: 0,
+    inner: 0,
+};
+
 /// The variable of the refused bits, and of no bit.
 const LENGTH: &[u8] = b"L_MESSAGE\0";
 
@@ -65,6 +91,7 @@ enum Call {
     Show,
     ToJson,
     Fields,
+    Places,
     Explain,
     FieldsBefore,
 }
@@ -94,6 +121,11 @@ static OF_BYTES: &[OfBytes] = &[
     (Call::Fields, 3, FRONT, 6, (1, ANY, ANY, ANY, NONE)),
     (Call::Fields, 3, ELEVEN, 6, (2, ANY, ANY, 17, LENGTH)),
     (Call::Fields, 9, ITEM, 6, (5, ANY, ANY, ANY, NONE)),
+    (Call::Places, 3, ITEM, 6, (0, 10, 6, ANY, NONE)),
+    (Call::Places, 3, ITEM, 5, (3, 10, 6, ANY, NONE)),
+    (Call::Places, 3, FRONT, 6, (1, ANY, ANY, ANY, NONE)),
+    (Call::Places, 3, ELEVEN, 6, (2, ANY, ANY, 17, LENGTH)),
+    (Call::Places, 9, ITEM, 6, (5, ANY, ANY, ANY, NONE)),
     (Call::Explain, 3, ITEM, 45, (0, 10, 0, ANY, NONE)),
     (Call::Explain, 3, FRONT, 45, (1, ANY, 0, ANY, NONE)),
     (Call::Explain, 3, ELEVEN, 45, (2, ANY, 45, 17, LENGTH)),
@@ -357,7 +389,7 @@ fn is_answered(status: u32, answer: &EtcsAnswer, wanted: &Wanted) -> bool {
 /// Asks a call over bytes.
 fn ask_bytes(alloc: Global, case: &OfBytes, answer: &mut EtcsAnswer) -> u32 {
     let (call, kind, bytes, room, _) = *case;
-    let (mut text, mut fields) = ([0; 120], before_zeros(&[]));
+    let (mut text, mut fields, mut places) = ([0; 120], before_zeros(&[]), [OUTSIDE; 40]);
     let out = &mut text[..room.min(120)];
     let own = &mut fields[..room.min(130)];
     match call {
@@ -365,9 +397,38 @@ fn ask_bytes(alloc: Global, case: &OfBytes, answer: &mut EtcsAnswer) -> u32 {
         Call::Show => etcs_show(alloc, kind, 1, bytes, out, answer),
         Call::ToJson => etcs_to_json(alloc, kind, bytes, out, answer),
         Call::Fields => etcs_fields(alloc, kind, bytes, own, answer),
+        Call::Places => etcs_places(alloc, kind, bytes, &mut places[..room.min(40)], answer),
         Call::Explain => etcs_explain(alloc, kind, bytes, out, answer),
         Call::FieldsBefore => etcs_fields_before(alloc, kind, bytes, own, answer),
     }
+}
+
+/// Whether all of these are one place.
+fn are_at(places: &[EtcsPlace], packet: usize, entry: usize, inner: usize) -> bool {
+    for place in places {
+        if place.packet != packet || place.entry != entry || place.inner != inner {
+            return false;
+        }
+    }
+    true
+}
+
+/// Asks for the places of the fields of a telegram with nested groups, and returns whether they are those.
+fn are_nested(alloc: Global) -> bool {
+    let mut places = [OUTSIDE; 40];
+    let answer = &mut unanswered();
+    if etcs_places(alloc, 2, NESTED, &mut places, answer) != 0 {
+        return false;
+    }
+    let mut left = places.as_slice();
+    for (count, packet, entry, inner) in NESTED_PLACES {
+        let (these, rest) = left.split_at(left.len().min(*count));
+        if !are_at(these, *packet, *entry, *inner) {
+            return false;
+        }
+        left = rest;
+    }
+    answer.written == 36 && left.len() == 4
 }
 
 /// Asks for a reason, and returns its numbers.
@@ -609,6 +670,7 @@ fn each_status(rt: HostRuntime) -> Result<(), Fail> {
     assert_eq!(rt; wrong_of_meanings(alloc, OF_MEANINGS), None);
     assert_eq!(rt; wrong_of_groups(alloc, OF_GROUPS), None);
     assert_eq!(rt; wrong_of_version(OF_VERSION), None);
+    assert!(rt; are_nested(alloc));
     Ok(())
 }
 
@@ -632,6 +694,7 @@ static STARVED_BYTES: &[OfBytes] = &[
     (Call::Show, 3, ITEM, 110, STARVED),
     (Call::ToJson, 3, ITEM, 120, STARVED),
     (Call::Fields, 3, ITEM, 6, STARVED),
+    (Call::Places, 3, ITEM, 6, STARVED),
     (Call::Explain, 3, ELEVEN, 45, STARVED),
     (Call::FieldsBefore, 3, ELEVEN, 1, STARVED),
 ];

@@ -23,6 +23,7 @@ mod json;
 mod kind;
 mod lines;
 mod meanings;
+mod places;
 mod reason;
 mod texts;
 mod vars;
@@ -34,6 +35,7 @@ ghost use Rattle.etcs_text.specs.Pairs.{PairsRead};
 ghost use Rattle.etcs_c.specs.Answers.{OfKind, SaysBits, SaysLine, SaysText};
 ghost use Rattle.etcs_c.specs.Built.{IsBuilt};
 ghost use Rattle.etcs_c.specs.Explained.{SaysBefore, SaysLineWhy, SaysReason, SaysWhy};
+ghost use Rattle.etcs_c.specs.FieldPlaces.{SaysPlaces};
 ghost use Rattle.etcs_c.specs.Groups.{SaysGroup};
 ghost use Rattle.etcs_c.specs.ItemFields.{SaysFields};
 ghost use Rattle.etcs_c.specs.Lines.{SaysBytes};
@@ -55,6 +57,8 @@ use json::from_json;
 use kind::kind_of;
 use lines::write_bytes;
 use meanings::{Asked, print_meaning};
+pub use places::EtcsPlace;
+use places::write_places;
 pub use reason::EtcsReason;
 use reason::write_reason;
 use std::alloc::Global;
@@ -149,6 +153,24 @@ pub extern "C" fn etcs_fields(
 {
     match kind_of(kind) {
         Some(kind) => write_fields(alloc, kind, bytes, out, answer),
+        None => UNKNOWN_KIND,
+    }
+}
+
+/// As `etcs_fields`, but what is written is the place of each of these fields, in their order: which packet it is of, and which
+/// entry of each repeated group it is in.
+#[unsafe(no_mangle)]
+pub extern "C" fn etcs_places(
+    alloc: Global,
+    kind: u32,
+    bytes: &[u8],
+    out: &mut [EtcsPlace],
+    answer: &mut EtcsAnswer,
+) -> u32
+    ensures { OfKind kind (λ k. SaysPlaces k (bits bytes.now) out.old out.new result answer.new) (out.new ≡ out.old) result }
+{
+    match kind_of(kind) {
+        Some(kind) => write_places(alloc, kind, bytes, out, answer),
         None => UNKNOWN_KIND,
     }
 }

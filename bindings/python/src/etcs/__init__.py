@@ -204,8 +204,8 @@ def variables(data: Union[Data, Item], kind: Optional[Kind] = None) -> List[Vari
         73 Q_SRSTOP 1 go if in SR mode
     """
     if isinstance(data, (Telegram, Message)):
-        return explained(fields(encode(data), data.kind), data.kind)
-    return explained(fields(data, kind or ""), kind or "")  # type: ignore[arg-type]
+        return explained(encode(data), data.kind)
+    return explained(bytes_of(data), kind or "")
 
 
 def from_fields(sent: Iterable[Field], kind: Kind) -> bytes:

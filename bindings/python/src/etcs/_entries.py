@@ -81,58 +81,46 @@ def _row(nid: int) -> Tuple[Any, ...]:
 
 
 class _Walk:
-    """Goes along the variables of a packet by its row, and notes the entry of each."""
+    """Goes along the variables of a packet by its row, and puts each into its entry."""
 
     def __init__(self, pairs: Sequence[Tuple[str, int]]) -> None:
         self.pairs, self.at = pairs, 0
-        #: for each variable the index in each group around it
-        self.places: List[Tuple[int, ...]] = []
         self._numbers: Dict[str, Any] = {}
 
-    def row(self, items: Iterable[Any], entry: Entry, place: Tuple[int, ...]) -> None:
+    def row(self, items: Iterable[Any], entry: Entry) -> None:
         """Takes the variables of the items, as those of an entry."""
         for item in items:
             if isinstance(item, str):
-                self._take(item, entry, place)
+                self._take(item, entry)
             elif isinstance(item, _Many):
-                self._repeat(item, entry, place)
+                self._repeat(item, entry)
             elif _TESTS[item.test](self._numbers[item.var]):
-                self.row(item.items, entry, place)
+                self.row(item.items, entry)
 
-    def _take(self, name: str, entry: Entry, place: Tuple[int, ...]) -> None:
+    def _take(self, name: str, entry: Entry) -> None:
         pair = self.pairs[self.at] if self.at < len(self.pairs) else None
         if not isinstance(pair, (tuple, list)) or len(pair) != 2 or pair[0] != name or type(pair[1]) is not int:
             raise NotAnItem(f".fields[{self.at}]: expected {name} and its number, not {'the end' if pair is None else shown(pair)}")
         entry.fields.append((name, pair[1]))
         self._numbers[name] = pair[1]
-        self.places.append(place)
         self.at += 1
 
-    def _repeat(self, item: _Many, entry: Entry, place: Tuple[int, ...]) -> None:
+    def _repeat(self, item: _Many, entry: Entry) -> None:
         group: List[Entry] = []
         entry.groups.append(group)
-        for index in range(self.pairs[self.at - 1][1]):
+        for _ in range(self.pairs[self.at - 1][1]):
             inner = Entry()
             inner._scale = self._numbers.get("Q_SCALE")
             group.append(inner)
-            self.row(item.items, inner, (*place, index))
-
-
-def _walked(nid: int, pairs: Sequence[Tuple[str, int]]) -> Tuple[Entry, _Walk]:
-    walk, whole = _Walk(pairs), Entry()
-    walk.row(_row(nid), whole, ())
-    if walk.at < len(pairs):
-        raise NotAnItem(f".fields[{walk.at}]: {shown(pairs[walk.at])} is after the row's end")
-    return whole, walk
+            self.row(item.items, inner)
 
 
 def entry_of(nid: Any, to_train: bool, pairs: Variables) -> Entry:
     """The variables of a packet as a tree of entries. Raises NotAnItem if they aren't those of its row."""
-    if to_train and type(nid) is int and nid in ROWS:
-        return _walked(nid, pairs)[0]
-    return Entry(pairs)
-
-
-def places_of(nid: int, pairs: Sequence[Tuple[str, int]]) -> List[Tuple[int, ...]]:
-    """For each variable of a packet with groups that are repeated, the index in each group around it."""
-    return _walked(nid, pairs)[1].places
+    if not (to_train and type(nid) is int and nid in ROWS):
+        return Entry(pairs)
+    walk, whole = _Walk(pairs), Entry()
+    walk.row(_row(nid), whole)
+    if walk.at < len(pairs):
+        raise NotAnItem(f".fields[{walk.at}]: {shown(pairs[walk.at])} is after the row's end")
+    return whole

@@ -2,12 +2,9 @@
 
 from __future__ import annotations
 
-from typing import Dict, List, NamedTuple, Optional, Tuple
+from typing import List, NamedTuple, Optional, Tuple
 
 from . import _library
-from ._entries import places_of
-from ._library import Field
-from ._rows import ROWS
 
 
 class Variable(NamedTuple):
@@ -27,36 +24,19 @@ class Variable(NamedTuple):
     entry: Tuple[int, ...] = ()
 
 
-def explained(sent: List[Field], kind: str) -> List[Variable]:
-    """The fields of an item of the kind, with what they mean."""
+def explained(data: bytes, kind: str) -> List[Variable]:
+    """The fields of the item at the front, with their places and what they mean."""
+    sent = _library.placed(_library.fields(data, kind)[0])
     found: List[Variable] = []
-    packet: Optional[int] = None
     nid: Optional[int] = None
     scale: Optional[int] = None
-    place = -1
-    entries = _entries(sent, kind)
-    for at, (name, number, bit, width, var) in enumerate(sent):
+    for (name, number, bit, width, var), (packet, entry, inner) in zip(sent, _library.places(data, kind)):
         if name == "NID_PACKET":
-            place, scale = place + 1, None
-            packet, nid = (None, None) if number == 255 and kind in ("short", "long") else (place, number)
-        elif name == "PADDING":
-            packet = nid = None
+            nid, scale = number, None
         elif name == "Q_SCALE":
             scale = number
         meaning = _library.meaning(kind, var, number, scale)
-        found.append(Variable(name, number, meaning, bit, width, packet, nid, entries.get(at, ())))
-    return found
-
-
-def _entries(sent: List[Field], kind: str) -> Dict[int, Tuple[int, ...]]:
-    """The entries of the fields of packets with groups that are repeated, by their places."""
-    found: Dict[int, Tuple[int, ...]] = {}
-    if kind == "train":
-        return found
-    heads = [at for at, field in enumerate(sent) if field.name == "NID_PACKET"]
-    for head, end in zip(heads, [*heads[1:], len(sent)]):
-        begin = head + 3  # after Q_DIR and L_PACKET
-        if sent[head].number in ROWS and begin < end and sent[begin].name != "OTHER_DATA":
-            row = [field[:2] for field in sent[begin:end] if field.name != "PADDING"]
-            found.update(zip(range(begin, end), places_of(sent[head].number, row)))
+        is_inside = packet > 0 and (nid != 255 or kind not in ("short", "long"))  # packet 255 closes a telegram
+        indices = tuple(index - 1 for index in (entry, inner) if index)
+        found.append(Variable(name, number, meaning, bit, width, packet - 1 if is_inside else None, nid if is_inside else None, indices))
     return found

@@ -48,7 +48,7 @@ def _rows(log: Iterable[Any]) -> Iterator[Tuple[Any, ...]]:
             if item is None:
                 continue
         _library.expect(item, "lines of read_log, or items", Telegram, Message)
-        for it in explained(_library.placed(_library.fields(encode(item), item.kind)[0]), item.kind):
+        for it in explained(encode(item), item.kind):
             if it.name not in _BITS:
                 entry = ".".join(map(str, it.entry))
                 yield number, front, item.kind, it.packet, it.nid, entry, it.name, it.number, it.meaning

@@ -294,6 +294,7 @@ for _name, _types in {
     "etcs_to_json": [_number, _bytes, _size, _out, _size, _answer],
     "etcs_from_json": [_number, _bytes, _size, _out, _size, _answer],
     "etcs_fields": [_number, _bytes, _size, _out, _size, _answer],
+    "etcs_places": [_number, _bytes, _size, _out, _size, _answer],
     "etcs_from_fields": [_number, _bytes, _size, _out, _size, _answer],
     "etcs_explain": [_number, _bytes, _size, _out, _size, _answer],
     "etcs_refusal": [_number, _bytes, _size, ctypes.POINTER(_Reason), _answer],
@@ -475,6 +476,16 @@ def if_fields(data: Data, kind: str) -> bytes:
     if status == _NO_MEMORY:
         _raise(status, answer, kind, data)
     return sent if status == _OK and answer.taken == len(data) else b""
+
+
+def places(data: Data, kind: str) -> List[Tuple[int, int, int]]:
+    """The places of the fields of the item at the front: packet, entry, and entry inside that, each from 1, and 0 if in none."""
+    data = bytes_of(data)
+    status, answer, found = _call(_lib.etcs_places, kind_number(kind), data, len(data), wide=24)
+    if status:
+        _raise(status, answer, kind, data)
+    numbers = memoryview(found).cast("Q").tolist()
+    return list(zip(numbers[::3], numbers[1::3], numbers[2::3]))
 
 
 def columns(sent: bytes) -> Tuple[List[int], List[int], List[int]]:

@@ -1,31 +1,51 @@
-use Rattle.std.proofs.Common.{◌≡◌, ◌+◌, ◌/◌, List, [], ◌∷◌, ◌++◌, take, get_or, sym, subst, arith}
-use Rattle.std.proofs.lemmas.List.{take_all, take_more}
-use Rattle.etcs_bits.specs.Bits.{bits}
+use Rattle.std.proofs.Common.{◌≡◌, ◌+◌, ◌≤◌, [], ◌++◌, ◌⊎◌, inl, inr, Bool, List, length, take, drop, get_or, sym, ap, ◌∙◌, arith, rules, length-append}
+use Rattle.std.proofs.lemmas.Grind.{flat_map-append}
+use Rattle.std.proofs.lemmas.List.{drop_all, take_more, take-append-drop}
+use Rattle.etcs_bits.specs.Bits.{num}
+use Rattle.etcs_bits.proofs.Numbers.{length-num}
+use Rattle.etcs_vars.specs.declared.word_sink.WordSink.{WordSink}
+use Rattle.etcs_vars.specs.WordSinks.{and_bits}
+use Rattle.etcs_vars.specs.laws.WordSinks.{and_both}
 use Rattle.etcs_c.specs.declared.fields.EtcsField.{EtcsField}
-use Rattle.etcs_c.specs.ItemFields.{packed, whole_bytes}
-use Rattle.etcs_c.proofs.Packs.{Packs, packs_bytes, packs_inside, packs_more}
+use Rattle.etcs_c.specs.ItemFields.{packed}
+use Rattle.etcs_c.proofs.Packing.{packed_more}
+use Rattle.etcs_c.proofs.Packs.{packs}
 use Rattle.etcs_c.proofs.built.pack.Goals as goal
-
-pub put-place-requires-clause-inside : goal.put-place-requires-clause-inside
-put-place-requires-clause-inside c = packs_inside (take c.loop-field.field-index c.args.fields.now) c.args.out.now c.loop-field.out c.loop-field.place c.loop-field.invariant
+use Rattle.etcs_c.proofs.built.pack.Goals.{else-loop-field-test, then-loop-field-test+then-bits}
 
 pub loop-field-preserved : goal.loop-field-preserved
 loop-field-preserved c =
     let fields = c.args.fields.now in
     let i = c.loop-field.field-index in
-    let f : EtcsField = get_or fields i (record { number = 0; var = 0; width = 0 }) in
-    let more : take (i + 1) fields ≡ take i fields ++ f ∷ [] = take_more fields i (record { number = 0; var = 0; width = 0 }) c.loop-field-test.true in
-    subst (λ (fs : List EtcsField). Packs fs c.args.out.now c.put-place.new.out c.put-place.result) (sym more)
-    (packs_more (take i fields) f c.args.out.now c.loop-field.out c.put-place.new.out c.loop-field.place c.put-place.result c.loop-field.invariant c.requires.room c.put-place.ensures.beyond c.put-place.ensures.room c.put-place.ensures.bits)
-
-pub returns-clause-inside : goal.returns-clause-inside
-returns-clause-inside c =
-    let inside = packs_inside (take c.loop-field.field-index c.args.fields.now) c.args.out.now c.loop-field.out c.loop-field.place c.loop-field.invariant in
-    omega (arith, inside, c.loop-field.invariant.same, c.requires.room)
+    let none : EtcsField = record { number = 0; var = 0; width = 0 } in
+    let f : EtcsField = get_or fields i none in
+    let before = packed (take i fields) in
+    let more : packed (take (i + 1) fields) ≡ before ++ num f.width f.number = ap packed (take_more fields i none c.loop-field-test.true) ∙ packed_more (take i fields) f in
+    let long : length (packed (take (i + 1) fields)) ≡ length before + f.width = ap (λ (b : List Bool). length b) more ∙ length-append before (num f.width f.number) ∙ ap (λ k. length before + k) (length-num f.width f.number) in
+    let narrow = c.requires.fit i none c.loop-field-test.true in
+    let inv = c.loop-field.invariant in
+    record {
+      put =
+          c.put.ensures
+          ∙ ap (λ (s : WordSink). and_bits s (num f.width f.number)) inv.put
+          ∙ and_both c.new-sink.result before (num f.width f.number)
+          ∙ ap (λ (b : List Bool). and_bits c.new-sink.result b) (sym more);
+      counted = omega (arith, long, inv.counted);
+      few = omega (arith, narrow.0, c.if-bits.false);
+    }
 
 pub returns-clause-bits : goal.returns-clause-bits
 returns-clause-bits c =
     let fields = c.args.fields.now in
-    let all : take c.loop-field.field-index fields ≡ fields = take_all c.loop-field.field-index fields (omega (arith, c.loop-field-test.false)) in
-    subst (λ (fs : List EtcsField). bits (take (c.loop-field.place / 8) c.loop-field.out) ≡ take 8184 (whole_bytes (packed fs))) all
-    (packs_bytes (take c.loop-field.field-index fields) c.args.out.now c.loop-field.out c.loop-field.place c.loop-field.invariant c.requires.room)
+    let i = c.loop-field.field-index in
+    let e = c.new-sink.ensures in
+    let inv = c.loop-field.invariant in
+    let size : length c.new-sink.result.bytes.now ≡ length c.args.out.now = ap (λ b. length b) e.bytes in
+    let all : packed fields ≡ packed (take i fields) ++ packed (drop i fields) =
+    ap packed (sym (take-append-drop i fields)) ∙ flat_map-append (λ (f : EtcsField). num f.width f.number) (take i fields) (drop i fields) in
+    let ends : (packed (drop i fields) ≡ []) ⊎ (8184 ≤ length (packed (take i fields))) = elim c.loop-field-test.branch [
+      | else-loop-field-test w ↦ inl (ap packed (drop_all i fields (omega (arith, w.loop-field-test.false))))
+      | then-loop-field-test+then-bits w ↦ inr (omega (arith, w.if-bits.true, inv.counted))
+    ] in
+    let p = packs c.new-sink.result c.loop-field.sink (packed fields) (packed (take i fields)) (packed (drop i fields)) c.min.result _ e.at e.word (omega (arith, inv.counted, inv.few, size, c.requires.room)) inv.put c.finish.ensures all ends (omega (arith, inv.counted, c.min.ensures)) in
+    search (rules, p.name, p.bits_are, e.lent)

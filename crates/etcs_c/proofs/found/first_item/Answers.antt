@@ -13,7 +13,7 @@ returns-in-Ok c =
 pub unreachable-requires : goal.unreachable-requires
 unreachable-requires c =
     let f = c.feed.ensures.answer [] c.requires in
-    let (e, at, within, outcome) = rw (c.in-Ok-Done.is, c.in-Ok-Done.field-0-is) at f in
+    let (e, at, any, within, outcome) = rw (c.in-Ok-Done.is, c.in-Ok-Done.field-0-is) at f in
     c.in-Err.ensures.none e at
 
 pub returns-in-Ok-More : goal.returns-in-Ok-More
@@ -26,7 +26,7 @@ returns-in-Err-Refused c =
     let w = c.in-Err-Refused in
     let said = c.refuse.ensures in
     let f = c.feed.ensures.answer [] c.requires in
-    inl (refused w.bit w.var, rw (w.is, w.field-0-is) at f, (said.bit, said.var, said.status))
+    inl (refused w.bit w.var, (rw (w.is, w.field-0-is) at f).1, (said.bit, said.var, said.status))
 
 pub unreachable-requires-in-Err-Ended : goal.unreachable-requires-in-Err-Ended
 unreachable-requires-in-Err-Ended c =

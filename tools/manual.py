@@ -17,11 +17,15 @@ sys.path.append(os.path.join(os.path.dirname(os.path.dirname(os.path.realpath(__
 from help_texts import STDIN, TOP
 from vectors import vectors_of
 
-# What a command's help says: what it does, its words, its commands with what they do, its options, and the texts after them.
-Help = namedtuple("Help", "summary usage commands options texts")
+# What a command's help says: what it does, its words, its commands with what they do, its arguments and options, and the texts after
+# them.
+Help = namedtuple("Help", "summary usage commands arguments options texts")
+# An argument: what it is called, its text, and the words that it may be.
+Argument = namedtuple("Argument", "name text words")
 # An option: its letter, or nothing; its name; what its value is called, or nothing; its text; the words that it may be.
 Option = namedtuple("Option", "letter name value text words")
 
+ARGUMENT = re.compile(r" +(\S+)  +(.*)")
 OPTION = re.compile(r" +(?:-(\w), )?--([\w-]+)(?: <(\w+)>(?:\.\.\.)?)?  +(.*)")
 POSSIBLE = re.compile(r" \[possible values: ([^\]]*)\]")
 
@@ -33,21 +37,34 @@ def help_of(text):
     """Reads the text of a command's help."""
     summary, *parts = text.split("\n\n")
     usage = parts.pop(0).removeprefix("Usage: ")
-    commands, options = {}, []
+    commands, arguments, options = {}, [], []
     while parts and re.match(r"(Commands|Options|Arguments):\n", parts[0]):
         head, *lines = parts.pop(0).split("\n")
         if head == "Commands:":
             commands = dict(it.strip().split(None, 1) for it in lines)
-        elif head == "Options:":
+        elif head == "Arguments:":
+            arguments = [argument_of(it) for it in lines]
+        else:
             options = [option_of(it) for it in lines]
-    return Help(summary, usage, commands, options, parts)
+    return Help(summary, usage, commands, arguments, options, parts)
+
+
+def cut(text):
+    """Returns a text without the words that a value may be, and these words."""
+    words = POSSIBLE.search(text)
+    return POSSIBLE.sub("", text), words[1].split(", ") if words else []
+
+
+def argument_of(line):
+    """Reads the line of an argument."""
+    name, text = ARGUMENT.fullmatch(line).groups()
+    return Argument(name, *cut(text))
 
 
 def option_of(line):
     """Reads the line of an option."""
     letter, name, value, text = OPTION.fullmatch(line).groups()
-    words = POSSIBLE.search(text)
-    return Option(letter, name, value, POSSIBLE.sub("", text), words[1].split(", ") if words else [])
+    return Option(letter, name, value, *cut(text))
 
 
 def read():
@@ -58,6 +75,20 @@ def read():
     names = [it for it in whole.commands if it != "help"]
     version = " ".join(texts["etcs --version"].split()[:2])
     return version, whole, {it: help_of(texts[f"etcs {it} --help"]) for it in names}
+
+
+def names_of(option):
+    return ([f"-{option.letter}"] if option.letter else []) + [f"--{option.name}"]
+
+
+def takes_files(said):
+    """Whether a command has files as its arguments."""
+    return any("FILE" in it.name for it in said.arguments)
+
+
+def argument_words(said):
+    """Returns the words that the arguments of a command may be."""
+    return [word for it in said.arguments for word in it.words]
 
 
 # ---- Pages of the manual.
@@ -81,12 +112,21 @@ def words_of(usage):
     return re.sub(r"^etcs( [a-z]+)?", r"\\fB\g<0>\\fR", usage)
 
 
+def text_of(said):
+    """Returns the text of an argument or an option."""
+    return plain(said.text) + (f" [possible values: {', '.join(map(bold, said.words))}]" if said.words else "")
+
+
+def argument_lines(argument):
+    """Yields the lines of an argument."""
+    yield from (".TP", words_of(argument.name), text_of(argument))
+
+
 def option_lines(option):
     """Yields the lines of an option."""
-    names = ", ".join(bold(it) for it in ([f"-{option.letter}"] if option.letter else []) + [f"--{option.name}"])
     yield ".TP"
-    yield names + (f" \\fI{option.value}\\fR" if option.value else "")
-    yield plain(option.text) + (f" [possible values: {', '.join(map(bold, option.words))}]" if option.words else "")
+    yield ", ".join(map(bold, names_of(option))) + (f" \\fI{option.value}\\fR" if option.value else "")
+    yield text_of(option)
 
 
 def text_lines(text):
@@ -110,9 +150,11 @@ def page(name, version, said, others):
     lines += [".SH SYNOPSIS", words_of(said.usage), ".SH DESCRIPTION"]
     late = [it for it in said.texts if re.match("Status: |Example: ", it)]
     early = [line for it in said.texts if it not in late for line in text_lines(it)]
-    lines += early[1:]
+    lines += early[1:] or [f"{plain(said.summary)}."]
     for command, text in said.commands.items():
         lines += [".TP", bold(f"etcs {command}"), plain(text) + "."]
+    if said.arguments:
+        lines += [".SH ARGUMENTS", *(line for it in said.arguments for line in argument_lines(it))]
     lines.append(".SH OPTIONS")
     for it in said.options:
         lines += option_lines(it)
@@ -133,18 +175,20 @@ def pages(version, whole, commands):
 # ---- Completions.
 
 
-def names_of(option):
-    return ([f"-{option.letter}"] if option.letter else []) + [f"--{option.name}"]
-
-
 def bash(whole, commands):
     """Returns the completion for bash."""
     first = " ".join(whole.commands)
     cases = [f"        ' '*) if [[ $current == -* ]]; then words='{flags(whole)}'; else words='{first}'; fi ;;", f"        'help '*) words='{first}' ;;"]
     values = []
     for name, said in commands.items():
-        cases.append(f"        '{name} '*) words='{flags(said)}' ;;")
-        values += [f"        '{name} --{it.name}') words='{' '.join(it.words)}' ;;" for it in said.options if it.words]
+        proposed = flags(said)
+        if takes_files(said):
+            cases.append(f"        '{name} '*) if [[ $current == -* ]]; then words='{proposed}'; else files=$current; fi ;;")
+        elif argument_words(said):
+            cases.append(f"        '{name} '*) if [[ $current == -* ]]; then words='{proposed}'; else words='{' '.join(argument_words(said))}'; fi ;;")
+        else:
+            cases.append(f"        '{name} '*) words='{proposed}' ;;")
+        values += [f"        {' | '.join(quoted(f'{name} {it}') for it in names_of(option))}) words='{' '.join(option.words)}' ;;" for option in said.options if option.value]
     return "\n".join([BASH_FRONT, *values, *cases, BASH_END, ""])
 
 
@@ -157,7 +201,7 @@ BASH_FRONT = """\
 # Completion of etcs for bash. Written by tools/manual.py from the help of etcs.
 
 _etcs() {
-    local current=${COMP_WORDS[COMP_CWORD]} before=${COMP_WORDS[COMP_CWORD - 1]} command= words= word
+    local current=${COMP_WORDS[COMP_CWORD]} before=${COMP_WORDS[COMP_CWORD - 1]} command= words= files word
     # --kind=short is three words here
     if [[ $current == = ]]; then
         current=
@@ -174,7 +218,12 @@ _etcs() {
 
 BASH_END = """\
     esac
-    COMPREPLY=($(compgen -W "$words" -- "$current"))
+    if [[ -v files ]]; then
+        compopt -o filenames 2> /dev/null
+        mapfile -t COMPREPLY < <(compgen -f -- "$files")
+    else
+        COMPREPLY=($(compgen -W "$words" -- "$current"))
+    fi
 }
 
 complete -F _etcs etcs"""
@@ -193,7 +242,8 @@ def zsh(whole, commands):
     lines += [f"    _arguments -C {' '.join(map(zsh_option, whole.options))} '1: :->command' '*:: :->words'", "    case $state in"]
     lines += ["    command) _describe command commands ;;", "    words)", "        case $line[1] in"]
     for name, said in commands.items():
-        lines += [f"        {name})", "            _arguments \\", " \\\n".join(f"                {zsh_option(it)}" for it in said.options), "            ;;"]
+        proposed = [*map(zsh_option, said.options), *zsh_arguments(said)]
+        lines += [f"        {name})", "            _arguments \\", " \\\n".join(f"                {it}" for it in proposed), "            ;;"]
     lines += ["        help) _describe command commands ;;", "        esac", "        ;;", "    esac", "}", "", '_etcs "$@"', ""]
     return "\n".join(lines)
 
@@ -201,11 +251,19 @@ def zsh(whole, commands):
 def zsh_option(option):
     """Returns an option as zsh has it."""
     text = re.sub(r"([\[\]:\\])", r"\\\1", option.text)
-    value = f":{option.value}:({' '.join(option.words)})" if option.words else ""
+    value = f":{option.value}:({' '.join(option.words)})" if option.value else ""
     long = f"--{option.name}" + ("=" if value else "")
     if not option.letter:
         return quoted(f"{long}[{text}]{value}")
+    if option.value:
+        return f"'(-{option.letter} --{option.name})'{{-{option.letter},{long}}}{quoted(f'[{text}]{value}')}"
     return f"'(- *)'{{-{option.letter},{long}}}{quoted(f'[{text}]{value}')}"
+
+
+def zsh_arguments(said):
+    """Returns the arguments of a command as zsh has them."""
+    words = argument_words(said)
+    return ["'*:FILE:_files'"] if takes_files(said) else [f"'1:argument:({' '.join(words)})'"] if words else []
 
 
 def fish(whole, commands):
@@ -214,6 +272,10 @@ def fish(whole, commands):
     lines += [fish_option("__etcs_runs", it) for it in whole.options]
     for name, said in commands.items():
         lines += [fish_option(f"'__etcs_runs {name}'", it) for it in said.options]
+        if takes_files(said):
+            lines.append(f"complete -c etcs -n '__etcs_runs {name}' -F")
+        elif argument_words(said):
+            lines.append(f"complete -c etcs -n '__etcs_runs {name}' -a '{' '.join(argument_words(said))}'")
     lines.append(f"complete -c etcs -n '__etcs_runs help' -a '{' '.join(whole.commands)}'")
     return FISH_FRONT + "\n".join(lines) + "\n"
 
@@ -238,7 +300,7 @@ def fish_quoted(text):
 def fish_option(condition, option):
     """Returns an option as fish has it."""
     letter = f" -s {option.letter}" if option.letter else ""
-    words = f" -x -a '{' '.join(option.words)}'" if option.words else ""
+    words = f" -x -a '{' '.join(option.words)}'" if option.words else " -x" if option.value else ""
     return f"complete -c etcs -n {condition}{letter} -l {option.name}{words} -d {fish_quoted(option.text)}"
 
 

@@ -1,14 +1,34 @@
-//! The program `etcs`, over the process' own words and streams.
+//! The program `etcs`, over the process' own words, files and streams.
 #![tactic(auto)]
 
+use etcs_cli::{Files, run_with_files};
+use std::fs::File;
 use std::io::{ErrorKind, Write};
 use std::process::ExitCode;
 use std::{env, io};
 
+/// The files of the machine.
+#[derive(Drop)]
+struct Machine<'a> {
+    rt: &'a HostRuntime,
+}
+
+impl Files for Machine<'_> {
+    type File = File;
+
+    fn open(&self, name: &str) -> io::Result<File> {
+        File::open(self.rt, name)
+    }
+}
+
 fn main(rt: HostRuntime) -> ExitCode {
     let mut faults = rt.stderr();
+    let files = Machine { rt: &rt };
     let status = match words(&rt) {
-        Ok(words) => etcs_cli::run_words(rt.alloc(), words, rt.stdin(), rt.stdout(), &mut faults),
+        Ok(words) => {
+            let (input, output) = (rt.stdin(), rt.stdout());
+            run_with_files(rt.alloc(), words, &files, input, output, &mut faults)
+        }
         Err(error) => refused_words(error.kind(), &mut faults),
     };
     ExitCode::from(status)

@@ -21,14 +21,16 @@ import termios
 from concurrent.futures import ThreadPoolExecutor
 
 TOP = os.path.dirname(os.path.dirname(os.path.realpath(__file__)))
-COMMANDS = "show check convert group log explain help"
+COMMANDS = "show check convert group log explain blank schema tables completions help"
 KINDS, FORMS = "long short radio train", "hex bin json"
 
+# Files of the folder in which is typed.
+FILES = ("telegrams.hex", "telegrams.log")
 # What is typed, and all words that may follow there.
 ASKED = (
     ("etcs ", COMMANDS),
     ("etcs sh", "show"),
-    ("etcs c", "check convert"),
+    ("etcs c", "check convert completions"),
     ("etcs q", ""),
     ("etcs show --kind ", KINDS),
     ("etcs show --kind s", "short"),
@@ -37,7 +39,12 @@ ASKED = (
     ("etcs convert --kind short --to ", FORMS),
     ("etcs explain --kind radio --to ", "text html"),
     ("etcs show --f", "--from"),
-    ("etcs log --", "--kind --good --to --groups --summary --help"),
+    ("etcs log --", "--kind --good --to --packet --message --summary --groups --strict --quiet --help"),
+    ("etcs log -k ", f"auto {KINDS}"),
+    ("etcs log telegram", "telegrams.hex telegrams.log"),
+    ("etcs explain --kind short telegrams.h", "telegrams.hex"),
+    ("etcs blank --kind t", "train"),
+    ("etcs completions ", "bash zsh fish"),
     ("etcs convert --kind short --t", "--to"),
     ("etcs check --kind=t", "train"),
     ("etcs help ", COMMANDS),
@@ -66,10 +73,19 @@ end-asking () { print DO''NE }; zle -N end-asking; bindkey '^G' end-asking
 """
 
 
+def make_files(folder):
+    """Makes the files."""
+    for name in FILES:
+        with open(f"{folder}/{name}", "w", encoding="utf-8"):
+            pass
+
+
 def bash(line):
     """Returns the words that bash proposes."""
-    done = subprocess.run(["bash", "-c", BASH, "bash", f"{TOP}/share/completions/etcs.bash", line], capture_output=True, text=True, check=True)
-    return done.stdout.split()
+    with tempfile.TemporaryDirectory() as home:
+        make_files(home)
+        words = ["bash", "-c", BASH, "bash", f"{TOP}/share/completions/etcs.bash", line]
+        return subprocess.run(words, capture_output=True, text=True, check=True, cwd=home).stdout.split()
 
 
 def fish(line):
@@ -77,13 +93,15 @@ def fish(line):
     ask = 'source $argv[1]; complete "-C$argv[2]"'
     with tempfile.TemporaryDirectory() as home:
         words = ["fish", "-N", "-c", ask, f"{TOP}/share/completions/etcs.fish", line]
-        done = subprocess.run(words, capture_output=True, text=True, env={**os.environ, "HOME": home})
+        make_files(home)
+        done = subprocess.run(words, capture_output=True, text=True, cwd=home, env={**os.environ, "HOME": home})
     return [it.split("\t")[0].split("=")[-1] for it in done.stdout.splitlines()]
 
 
 def zsh(line):
     """Returns the words that zsh proposes, asked at a terminal."""
     with tempfile.TemporaryDirectory() as home:
+        make_files(home)
         terminal, end = pty.openpty()
         how = {"stdin": end, "stdout": end, "stderr": end, "cwd": home, "env": {**os.environ, "HOME": home, "TERM": "dumb"}}
         take = lambda: fcntl.ioctl(0, termios.TIOCSCTTY, 0)

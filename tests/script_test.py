@@ -43,7 +43,7 @@ TOOLS = (
     " touch tr wc xargs"
 ).split()
 RT = """#!/bin/sh
-case $3 in explain) echo '<footer>etcs 1.2.3</footer>' ;; *) echo tried ;; esac
+case $3 in explain) echo '<footer>etcs 1.2.3 proved</footer>' ;; *) echo tried ;; esac
 printf 'checked: ended status=0\\nrun=ended status=0 runners=1 proved=no\\n' >&2
 """
 # What the stand-ins begin with: a line of their words in the file `calls`, and the folder as $top or TOP.

@@ -56,7 +56,6 @@ EXCEPTIONS = {
     " bytes: the reason is only looked for in up to 65,536": LONG,
     "not JSON: unexpected byte {:02X}": BYTES,
     "no item of the kind has this JSON": NEVER,
-    ", and none of them begins with these bits": NEVER,
     "; none fits": SOME,
     "a message has no packet": "isn't written, since of the numbers next to 0 and 255 there are packets",
     "null": CALL,
@@ -183,8 +182,9 @@ def main(words):
         print(__doc__, file=sys.stderr)
         return 2
     try:
-        program = vectors.Program(words, 60)
-        return 0 if check(program, source("etcs_vectors/stdin"), os.cpu_count(), is_listed) else 1
+        with vectors.telegram_folder() as folder:
+            program = vectors.Program(words, 60, folder)
+            return 0 if check(program, source("etcs_vectors/stdin"), os.cpu_count(), is_listed) else 1
     except OSError as error:
         print(f"{words[0]}: {error.strerror}", file=sys.stderr)
         return 2

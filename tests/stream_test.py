@@ -6,11 +6,12 @@
 PROGRAM is the built `etcs`. It is run over outputs of little room, inputs that can't be read, a million items and more,
 long lines, JSON that is deeply nested or not UTF-8, logs that aren't UTF-8, and with few addresses; its own JSON has to be
 read far sooner than the same with a blank; pages have their words, and what explains a refused item doesn't depend on how
-reads were cut. Expected answers come from docs/FORMAT.md and from counting. Each answer that isn't as expected is written; the
+reads were cut; files are read one after another, and forms that aren't hexadecimal are named. Expected answers come from docs/FORMAT.md and from counting. Each answer that isn't as expected is written; the
 last line says how many there were. The status is 1 if one differs.
 """
 
 import glob
+import gzip
 import os
 import resource
 import shlex
@@ -112,6 +113,15 @@ ADDRESSED = (
     ("help", b"", 0),
     ("show", b"", 2),
     *((words, given, status) for words in SAYING for given, status in ((GOOD, 0), (BAD, 1))),
+)
+
+
+# an input that isn't hexadecimal, and what log and explain write of its form
+TRY = b"etcs: this looks like "
+FORMS = (
+    (gzip.compress(GOOD), b"gzip: try zcat FILE | etcs ..\n", b"gzip: try zcat FILE | etcs ..\n"),
+    (GOOD.decode().encode("utf-16"), b"UTF-16: try iconv -f utf-16 -t utf-8 FILE | etcs ..\n", b"UTF-16: try iconv -f utf-16 -t utf-8 FILE | etcs ..\n"),
+    (bytes.fromhex(GOOD.decode()), b"bytes: try etcs explain --from bin\n", b"bytes: try --from bin\n"),
 )
 
 
@@ -229,7 +239,7 @@ def check_long_lines(program):
     """What `log` and `explain` say about lines that no vector has, and that the next line is read."""
     too_long = "line longer than 1,048,576 bytes"
     for words, count, said, fault in (
-        ("log --kind radio", MOST + 1, "line longer than 1,048,576 characters", b""),
+        ("log --kind radio --strict", MOST + 1, "line longer than 1,048,576 characters", b""),
         ("explain --kind radio", MOST + 1, too_long, b"etcs: line 1: bad hexadecimal at 1048576\n"),
         ("explain --kind radio --from json", MOST + 1, too_long, b"etcs: line 1: bad JSON\n"),
         ("explain --kind radio --from json", 65_537, "65537 bytes: the reason is only looked for in up to 65,536", b"etcs: line 1: bad JSON\n"),
@@ -253,8 +263,9 @@ def check_fronts(program):
 
 
 def check_pages(program):
-    """A page has its words, and no part of the input raw; its foot says the version, without the kit's line."""
-    foot = f"<footer>{program.call('--version')[1].decode().split(' (')[0]}</footer>"
+    """A page has its words, and no part of the input raw; its foot says the version, and proved or unproved."""
+    version = program.call("--version")[1].decode().split(" (")[0]
+    foot = f"<footer>{version.removesuffix(' unproved')} {'un' * version.endswith(' unproved')}proved</footer>"
     for words, given, said in PAGES:
         page = program.call(f"explain --to html {words}", given)[1].decode()
         program.check(f"a page of {given[:30]}", [it for it in (*said, foot, "</script>") if it not in page], [])
@@ -361,7 +372,36 @@ def check_addresses(program):
         program.check(what, tuple(seen), ("not loaded", "refused", "answered"))
 
 
+def check_forms(program):
+    """Where nothing was accepted, the last line says what an input looks like that isn't hexadecimal."""
+    for given, of_log, of_explain in FORMS:
+        program.check(f"log of {given[:4]}", program.call("log", given)[2], TRY + of_log)
+        program.check(f"log of {given[:4]} and a telegram", program.call("log", given + b"\n" + GOOD)[2], b"")
+        program.check(f"explain of {given[:4]}", program.call("explain --kind short", given)[2].splitlines(True)[1:], [TRY + of_explain])
+
+
+def check_files(program):
+    """Files are read one after another, each to the end of a line, and a folder or a missing file ends the run."""
+    with tempfile.TemporaryDirectory() as folder:
+        for name, given in (("one", GOOD[:-1]), ("two", GOOD), ("bytes", bytes.fromhex(GOOD.decode()))):
+            with open(os.path.join(folder, name), "wb") as file:
+                file.write(given)
+        good = b"short " + GOOD
+        for names, wanted in (
+            ("one two", (0, 2 * good, b"")),
+            ("two one", (0, 2 * good, b"")),
+            ("one - two", (0, 3 * good, b"")),
+            ("one . two", (3, good, b"etcs: .: is a directory\n")),
+            ("two nothing one", (3, good, b"etcs: nothing: no such file\n")),
+        ):
+            program.check(f"log of {names}", program.call(f"log --good {names}", GOOD, cwd=folder), wanted)
+        explained = program.call("explain --kind short --from bin bytes bytes", cwd=folder)[::2]
+        program.check("explain of bytes", explained, (0, b""))
+
+
 CHECKS = (
+    check_forms,
+    check_files,
     check_millions,
     check_writes,
     check_full,

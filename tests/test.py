@@ -12,8 +12,10 @@ changed (tools/unproved.py): in about a minute and a half on 4 cores. Then all p
     decoder        whether a decoder over share/etcs.tables.json reads what the vectors accept as `show` does (tests/tables_test.py)
     reasons        the reasons of refused items against share/etcs.tables.json (tests/reasons_test.py)
     nearest        which lengths are named where an L_PACKET is refused (tests/nearest_test.py)
+    log            what `log` finds in a made log, and which kinds it and `explain` guess (tests/log_test.py)
     sentences      whether each sentence of `explain` and `log` is in a vector (tests/sentences.py)
     schema         docs/etcs.schema.json against the tables, the vectors and what the program writes (tools/schema.py)
+    printed        what `schema`, `tables` and `completions` print, against the files (tools/texts.py)
     documents      the commands and the quoted files of all documents (tools/doc_examples.py)
     script         the script `etcs` (tests/script_test.py)
     worst-cases    whether the most expensive inputs that are known stay below their limits (bench/check_worst_cases)
@@ -27,6 +29,7 @@ changed (tools/unproved.py): in about a minute and a half on 4 cores. Then all p
                    whether each of these calls and definitions has any (tools/guarantees.py)
     tables         the tables of documents and those for other tools against the sources (tools/format_tables.py)
     page           the style and the script of pages against share/page.css and share/page.js (tools/page.py)
+    texts          the texts in the source that these print, against the files (tools/texts.py)
     help           the texts of help against the vectors (tools/help_texts.py)
     manual         the manual and the completions against them (tools/manual.py)
     completions    what bash, zsh and fish propose (tests/completion_test.py)
@@ -72,6 +75,7 @@ STACKS = {"unproved": 160, "proved": 64}  # in KB
 # The longest first, since as many run at a time as there are cores.
 PROGRAM_SCRIPTS = {
     "reasons": ["tests/reasons_test.py"],
+    "log": ["tests/log_test.py"],
     "fuzz": ["tests/fuzz.py", "--seconds", "10"],
     "fuzz-selftest": ["tests/fuzz_test.py"],
     "commands": ["tests/vectors.py"],
@@ -84,6 +88,7 @@ PROGRAM_SCRIPTS = {
     "decoder": ["tests/tables_test.py"],
     "sentences": ["tests/sentences.py"],
     "nearest": ["tests/nearest_test.py"],
+    "printed": ["tools/texts.py", "--check"],
 }
 SCRIPTS = {
     "audit-selftest": ["tests/definitions_test.py"],
@@ -92,6 +97,7 @@ SCRIPTS = {
     "tables": ["tools/format_tables.py", "--check"],
     "page": ["tools/page.py", "--check"],
     "help": ["tools/help_texts.py", "--check"],
+    "texts": ["tools/texts.py", "--check"],
     "manual": ["tools/manual.py", "--check"],
     "completions": ["tests/completion_test.py"],
     "mutants": ["tools/mutants.py", "--check"],

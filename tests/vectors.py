@@ -17,10 +17,14 @@ import os
 import re
 import subprocess
 import sys
+import tempfile
 from concurrent.futures import ThreadPoolExecutor
+from contextlib import contextmanager
 
 REFUSED = re.compile(rb"etcs: item 1 refused at bit (\d+), (.+)\n")
 TRUNCATED = re.compile(rb"etcs: item 1 truncated after (\d+) bits\n")
+# A file that command lines may name, without a LF at its end.
+TELEGRAM = ("telegram.hex", b"A113140C40FFC14027A12723184008C07FFFFFFFFFFFFFFFFFFFC0")
 # Lines of a mebibyte, and of a byte more.
 KEPT = '{"data":"111111","kind":"radio","nid":15}'
 PADDED = (
@@ -33,18 +37,28 @@ OK_LINE = re.compile(rb"item 1 ok (\d+) bits\n")
 
 
 class Program:
-    """The program, with the words that go before those of each vector."""
+    """The program, with the words that go before those of each vector, in a folder."""
 
-    def __init__(self, words, seconds):
-        self.words = words
+    def __init__(self, words, seconds, folder):
+        self.words = [os.path.abspath(it) if os.path.exists(it) else it for it in words]
         self.seconds = seconds
+        self.folder = folder
 
     def run(self, words, given):
         """Returns the status, the output and the faults of a command line over these bytes."""
         done = subprocess.run(
-            [*self.words, *words], input=given, capture_output=True, timeout=self.seconds
+            [*self.words, *words], input=given, capture_output=True, timeout=self.seconds, cwd=self.folder
         )
         return done.returncode, done.stdout, done.stderr
+
+
+@contextmanager
+def telegram_folder():
+    """A folder with the file that command lines may name."""
+    with tempfile.TemporaryDirectory() as folder:
+        with open(os.path.join(folder, TELEGRAM[0]), "wb") as file:
+            file.write(TELEGRAM[1])
+        yield folder
 
 
 def vectors_of(text):
@@ -291,10 +305,11 @@ def main(words):
     with open(f"{top}/crates/etcs_vectors/stdin", encoding="utf-8", newline="") as sheet:
         vectors = [it for it in (*vectors_of(sheet.read()), *((0, *it) for it in PADDED)) if it[1] in kinds]
     try:
-        program = Program(words, seconds)
-        if is_unproved(program):
-            vectors = [(*rest, as_unproved(expected)) for *rest, expected in vectors]
-        return 0 if check(program, vectors, kinds, jobs) else 1
+        with telegram_folder() as folder:
+            program = Program(words, seconds, folder)
+            if is_unproved(program):
+                vectors = [(*rest, as_unproved(expected)) for *rest, expected in vectors]
+            return 0 if check(program, vectors, kinds, jobs) else 1
     except OSError as error:
         print(f"{words[0]}: {error.strerror}", file=sys.stderr)
         return 2

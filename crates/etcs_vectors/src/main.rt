@@ -5,12 +5,12 @@
 //! is written with its answer, and at the end how many there were of each kind.
 #![tactic(auto)]
 
-use etcs_cli::run_words;
-use etcs_fakes::Narrow;
+use etcs_cli::{Files, run_with_files};
+use etcs_fakes::{Broken, Narrow};
 use etcs_vector_items::{Ended, Pieces, Program, Room, answer};
 use etcs_vector_lines::{Case, Kinds, Sheet};
 use std::alloc::Global;
-use std::io::{self, Read, Write};
+use std::io::{self, ErrorKind, Read, Write};
 use std::process::ExitCode;
 
 fn main(rt: HostRuntime) -> ExitCode {
@@ -18,6 +18,29 @@ fn main(rt: HostRuntime) -> ExitCode {
         Ok(true) => ExitCode::from(0),
         Ok(false) => ExitCode::from(1),
         Err(_) => ExitCode::from(3),
+    }
+}
+
+/// The file that command lines may name, and what it has: a telegram, without a LF.
+const NAME: &str = "telegram.hex";
+
+const TELEGRAM: &[u8] = b"A113140C40FFC14027A12723184008C07FFFFFFFFFFFFFFFFFFFC0";
+
+/// A folder with this file alone.
+struct Folder;
+
+impl Files for Folder {
+    type File = Broken<'static>;
+
+    fn open(&self, name: &str) -> io::Result<Broken<'static>> {
+        if name != NAME {
+            return Err(ErrorKind::NotFound.into());
+        }
+        Ok(Broken {
+            rest: TELEGRAM,
+            step: 10,
+            fails: None,
+        })
     }
 }
 
@@ -30,7 +53,7 @@ impl Program for Etcs {
         let mut kept = Vec::new(alloc);
         let mut output = Narrow::new(&mut held, room.output, room.full, room.flushes);
         let mut faults = Narrow::new(&mut kept, room.faults, room.full, true);
-        let status = run_words(alloc, words, input, &mut output, &mut faults);
+        let status = run_with_files(alloc, words, &Folder, input, &mut output, &mut faults);
         let is_flushed = output.flushed > 0;
         Ended {
             status,

@@ -1,26 +1,42 @@
 #!/usr/bin/env python3
 """Prints the definitions that the contracts of public calls rest on, each after those that it names.
 
-    tools/definitions.py [--count] [--clauses] [--most N] (--headline | CALL ..)
+    tools/definitions.py [--count] [--clauses] [--most N] (--headline | PART | CALL) ..
     tools/definitions.py --page [--check]
 
 A CALL is `etcs_telegram::TelegramReader::feed`, `etcs_stream::run`, or a method of a `pub type`, as
-`etcs_radio::MessageReader::feed`; --headline names those that read and write telegrams and messages. It follows the names
-in `requires` and `ensures`, in the ghost members of types and traits in the call's signature that these name, in `Value` and
-`view` of the types' `impl Model` (--clauses leaves these two out), in the ghost members of the types that a `pub type`
-gives (`H.Packet.form` where H is `RadioHead`), and in the definitions of crates/*/specs; not invariants, names of the kit,
-and items of the code, which are listed at the end, with the members of types that are the caller's to give. A line has a
-file and line, a name and how many lines it has without comments; the last one, which --count prints alone, has the
-counts. The status is 1 if a name isn't found, if a contract rests on a lemma (it lies in specs/laws or proofs, or is
-neither `abbrev` nor `unfoldable` nor a type), or if there are more than N definitions.
+`etcs_radio::MessageReader::feed`; a PART is one of `pairs`, `c`, `values`, `reasons` and `others`, the parts of
+docs/AUDIT.md, and stands for its calls; --headline is `pairs values`. It follows the names in `requires` and `ensures`, in
+the ghost members of types and traits in the call's signature that these name, in `Value` and `view` of the types' `impl
+Model` (--clauses leaves these two out), in the ghost members of the types that a `pub type` gives (`H.Packet.form` where H
+is `RadioHead`), and in the definitions of crates/*/specs; not invariants, not the `view` of a reader, names of the kit, and
+items of the code, which are listed at the end, with the members of types that are the caller's to give. A line has a file
+and line, a name and how many lines it has without comments; the last one, which --count prints alone, has the counts. The
+status is 1 if a name isn't found, if a contract rests on a lemma (it lies in specs/laws or proofs, or is neither `abbrev`
+nor `unfoldable` nor a type), or if there are more than N definitions.
 
---page writes the parts of docs/AUDIT.md between `<!-- definitions: FILE .. -->`, `<!-- quoted: FILE .. -->`,
-`<!-- clauses: CALL .. -->`, `<!-- counts: CALL .. -->` or `<!-- beyond: CALL .. -->` and `<!-- end -->`: where the
-headline's definitions in these files of crates/ are, or their text too, the clauses of these calls, how many definitions
-each rests on, and the text of those that are not the headline's. Each definition of the headline has to be in one part, the clauses of each call of the headline in another, and no type of it may be the caller's to give. With
---check nothing is written, and the status is 1 if the page no longer matches the sources.
+--page writes what is between each of these lines of docs/AUDIT.md and `<!-- end -->`; with --check nothing is written, and
+the status is 1 if the page no longer matches the sources:
+
+    <!-- quoted PART: FILE .. -->       the definitions of the part in these files, with their text
+    <!-- listed PART: FILE .. -->       the same without their text
+    <!-- types PART: -->                the types of the code and ghost members that the part rests on
+    <!-- shown PART: CRATE::TYPE .. --> the same, with the text of the types but `Var`; and these further types
+    <!-- clauses: CALL .. -->           signatures and clauses
+    <!-- note: CALL TEXT -->            the text, if there is such a call
+    <!-- parts: -->                     how many definitions each part has
+    <!-- counts: CALL .. -->            how many definitions each call rests on, and how many of them its part has new
+
+A part has the definitions that its calls rest on and no part before it has. A FILE is `etcs_bits/specs/Bits.antt`, or a
+crate, or `*` for all crates, which stand for the files that the part names nowhere, in the order of reading. A CALL with a
+`?` after it need not be there yet. Beside each file are eight digits of a hash (sha256) of its definitions, or types, in
+the part: of their text without comments and blanks, and of where the names in it are from. Each definition of a part has
+to be on the page, once and after those that it names, the clauses of each of its calls too, and no type but of `others`
+may be the caller's to give.
 """
 
+import difflib
+import hashlib
 import os
 import re
 import sys
@@ -30,14 +46,35 @@ from graphlib import TopologicalSorter
 from itertools import chain
 
 TOP = os.path.dirname(os.path.dirname(os.path.realpath(__file__)))
-HEADLINE = """
-    etcs_telegram::TelegramReader::new etcs_telegram::TelegramReader::feed etcs_telegram::TelegramReader::take
-    etcs_telegram::Telegram::encode_into
-    etcs_radio::MessageReader::new etcs_radio::MessageReader::feed etcs_radio::MessageReader::take etcs_radio::Message::encode
-    etcs_train::TrainReader::new etcs_train::TrainReader::feed etcs_train::TrainReader::take etcs_train::TrainMessage::encode
-""".split()
-LANGUAGES = ["telegram.specs.Telegrams.TelegramLanguage", "messages.specs.Messages.MessageLanguage", "vars.specs.Reading.IsOutcome"]
-LANGUAGES = [f"Rattle.etcs_{it}" for it in LANGUAGES]
+# The parts of the page, in its order: what each is called there, and its calls. One with `?` need not be there yet.
+PARTS = {
+    "pairs": ("1: items as pairs", "etcs_text::read_pairs etcs_text::write_pairs"),
+    "c": ("1: C's four calls", "etcs_c::etcs_check etcs_c::etcs_fields etcs_c::etcs_fields_before etcs_c::etcs_from_fields"),
+    "values": (
+        "2: typed values",
+        """
+        etcs_telegram::TelegramReader::new etcs_telegram::TelegramReader::feed etcs_telegram::TelegramReader::take
+        etcs_telegram::Telegram::encode_into etcs_telegram::Telegram::encode etcs_telegram::laws::round_trip
+        etcs_radio::MessageReader::new etcs_radio::MessageReader::feed etcs_radio::MessageReader::take
+        etcs_radio::Message::encode etcs_radio::laws::round_trip
+        etcs_train::TrainReader::new etcs_train::TrainReader::feed etcs_train::TrainReader::take
+        etcs_train::TrainMessage::encode etcs_train::laws::round_trip
+        etcs_text::EntryReader::new etcs_text::EntryReader::feed etcs_text::EntryReader::next
+        etcs_text::same_pairs etcs_text::laws::encoded_pairs etcs_text::laws::one_item
+        """,
+    ),
+    "reasons": ("3: why a bit is refused", "etcs_reasons::why"),
+    "others": (
+        "3: groups, text, JSON, runs",
+        """
+        etcs_telegram::TelegramReader::held etcs_telegram::TelegramView::new etcs_group::Assembly::add
+        etcs_group::Assembly::message etcs_text::show_lines etcs_json::to_value etcs_json::from_value etcs_stream::run
+        etcs_log::run_log etcs_explain::explain etcs_places::places etcs_blank::blank etcs_c::etcs_places
+        """,
+    ),
+}
+# Their `view` isn't followed: with any other their clauses would say the same of what a caller sees.
+READERS = "TelegramReader ReaderOf ItemReader EntryReader".split()
 NAME = r'[^\s(){}.;,@"«»]+'
 TOKEN = re.compile(rf'"(?:\\.|[^"\\])*"|(?<!\S)--.*|⟦.*?⟧|{NAME}(?:\.{NAME})*|\.{NAME}|\S')
 SIGNATURE = re.compile(rf"( *)((?:(?:unfoldable|abbrev|pub|data|record) )*)({NAME})(?: [({{][^=]*[)}}])? :(?: |$)")
@@ -47,6 +84,7 @@ WORDS = set("Type Unit tt ⊥ absurd × → = : | λ ↦ [ ] _ let in as elim re
 WORDS |= set("unfoldable abbrev pub String".split())
 CodeItem = namedtuple("CodeItem", "path line name")
 Given = namedtuple("Given", "name")  # a member of a type that the caller gives
+Said = namedtuple("Said", "path line name text")  # a type of the code, or a ghost member, with its text
 place = "{0.path}:{0.line}: {0.name}".format
 CLAUSE = r"\s+(?:requires|ensures)\b"
 
@@ -63,6 +101,15 @@ class Declaration:
         """Returns how many lines it has without comments, including that of its fixity."""
         said = [it for it in self.lines if it.strip() and not it.strip().startswith("--")]
         return len(said) + (self.name in self.file.fixities)
+
+    def said(self):
+        """Returns its text without comments and blanks, with that of the module around it, and where its names are from."""
+        lines = [*([self.module[1]] if self.module else []), self.file.fixities.get(self.name, ""), *self.lines]
+        tokens = [it for line in lines for it in TOKEN.findall(line) if it[:2] != "--"]
+        words = {part for it in tokens for part in (it, *it.split("."))}
+        items, modules = self.file.uses
+        used = [f"{it} {items[it]}" for it in items if words & {it, *it.split("◌")}]
+        return " ".join(tokens + sorted(used + [f"{it} {modules[it]}" for it in modules if it in words]))
 
     def members(self):
         """Returns the names of its constructors or fields."""
@@ -83,8 +130,8 @@ class Antt:
 
     def __init__(self, module):
         self.path = "/".join(["crates", *module.split(".")[1:]]) + ".antt"
-        self.declared, self.fixities, now, module, marks = {}, set(), None, None, []
-        lines = open(f"{TOP}/{self.path}", encoding="utf-8").read().splitlines()
+        self.declared, self.fixities, now, module, marks = {}, {}, None, None, []
+        lines = self.lines = open(f"{TOP}/{self.path}", encoding="utf-8").read().splitlines()
         self.uses = brought(lines)
         for number, line in enumerate(lines, 1):
             indent = len(line) - len(line.lstrip())
@@ -93,7 +140,7 @@ class Antt:
             elif indent == 0 and line:
                 module, marks = None, line.split()[:-1] if line.endswith(" mutual") else []
             if line.lstrip().startswith(("use ", "pub use ", "module ", "infix")) or line.endswith(" mutual"):
-                self.fixities |= {line.split()[-1]} if line.startswith("infix") else set()
+                self.fixities |= {line.split()[-1]: line} if line.startswith("infix") else {}
                 now = None
             elif (found := SIGNATURE.match(line)) and (now is None or indent <= now.indent):
                 now = self.declared[found[3]] = Declaration(self, number, found, module)
@@ -196,7 +243,7 @@ class Code:
         begins = re.compile(rf"(?:pub(?:\(crate\))? )?(?:{head})\b")
         for first in self.heads:
             if begins.match(self.lines[first]):
-                ends = (i for i in range(first, len(self.lines)) if re.match(r"\}|\{\}", self.lines[i]))
+                ends = (i for i in range(first, len(self.lines)) if re.match(r"\}|\{\}|\S.*(?:;|\{\})$", self.lines[i]))
                 yield first, next(ends, first) + 1
 
     def find(self, name):
@@ -220,6 +267,8 @@ class Code:
         for number in range(at, end):
             if found := re.match(rf"(?:{head})[^{{]*\{{(.*)\}};?$", self.lines[number]):
                 yield from scope.meanings(number + 1, [found[1]])
+                if member := re.match(r" +ghost (\w+)", self.lines[number]):
+                    yield Said(self.path, number + 1, member[1], self.lines[number])
                 for name, path in re.findall(rf"(?<![\w.])({'|'.join(parameters) or '(?!)'})\b((?:\.\w+)*)", found[1]):
                     yield from members(*types[name], path.split(".")[1:]) if name in types else [Given(name + path)] * bool(path)
 
@@ -273,27 +322,42 @@ def members(crate, name, path):
 
 @lru_cache(maxsize=None)
 def shown_by(item):
-    """Returns what `Value` and `view` of a type of the code mean, and the types that are in it."""
-    (crate, name), given = alias_of(item.path.split("/")[1], item.name)
-    found = [code_item(*it) for it in [(crate, name), *given] if given]
-    for code in code_of(crate):
+    """Returns the text of a type of the code, what its `Value` and `view` mean, and the types that are in it."""
+    crate = item.path.split("/")[1]
+    (home, name), given = alias_of(crate, item.name)
+    found = [code_item(*it) for it in [(home, name), *given] if given]
+    if name not in READERS:
+        found.append(said_of(item))
+    for code in code_of(home):
         for first, end in code.blocks(rf"impl(?:<.*?>)? Model for {name}"):
-            terms = code.terms(" +ghost (?:Value|view) = ", first, end, first, [])
-            found += [it for it in terms if not isinstance(it, Given)]
-        for first, end in code.blocks(rf"(?:struct|enum) {name}"):
+            shown = "Value" if name in READERS else "Value|view"
+            found += [it for it in code.terms(rf" +ghost (?:{shown}) = ", first, end, first, []) if not isinstance(it, Given)]
+        for first, end in [] if name in READERS else code.blocks(rf"(?:struct|enum) {name}"):
             said = [re.sub(r"^ +[A-Z]\w*|//.*", "", it) for it in code.lines[first:end]]
             types = dict.fromkeys(re.findall(r"\b[A-Z]\w*[a-z]\w*", " ".join(said)))
             found += filter(None, (code_item(code.crate_of(it), it) for it in types if it != name))
     return found
 
 
-def function_of(call):
-    """Returns a call's file, its block and its line, and its type or trait."""
+def lines_of(item):
+    """Returns the lines of a type or constant of the code."""
+    code = next(it for it in code_of(item.path.split("/")[1]) if it.path == item.path)
+    return code.lines[item.line - 1 : next(end for first, end in code.blocks(r"\w+") if first == item.line - 1)]
+
+
+def said_of(item):
+    """Returns a type or constant of the code with its text, without comments and attributes."""
+    said = (re.sub(r"^ *(//|#\[).*", "", it) for it in lines_of(item))
+    return Said(item.path, item.line, item.name, "\n".join(filter(None, said)))
+
+
+def functions_of(call):
+    """Returns of each function of a call's name its file, its block and its line, and its type or trait."""
     crate, *path, name = call.split("::")
     owner = path.pop() if path and path[-1][0].isupper() else None
     (crate, owner), _ = alias_of(crate, owner)
     function = rf"(?:pub(?:\(crate\))? )?(?:const |extern \"C\" )?fn {name}\b"
-    found = [
+    return [
         (code, first, end, at, owner)
         for code in code_of(crate)
         if not path or code.path.endswith("/".join(["src", *path]) + ".rt")
@@ -301,6 +365,11 @@ def function_of(call):
         for at in range(first, end)
         if re.match(("    " if owner else "") + function, code.lines[at])
     ]
+
+
+def function_of(call):
+    """Returns the one function of a call."""
+    found = functions_of(call)
     if len(found) != 1:
         sys.exit(f"{call}: {len(found)} functions of that name")
     return found[0]
@@ -320,10 +389,11 @@ def named_by(call, clauses_alone):
     yield from code.terms(CLAUSE, first, body, at, bound, given)
     named = {*re.findall(r"\w+", " ".join(clauses)), *([] if clauses_alone else ["Value", "view"])}
     for name in sorted({*re.findall(r"\b[A-Z]\w*", head), owner} - {None, *bound}):
+        followed = "|".join(named - ({"view"} if name in READERS else set()))
         for other in code_of(code.crate_of(name)):
             for block in other.blocks(rf"trait {name}|impl(?:<.*?>)? .* for {name}"):
                 given_here = given if f"{name}<{', '.join(parameters)}>" in head else ()
-                yield from other.terms(rf" +ghost (?:{'|'.join(named)})(?:: | = )", *block, block[0], bound, given_here)
+                yield from other.terms(rf" +ghost (?:{followed})(?:: | = )", *block, block[0], bound, given_here)
 
 
 @lru_cache(maxsize=None)
@@ -341,7 +411,7 @@ class Reached:
     """The definitions that are reached, which files name which, the types of the code, and what is refused."""
 
     def __init__(self, clauses_alone=False):
-        self.seen, self.names, self.types, self.refused, self.given = {}, {}, {}, {}, set()
+        self.seen, self.names, self.types, self.refused, self.given, self.said = {}, {}, {}, {}, set(), {}
         self.clauses_alone = clauses_alone
 
     def visit_all(self, items, user=None):
@@ -356,6 +426,8 @@ class Reached:
         """Visits a definition and those that it names."""
         if isinstance(item, Given):
             return self.given.add(item.name)
+        if isinstance(item, Said):
+            return self.said.setdefault(item)
         if isinstance(item, CodeItem):
             if item not in self.types:
                 self.types[item] = None
@@ -379,7 +451,23 @@ class Reached:
 # ---- The page.
 
 PAGE = f"{TOP}/docs/AUDIT.md"
-PART = re.compile(r"(<!-- (definitions|quoted|clauses|counts|beyond): ([^>]*?) -->\n)(.*?)(<!-- end -->)", re.S)
+MARK = re.compile(r"(<!-- (\w+)(?: (\w+))?:([^>\n]*) -->\n)(.*?)(<!-- end -->)", re.S)
+LONG = 100  # the text of a definition of more lines is cut short, but for those of the first part
+
+
+def calls_of(name):
+    """Returns the calls of a part, or the call of this name; none if it need not be there and isn't."""
+    calls = PARTS[name][1].split() if name in PARTS else [name]
+    return [it.rstrip("?") for it in calls if it[-1] != "?" or functions_of(it[:-1])]
+
+
+@lru_cache(maxsize=None)
+def reached_by(*names):
+    """Returns what parts or calls rest on."""
+    reached = Reached()
+    for call in chain.from_iterable(map(calls_of, names)):
+        reached.visit_all(named_by(call, False))
+    return reached
 
 
 def link(path, line):
@@ -387,96 +475,151 @@ def link(path, line):
     return f"[{path.removeprefix('crates/')}:{line}](../{path}#L{line})"
 
 
-def definition_lines(found, files):
-    """Yields a line for each file: where its definitions of the headline begin, and each with its line."""
-    for file in files:
-        here = [it for it in found if it.path == f"crates/{file}"]
-        names = ", ".join(f"`{it.name}` {it.line}" for it in here)
-        lines = sum(it.size() for it in here)
-        yield f"- {link(here[0].path, here[0].line)}, {lines} lines: {names}" if here else f"- {file}: none"
+def digest(texts):
+    """Returns eight digits of a hash of texts."""
+    return hashlib.sha256(" ".join(" ".join(it.split()) for it in texts).encode()).hexdigest()[:8]
 
 
-def quoted_lines(found, files):
-    """Yields the same lines, each with the text of its definitions and of the comments above them."""
-    for file, line in zip(files, definition_lines(found, files)):
-        yield from [line, "", "```text"]
-        text = open(f"{TOP}/crates/{file}", encoding="utf-8").read().splitlines()
-        for at, it in enumerate(it for it in found if it.path == f"crates/{file}"):
-            first = it.line - 1
-            while text[first - 1].startswith("-- ") and not text[first - 1].startswith("-- --"):
-                first -= 1
-            said = "\n".join(text[first : it.line - 1] + it.lines)
-            yield from [""] * bool(at) + re.sub(r"(\n *(--.*)?)+\Z", "", said).split("\n")
-        yield "```"
+def counted(found):
+    """Returns how many definitions, lines and files there are."""
+    return f"{len(found)} | {sum(it.size() for it in found):,} | {len({it.path for it in found})} |"
 
 
-def clause_lines(calls):
-    """Yields the clauses of calls, each call with its file and line."""
-    for call in calls:
-        code, _, _, at, _ = function_of(call)
+def quote(found, most):
+    """Yields the text of definitions of a file, with the comments above them and the module around them."""
+    module, lines = None, found[0].file.lines
+    for at, it in enumerate(found):
+        first = it.line - 1
+        while re.match(r" *-- (?!-- )", lines[first - 1]):
+            first -= 1
+        if at:
+            yield ""
+        if it.module and it.module != module:
+            yield f"module _ {it.module[1]} where"
+        module, said = it.module, re.sub(r"(\n *(--.*)?)+\Z", "", "\n".join(it.lines)).split("\n")
+        yield from lines[first : it.line - 1] + (said if it.size() <= most else [*said[:4], f"-- and {len(said) - 4} more lines"])
+
+
+def clauses(calls):
+    """Yields the signatures and clauses of calls, each call with its file and line."""
+    for call in chain.from_iterable(map(calls_of, calls)):
+        code, _, _, at, owner = function_of(call)
         yield from ["", f"`{call}`, {link(code.path, at + 1)}:", "", "```text"]
-        for line in code.lines[at + 1 :]:
-            if not re.match(r"    +(?:requires|ensures) ", line) and line.strip() in ("{", ""):
+        for line in code.lines[at:]:
+            if not re.match(CLAUSE, line) and line.strip() in ("{", "{}", ""):
                 break
-            if re.match(CLAUSE, line):
-                yield line.strip()
+            yield re.sub(r" \{\}?$", "", line.removeprefix("    " if owner else ""))
+            if re.search(r"[^}] \{$|;$", line):
+                break
         yield "```"
 
 
-def reached_by(name):
-    """Returns what a call rests on, the headline, or both languages and the outcome."""
-    reached = Reached()
-    if name == "languages":
-        reached.visit_all(found_in(*it.rsplit(".", 1)) for it in LANGUAGES)
-    for call in {"headline": HEADLINE, "languages": []}.get(name, [name]):
-        reached.visit_all(named_by(call, False))
-    return reached
+class Page:
+    """The page: its marked lines, and the definitions and types of each part that no part before it has."""
 
+    def __init__(self, text):
+        self.text, self.marks = text, [(it[2], it[3], it[4].split()) for it in MARK.finditer(text)]
+        self.reached = reached_by(*PARTS)
+        self.found, self.types, seen, said = {}, {}, set(), set()
+        for part in PARTS:
+            self.found[part] = [it for it in self.reached.in_order() if it in reached_by(part).seen and it not in seen]
+            self.types[part] = sorted(it for it in reached_by(part).said if it not in said)
+            seen |= {*reached_by(part).seen}
+            said |= {*reached_by(part).said}
 
-def count_lines(names):
-    """Yields a row for each name: how many definitions and lines it rests on."""
-    yield from ["| of | definitions | lines | files |", "|---|---|---|---|"]
-    said = {"languages": "both languages and the outcome", "headline": "the headline"}
-    for name in names:
-        found = reached_by(name).in_order()
-        lines, files = sum(it.size() for it in found), {it.path for it in found}
-        yield f"| {said.get(name, f'`{name}`')} | {len(found)} | {lines:,} | {len(files)} |"
+    def files(self, part, words):
+        """Returns the files that the words of a marked line mean."""
+        named = {it for kind, other, words in self.marks if other == part for it in words if "/" in it}
+        files = dict.fromkeys(it.path.removeprefix("crates/") for it in self.found[part])
+        return [it for word in words for it in files if it == word or it not in named and word in ("*", it.split("/")[0])]
 
+    def definitions(self, part, words, is_quoted):
+        """Yields for each file a line of its definitions in the part, and their text."""
+        for file in self.files(part, words):
+            found = [it for it in self.found[part] if it.path == f"crates/{file}"]
+            lines, names = sum(it.size() for it in found), ", ".join(f"`{it.name}`" for it in found)
+            yield f"- {link(found[0].path, found[0].line)}, {lines} lines, {digest(it.said() for it in found)}: {names}"
+            if is_quoted:
+                yield from ["", "```text", *quote(found, LONG if part != "pairs" else sys.maxsize), "```", ""]
 
-def beyond_lines(calls):
-    """Yields the definitions that calls rest on and the headline doesn't, as `quoted_lines`, after how many they are."""
-    known = {*reached_by("headline").seen}
-    for call in calls:
-        found = [it for it in reached_by(call).in_order() if it not in known]
-        yield from [f"`{call}` rests on {len(found)} definitions more than the headline, {sum(it.size() for it in found)} lines:", ""]
-        yield from quoted_lines(found, dict.fromkeys(it.path.removeprefix("crates/") for it in found))
+    def types_of(self, part, words, is_shown):
+        """Yields for each file a line of its types and ghost members in the part, and the text of the types."""
+        said = sorted([*self.types[part], *(said_of(code_item(*it.split("::"))) for it in words)])
+        for path in dict.fromkeys(it.path for it in said):
+            here = [it for it in said if it.path == path]
+            names = [it for it in here if it.name not in ("Value", "view")] or here
+            yield f"- {link(path, here[0].line)}, {digest(it.text for it in here)}: " + ", ".join(f"`{it.name}`" for it in names)
+        shown = [it for it in said if is_shown and it.name[0].isupper() and it.name not in ("Value", "Var")]
+        if shown:
+            yield from ["", "```rust", *chain.from_iterable([*lines_of(it), ""] for it in shown)][:-1] + ["```"]
+
+    def counts_of_parts(self):
+        """Yields a table of how many definitions each part has."""
+        yield from ["| part | definitions | lines | files |", "|---|---|---|---|"]
+        for part, (title, _) in PARTS.items():
+            yield f"| {title} | {counted(self.found[part])}"
+
+    def counts(self, calls):
+        """Yields a table of how many definitions calls rest on, and how many of them no part before theirs has."""
+        yield from ["| call | definitions | lines | files | of them new | lines | files |", "|---|---|---|---|---|---|---|"]
+        for call in chain.from_iterable(map(calls_of, calls)):
+            own = next((it for it in PARTS if call in calls_of(it)), "reasons")
+            before = {it for part in [*PARTS][: [*PARTS].index(own)] for it in self.found[part]}
+            found = reached_by(call).in_order()
+            yield f"| `{call}` | {counted(found)} {counted([it for it in found if it not in before])}"
+
+    def made(self, kind, part, words):
+        """Returns the lines that come after a marked line."""
+        made = {
+            "quoted": lambda: self.definitions(part, words, True),
+            "listed": lambda: self.definitions(part, words, False),
+            "types": lambda: self.types_of(part, words, False),
+            "shown": lambda: self.types_of(part, words, True),
+            "clauses": lambda: clauses(words),
+            "note": lambda: [" ".join(words[1:])] * len(calls_of(words[0])),
+            "parts": self.counts_of_parts,
+            "counts": lambda: self.counts(words),
+        }
+        return "".join(f"{it}\n" for it in made[kind]())
+
+    def faults(self):
+        """Yields what of the parts isn't on the page, or not where it has to be."""
+        yield from self.reached.refused
+        shown = [f"{part} {it}" for kind, part, words in self.marks if kind in ("quoted", "listed") for it in self.files(part, words)]
+        typed = [part for kind, part, _ in self.marks if kind in ("types", "shown")]
+        quoted = {function_of(it)[:4] for kind, _, words in self.marks if kind == "clauses" for call in words for it in calls_of(call)}
+        places = {}
+        for part in PARTS:
+            for file in dict.fromkeys(it.path.removeprefix("crates/") for it in self.found[part]):
+                if shown.count(f"{part} {file}") != 1:
+                    yield f"crates/{file} is {shown.count(f'{part} {file}')} times in the part {part}"
+            if part not in typed:
+                yield f"no types of the part {part} are on the page"
+            yield from (f"the clauses of {it} are in no part" for it in calls_of(part) if function_of(it)[:4] not in quoted)
+            if part != "others":
+                yield from (f"{part} rests on {it} of a type that isn't given" for it in sorted(reached_by(part).given))
+            places |= {it: shown.index(f"{part} {it.path[7:]}") for it in self.found[part] if f"{part} {it.path[7:]}" in shown}
+        for it in [] if self.reached.refused else places:
+            for other in meanings_of(it):
+                if places.get(other, -1) > places[it]:
+                    yield f"{place(it)} is before {place(other)}, which it names"
 
 
 def write_page(check):
-    """Writes the page's parts, or compares them; returns the status."""
-    reached = reached_by("headline")
-    found, old = reached.in_order(), open(PAGE, encoding="utf-8").read()
-    makers = {"clauses": clause_lines, "counts": count_lines, "beyond": beyond_lines}
-    makers |= {"definitions": lambda it: definition_lines(found, it), "quoted": lambda it: quoted_lines(found, it)}
-
-    def part(match):
-        return match[1] + "".join(f"{it}\n" for it in makers[match[2]](match[3].split())) + match[5]
-
-    parts = [(it[2], word) for it in PART.finditer(old) for word in it[3].split()]
-    named = [f"crates/{it}" for kind, it in parts if kind in ("definitions", "quoted")]
-    shown = {function_of(it)[:4] for kind, it in parts if kind == "clauses"}
-    faults = [*reached.refused, *(f"{it} is in no part" for it in sorted({it.path for it in found} - {*named}))]
-    faults += [f"{it} has no definition of the headline" for it in sorted({*named} - {it.path for it in found})]
-    faults += [f"the clauses of {it} are in no part" for it in HEADLINE if function_of(it)[:4] not in shown]
-    faults += [f"the headline names {it} of a type that isn't given" for it in sorted(reached.given)]
-    faults += [f"{it} is in two parts" for it in sorted({*named}) if named.count(it) > 1]
-    new = PART.sub(part, old)
-    if check and new != old:
+    """Writes the page, or compares it with the sources; returns the status."""
+    with open(PAGE, encoding="utf-8") as file:
+        page = Page(file.read())
+    new = MARK.sub(lambda it: it[1] + page.made(it[2], it[3], it[4].split()) + it[6], page.text)
+    faults = [*dict.fromkeys(page.faults())]
+    if check and new != page.text:
+        faults += difflib.unified_diff(page.text.splitlines(), new.splitlines(), "docs/AUDIT.md", "the sources", n=0, lineterm="")
         faults.append("docs/AUDIT.md has parted from the sources: run tools/definitions.py --page")
-    elif new != old:
-        open(PAGE, "w", encoding="utf-8").write(new)
+    elif new != page.text:
+        with open(PAGE, "w", encoding="utf-8") as file:
+            file.write(new)
     sys.stderr.writelines(f"{it}\n" for it in faults)
-    print(f"{len(found)} definitions and {len(PART.findall(old))} parts of docs/AUDIT.md" + ("" if faults else ", no difference"))
+    said = "" if faults else ", no difference" if new == page.text else ", written"
+    print(f"{sum(map(len, page.found.values()))} definitions and {len(page.marks)} places of docs/AUDIT.md{said}")
     return 1 if faults else 0
 
 
@@ -484,7 +627,8 @@ def main(words):
     if "--page" in words:
         return write_page("--check" in words)
     most = int(words[words.index("--most") + 1]) if "--most" in words else sys.maxsize
-    calls = [it for it in words if "::" in it] + (HEADLINE if "--headline" in words else [])
+    names = [it for it in words if "::" in it or it in PARTS] + (["pairs", "values"] if "--headline" in words else [])
+    calls = [call for it in names for call in calls_of(it)]
     reached = Reached("--clauses" in words)
     for call in calls or sys.exit(__doc__):
         reached.visit_all(named_by(call, "--clauses" in words))

@@ -21,7 +21,13 @@ import sys
 TOP = os.path.dirname(os.path.dirname(os.path.realpath(__file__)))
 NEWLINE = "\n"
 # What stays though nothing uses it, as `crates/etcs_bits/specs/Bits.antt: name`, each with the reason.
+LATER = "goes with the next change of its crate, which proves that anew"
 EXCEPTIONS: dict[str, str] = {
+    "crates/etcs_explain/proofs/HexLines.antt: says_why": LATER,
+    "crates/etcs_group/proofs/Passing.antt: passed_all": LATER,
+    "crates/etcs_log/proofs/Another.antt: before_none": LATER,
+    "crates/etcs_log/proofs/Answering.antt: answered_passed": LATER,
+    "crates/etcs_log/proofs/Walking.antt: walk_ends": LATER,
 }
 
 

@@ -34,7 +34,7 @@ const LINE: &[u8] =
     b"{\"fields\":[],\"header\":[[\"T_TRAIN\",0],[\"M_ACK\",0],[\"NID_LRBG\",0]],\"kind\":\"radio\",\"nid\":24,\"packets\":[],\"padding\":\"00000\"}";
 
 /// A short telegram with packet 131 as bits: after 50 bits of header and 23 of frame Q_SCALE 3, which is spare.
-const SPARE: &[u8] =
+pub(crate) const SPARE: &[u8] =
     b"{\"fill\":\"11111111111111111111111\",\"header\":[[\"Q_UPDOWN\",1],[\"M_VERSION\",33],[\"Q_MEDIA\",0],[\"N_PIG\",1],[\"N_TOTAL\",1],[\"M_DUP\",2],[\"M_MCOUNT\",40],[\"NID_C\",98],[\"NID_BG\",511],[\"Q_LINK\",1]],\"kind\":\"short\",\"packets\":[{\"data\":\"1100000000000000000000000000000000000000000000000000000000000000000000000000000000000000000000000000000000\",\"dir\":0,\"nid\":131}]}";
 
 /// What isn't promised isn't compared.
@@ -362,7 +362,7 @@ static OF_GROUPS: &[OfGroups] = &[
 ];
 
 /// Numbers that no call returns here.
-fn unanswered() -> EtcsAnswer {
+pub(crate) fn unanswered() -> EtcsAnswer {
     EtcsAnswer {
         taken: 99,
         written: 99,
@@ -792,56 +792,5 @@ fn whole_sentences(rt: HostRuntime) -> Result<(), Fail> {
     assert_eq!(rt; sentence.0, 6);
     assert_eq!(rt; object.0, 6);
     assert!(rt; are_whole(alloc, sentence, object)?);
-    Ok(())
-}
-
-/// A kind, a line that is the JSON of none of its items, and the object that is written of it.
-type OfObjects = (u32, &'static [u8], &'static [u8]);
-
-static OBJECTS: &[OfObjects] = &[
-    (
-        3,
-        b"{}",
-        b"{\"column\":null,\"expected\":null,\"found\":null,\"path\":\".kind\",\"reason\":\".kind: this member is missing\"}",
-    ),
-    (
-        3,
-        b"[]",
-        b"{\"column\":null,\"expected\":\"an object\",\"found\":\"a list\",\"path\":\".\",\"reason\":\".: expected an object, found a list\"}",
-    ),
-    (
-        2,
-        b"{\"kind\":\"long\"}",
-        b"{\"column\":null,\"expected\":\"\\\"short\\\"\",\"found\":\"\\\"long\\\"\",\"path\":\".kind\",\"reason\":\".kind: expected \\\"short\\\", as in --kind, found \\\"long\\\"\"}",
-    ),
-    (
-        1,
-        b"[0,?]",
-        b"{\"column\":4,\"expected\":null,\"found\":null,\"path\":null,\"reason\":\"not JSON: unexpected ? at column 4\"}",
-    ),
-    (
-        2,
-        SPARE,
-        b"{\"column\":null,\"expected\":null,\"found\":null,\"path\":\".packets[0].data\",\"reason\":\".packets[0].data: the bits are refused at bit 74 of the item, Q_SCALE\"}",
-    ),
-];
-
-/// The first of these lines of which another object is written.
-fn wrong_of_objects(alloc: Global, cases: &[OfObjects]) -> Option<usize> {
-    for (i, case) in cases.iter().enumerate() {
-        let (kind, line, wanted) = *case;
-        let (answer, mut out) = (&mut unanswered(), [0; 256]);
-        etcs_json_reason(alloc, kind, line, &mut out, answer);
-        if answer.written != wanted.len() || !out.starts_with(wanted) {
-            return Some(i);
-        }
-    }
-    None
-}
-
-/// What is written of why a line is the JSON of no item.
-#[test]
-fn objects(rt: HostRuntime) -> Result<(), Fail> {
-    assert_eq!(rt; wrong_of_objects(rt.alloc(), OBJECTS), None);
     Ok(())
 }

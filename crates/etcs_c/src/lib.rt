@@ -23,6 +23,8 @@ mod json;
 mod kind;
 mod lines;
 mod meanings;
+#[cfg(test)]
+mod object_tests;
 mod places;
 mod reason;
 mod texts;

@@ -40,7 +40,8 @@ class Program:
     """The program, with the words that go before those of each vector, in a folder."""
 
     def __init__(self, words, seconds, folder):
-        self.words = [os.path.abspath(it) if os.path.exists(it) else it for it in words]
+        # a word such as `etcs` of `python3 -m etcs` is no path, though the folder has such a file
+        self.words = [os.path.abspath(it) if "/" in it and os.path.exists(it) else it for it in words]
         self.seconds = seconds
         self.folder = folder
 

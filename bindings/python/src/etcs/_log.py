@@ -145,7 +145,8 @@ def _other(data: bytes, named: bool) -> str:
 def _bytes_fault(data: bytes, named: bool, asked: _Asked) -> EtcsError:
     """Why these bytes aren't an item of the kinds."""
     whole = ((candidate, kind) for kind, candidate, is_last in asked.candidates(data) if not is_last and (kind in _BYTES or _is_its_length(data)))
-    return next((_refusal(*it) for it in whole), None) or BadLine(_count_fault(data, named, asked))
+    refused = next((_refusal(*it) for it in whole), None)
+    return refused or BadLine(_count_fault(data, named, asked))
 
 
 def _refusal(data: bytes, kind: Kind) -> Optional[Refused]:
